@@ -1,0 +1,4 @@
+pub mod BitXor
+pub mod XorLaws
+pub mod Others
+pub mod Padded

@@ -1,0 +1,33 @@
+-- Laws of `given` and `filled`.
+-- Assumes nothing.
+use mathlib.Core.Path.{_≡_, ap, _∙_}
+use Prim.Native.Nat.{ℕ, _+_, _-_, _≤_}
+use native.Mathlib.Nat.{sub-self}
+use native.Mathlib.Omega.{arith}
+use mathlib.Core.List.{List, _++_, append-nil, append-assoc}
+use lib.ListN.{length, drop, replicate, length-append, length-replicate, replicate-append-replicate, drop-of-length-le}
+use Rattle.common.specs.Given.{given, filled}
+
+-- bytes that fill the whole space
+pub given-all : (bytes space : List ℕ) → length space ≤ length bytes → given bytes space ≡ bytes
+unfolding given
+given-all bytes space h = ap (λ (x : List ℕ). bytes ++ x) (drop-of-length-le space h) ∙ append-nil bytes
+
+pub filled-length : (bytes : List ℕ) (n : ℕ) → length bytes ≤ n → length (filled bytes n) ≡ n
+unfolding filled
+filled-length bytes n h = simp (length-append, length-replicate) (omega arith)
+
+-- bytes that need no filling
+pub filled-self : (bytes : List ℕ) → filled bytes (length bytes) ≡ bytes
+unfolding filled
+filled-self bytes = ap (λ (k : ℕ). bytes ++ replicate k 0) (sub-self (length bytes)) ∙ append-nil bytes
+
+-- filled and filled further
+pub filled-further : (bytes : List ℕ) (m n : ℕ) → length bytes ≤ m → m ≤ n → filled (filled bytes m) n ≡ filled bytes n
+unfolding filled
+filled-further bytes m n h k =
+    let whole : length (bytes ++ replicate (m - length bytes) 0) ≡ m = simp (length-append, length-replicate) (omega arith) in
+    let sum : m - length bytes + (n - m) ≡ n - length bytes = omega arith in
+    ap (λ (x : ℕ). bytes ++ replicate (m - length bytes) 0 ++ replicate (n - x) 0) whole
+    ∙ append-assoc bytes (replicate (m - length bytes) 0) (replicate (n - m) 0)
+    ∙ ap (λ (x : List ℕ). bytes ++ x) (replicate-append-replicate (m - length bytes) (n - m) 0 ∙ ap (λ (x : ℕ). replicate x 0) sum)

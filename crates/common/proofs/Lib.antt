@@ -1,0 +1,4 @@
+pub mod PickLaws
+pub mod Written
+pub mod Parts
+pub mod GivenLaws

@@ -1,0 +1,7 @@
+-- The one conditional of all definitions.
+-- Assumes nothing.
+use mathlib.Core.Bool.{Bool, true, false}
+
+unfoldable pub pick : {A : Type 0} → Bool → A → A → A
+pick true a b = a
+pick false a b = b

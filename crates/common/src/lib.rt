@@ -1,0 +1,43 @@
+// What the other crates have in common: the lesser of two numbers, and the plain work on lent space.
+ghost use mathlib.Core.Path.{_≡_};
+ghost use Prim.Native.Nat.{_≤_, min};
+ghost use lib.ListN.{length, replicate};
+ghost use Rattle.common.specs.Given.{given, filled};
+
+// The lesser of two.
+pub fn least(a: usize, b: usize) -> usize
+    ensures { λ r. ⌜ r ≡ min a b ⌝ }
+{
+    if a < b { a } else { b }
+}
+
+// Zeros everywhere.
+pub fn clear(space: &mut [u8])
+    ensures { λ _. ⌜ now (space .exit) ≡ replicate (length (now (space .entry))) 0 ⌝ }
+{
+    let n = space.len();
+    for i in 0..n {
+        space[i] = 0;
+    }
+}
+
+// Gives bytes at the start of a space.
+pub fn give(bytes: &[u8], space: &mut [u8])
+    requires { ⌜ length (now bytes) ≤ length (now space) ⌝ }
+    ensures { λ _. ⌜ now (space .exit) ≡ given (now (bytes .entry)) (now (space .entry)) ⌝ }
+{
+    let n = bytes.len();
+    for i in 0..n {
+        space[i] = bytes[i];
+    }
+}
+
+// Gives bytes and fills the rest of the space with zeros.
+pub fn give_filled(bytes: &[u8], space: &mut [u8])
+    requires { ⌜ length (now bytes) ≤ length (now space) ⌝ }
+    ensures { λ _. ⌜ now (space .exit) ≡ filled (now (bytes .entry)) (length (now (space .entry))) ⌝ }
+{
+    let n = bytes.len();
+    give(bytes, &mut space[..n]);
+    clear(&mut space[n..]);
+}

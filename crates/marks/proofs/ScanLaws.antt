@@ -1,0 +1,210 @@
+-- What the scan finds: in marks with at most one error of each parity it reaches the end and finds each error, by induction over
+-- the marks that are left with what is known of the places found so far; its places are within any marks. And each mark of legal
+-- marks is legal.
+-- Assumes nothing.
+use Prim.Native.Nat.{ℕ, zero, suc, _+_, _≤_, _<_, _-_, _%_}
+use native.Mathlib.Omega.{arith}
+use mathlib.Core.Bool.{Bool, true, false, _&&_}
+use mathlib.Core.List.{List, [], _∷_}
+use mathlib.Core.Path.{_≡_, refl, sym, ap, subst, _∙_}
+use borrow.Author.Count.{below-more}
+use borrow.Author.Tests.{eqb-true, eqb-false, ltb-true, ltb-false}
+use lib.Dec.{T, eqb, ltb}
+use lib.ListN.{length, getD, drop, length-drop}
+use lib.Seq.{drop-cons}
+use Rattle.common.specs.Pick.{pick}
+use Rattle.marks.specs.Marks.{legalMark, legalMarks, isError}
+use Rattle.marks.specs.Scan.{scanFrom, scanOf}
+use Rattle.marks.specs.declared.Scan.{Scan}
+
+-- a claim of a choice, from the claim where the test holds and the claim where it fails
+pick-by : {A : Type 0} (P : A → Type 0) (b : Bool) {x y : A} → (b ≡ true → P x) → (b ≡ false → P y) → P (pick b x y)
+unfolding pick
+pick-by P true f g = f refl
+pick-by P false f g = g refl
+
+-- ---- marks with at most one error of each parity
+
+abbrev pub Once : List ℕ → Type 0
+Once marks =
+    (i j : ℕ) → i < length marks → j < length marks → isError (getD marks i 0) ≡ true → isError (getD marks j 0) ≡ true →
+    (length marks - 1 - i) % 2 ≡ (length marks - 1 - j) % 2 → i ≡ j
+
+-- what the scan finds in such marks
+pub record ScannedOnce (marks : List ℕ) : Type 0 where
+  pub stop : scanOf marks .stop ≡ length marks
+  pub odd-place : scanOf marks .odd < length marks → (length marks - 1 - scanOf marks .odd) % 2 ≡ 1
+  pub even-place : scanOf marks .even < length marks → (length marks - 1 - scanOf marks .even) % 2 ≡ 0
+  pub odd-only : (j : ℕ) → j < length marks → isError (getD marks j 0) ≡ true → (length marks - 1 - j) % 2 ≡ 1 → scanOf marks .odd ≡ j
+  pub even-only : (j : ℕ) → j < length marks → isError (getD marks j 0) ≡ true → (length marks - 1 - j) % 2 ≡ 0 → scanOf marks .even ≡ j
+
+-- an error of a parity at a place is the place
+abbrev IsOnly : List ℕ → ℕ → ℕ → ℕ → Type 0
+IsOnly marks parity place j = isError (getD marks j 0) ≡ true → (length marks - 1 - j) % 2 ≡ parity → place ≡ j
+
+-- the place found for a parity before the place `at`: if there is one, an error of that parity, and the only one so far
+record Found (marks : List ℕ) (parity at place : ℕ) : Type 0 where
+  before : place < length marks → place < at
+  error : place < length marks → isError (getD marks place 0) ≡ true
+  of-parity : place < length marks → (length marks - 1 - place) % 2 ≡ parity
+  only : (j : ℕ) → j < at → IsOnly marks parity place j
+
+module _ (marks : List ℕ) (parity : ℕ) where
+  -- nothing is found at the start
+  found-none : Found marks parity 0 (length marks)
+  found-none =
+      record {
+        before = omega arith;
+        error = λ h. absurd (omega arith);
+        of-parity = λ h. absurd (omega arith);
+        only = λ j h. absurd (omega arith);
+      }
+
+  module _ (at place : ℕ) (f : Found marks parity at place) where
+    -- what is no error of the parity changes nothing
+    found-still : (isError (getD marks at 0) ≡ true → (length marks - 1 - at) % 2 ≡ parity → ⊥) → Found marks parity (suc at) place
+    found-still none =
+        record {
+          before = λ h. omega (arith, f .before h);
+          error = f .error;
+          of-parity = f .of-parity;
+          only = λ j h. below-more (IsOnly marks parity place) at (f .only) (λ e p. absurd (none e p)) j (omega arith);
+        }
+
+    module _ (below : at < length marks) (e : isError (getD marks at 0) ≡ true) (p : (length marks - 1 - at) % 2 ≡ parity) where
+      -- the first error of the parity is found
+      found-here : length marks ≤ place → Found marks parity (suc at) at
+      found-here none =
+          record {
+            before = omega arith;
+            error = λ h. e;
+            of-parity = λ h. p;
+            only =
+                λ j h.
+                below-more (IsOnly marks parity at) at (λ k l ek pk. absurd (omega (arith, f .only k l ek pk))) (λ ek pk. refl) j (omega arith);
+          }
+
+      -- there is no second
+      found-twice : Once marks → place < length marks → ⊥
+      found-twice once one = omega (arith, f .before one, once place at one below (f .error one) e (f .of-parity one ∙ sym p))
+
+    -- at the end
+    found-end : length marks ≤ at → Found marks parity (length marks) place
+    found-end end =
+        record { before = λ h. h; error = f .error; of-parity = f .of-parity; only = λ j h. f .only j (omega arith) }
+
+-- at the end of the scan
+abbrev Done : List ℕ → Scan → Type 0
+Done marks r = (r .stop ≡ length marks) × Found marks 1 (length marks) (r .odd) × Found marks 0 (length marks) (r .even)
+
+-- a scan of the marks that are left, from what is found before the place `at`, comes to such an end
+abbrev Ends : List ℕ → List ℕ → ℕ → Type 0
+Ends marks rest at = (odd even : ℕ) → Found marks 1 at odd → Found marks 0 at even → Done marks (scanFrom rest at (length marks) odd even)
+
+module _ (marks : List ℕ) (at mark : ℕ) (rest : List ℕ) (left : drop at marks ≡ mark ∷ rest) where
+  -- the first of the marks that are left
+  next-after : length marks - at ≡ suc (length rest)
+  next-after = simp length-drop at (ap length left)
+
+  next-below : at < length marks
+  next-below = omega (arith, next-after)
+
+  next-mark : getD marks at 0 ≡ mark
+  next-mark = cc (drop-cons marks at 0 next-below)
+
+  next-rest : drop (suc at) marks ≡ rest
+  next-rest = cc (drop-cons marks at 0 next-below)
+
+  next-error : {b : Bool} → isError mark ≡ b → isError (getD marks at 0) ≡ b
+  next-error h = ap isError next-mark ∙ h
+
+  next-good : isError mark ≡ false → isError (getD marks at 0) ≡ true → ⊥
+  next-good good bad = subst T (sym bad ∙ next-error good) tt
+
+  next-odd : eqb (length rest % 2) 1 ≡ true → (length marks - 1 - at) % 2 ≡ 1
+  next-odd h = omega (arith, next-after, eqb-true (length rest % 2) 1 h)
+
+  next-even : eqb (length rest % 2) 1 ≡ false → (length marks - 1 - at) % 2 ≡ 0
+  next-even h = omega (arith, next-after, eqb-false (length rest % 2) 1 h)
+
+  -- what the scan does at it
+  module _ (once : Once marks) (go : Ends marks rest (suc at)) (odd even : ℕ) (o : Found marks 1 at odd) (e : Found marks 0 at even) where
+    turn-good : isError mark ≡ false → Done marks (scanFrom rest (suc at) (length marks) odd even)
+    turn-good good =
+        let none = next-good good in
+        go odd even (found-still marks 1 at odd o (λ bad _. none bad)) (found-still marks 0 at even e (λ bad _. none bad))
+
+    turn-odd : isError mark ≡ true → eqb (length rest % 2) 1 ≡ true → Done marks (pick (ltb odd (length marks)) (record { odd = odd; even = even; stop = at }) (scanFrom rest (suc at) (length marks) at even))
+    turn-odd bad is-odd =
+        let b = next-error bad in
+        let p = next-odd is-odd in
+        pick-by (Done marks) (ltb odd (length marks))
+        (λ h. absurd (found-twice marks 1 at odd o next-below b p once (ltb-true odd (length marks) h)))
+        (λ h. go at even (found-here marks 1 at odd o next-below b p (ltb-false odd (length marks) h)) (found-still marks 0 at even e (λ _ q. omega arith)))
+
+    turn-even : isError mark ≡ true → eqb (length rest % 2) 1 ≡ false → Done marks (pick (ltb even (length marks)) (record { odd = odd; even = even; stop = at }) (scanFrom rest (suc at) (length marks) odd at))
+    turn-even bad is-even =
+        let b = next-error bad in
+        let p = next-even is-even in
+        pick-by (Done marks) (ltb even (length marks))
+        (λ h. absurd (found-twice marks 0 at even e next-below b p once (ltb-true even (length marks) h)))
+        (λ h. go odd at (found-still marks 1 at odd o (λ _ q. omega arith)) (found-here marks 0 at even e next-below b p (ltb-false even (length marks) h)))
+
+ends : (marks : List ℕ) → Once marks → (rest : List ℕ) (at : ℕ) → drop at marks ≡ rest → Ends marks rest at
+unfolding scanFrom
+ends marks once [] at left odd even o e =
+    let end : length marks ≤ at = omega (arith, simp length-drop at (ap length left)) in
+    (refl, found-end marks 1 at odd o end, found-end marks 0 at even e end)
+ends marks once (mark ∷ rest) at left odd even o e =
+    let go = ends marks once rest (suc at) (next-rest marks at mark rest left) in
+    pick-by (Done marks) (isError mark)
+    (λ bad. pick-by (Done marks) (eqb (length rest % 2) 1) (turn-odd marks at mark rest left once go odd even o e bad) (turn-even marks at mark rest left once go odd even o e bad))
+    (turn-good marks at mark rest left once go odd even o e)
+
+pub scanned-once : (marks : List ℕ) → Once marks → ScannedOnce marks
+unfolding scanOf
+scanned-once marks once =
+    let n = length marks in
+    let r = ends marks once marks 0 refl n n (found-none marks 1) (found-none marks 0) in
+    record {
+      stop = r .0;
+      odd-place = r .1 .of-parity;
+      even-place = r .2 .of-parity;
+      odd-only = r .1 .only;
+      even-only = r .2 .only;
+    }
+
+-- ---- the places are within the marks
+
+abbrev Within : ℕ → Scan → Type 0
+Within end r = (r .odd ≤ end) × (r .even ≤ end) × (r .stop ≤ end)
+
+within : (rest : List ℕ) (at end odd even : ℕ) → at + length rest ≤ end → odd ≤ end → even ≤ end → Within end (scanFrom rest at end odd even)
+unfolding scanFrom
+within [] at end odd even room o e = omega arith
+within (mark ∷ rest) at end odd even room o e =
+    let here : at ≤ end = omega arith in
+    let next : suc at + length rest ≤ end = omega arith in
+    pick-by (Within end) (isError mark)
+    (λ bad.
+    pick-by (Within end) (eqb (length rest % 2) 1)
+    (λ is-odd. pick-by (Within end) (ltb odd end) (λ second. (o, e, here)) (λ first. within rest (suc at) end at even next here e))
+    (λ is-even. pick-by (Within end) (ltb even end) (λ second. (o, e, here)) (λ first. within rest (suc at) end odd at next o here)))
+    (λ good. within rest (suc at) end odd even next o e)
+
+pub scan-bounds : (marks : List ℕ) → (scanOf marks .odd ≤ length marks) × (scanOf marks .even ≤ length marks) × (scanOf marks .stop ≤ length marks)
+unfolding scanOf
+scan-bounds marks = within marks 0 (length marks) (length marks) (length marks) (omega arith) (omega arith) (omega arith)
+
+-- ---- legal marks
+
+-- each half of a conjunction holds
+both : (a b : Bool) → (a && b) ≡ true → (a ≡ true) × (b ≡ true)
+both true b h = (refl, h)
+both false b h = (h, absurd (subst T (sym h) tt))
+
+pub legal-at : (marks : List ℕ) (j : ℕ) → j < length marks → legalMarks marks ≡ true → legalMark (getD marks j 0) ≡ true
+unfolding legalMarks
+legal-at [] j h all = absurd (omega arith)
+legal-at (mark ∷ marks) zero h all = both (legalMark mark) (legalMarks marks) all .0
+legal-at (mark ∷ marks) (suc j) h all = legal-at marks j (omega arith) (both (legalMark mark) (legalMarks marks) all .1)

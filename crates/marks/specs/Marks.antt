@@ -1,0 +1,19 @@
+-- Marks: "one for each GCR blockette in tape order, 1-9 an error, 15 good" (document 01, Records).
+-- Assumes nothing.
+use Prim.Native.Nat.{ℕ}
+use mathlib.Core.Bool.{Bool, true, not, _&&_, _||_}
+use mathlib.Core.List.{List, [], _∷_}
+use lib.Dec.{leb, eqb}
+
+-- "1-9 an error, 15 good"
+unfoldable pub legalMark : ℕ → Bool
+legalMark mark = (leb 1 mark && leb mark 9) || eqb mark 15
+
+-- refusal 10, "mark value", is the opposite of this
+unfoldable pub legalMarks : List ℕ → Bool
+legalMarks [] = true
+legalMarks (mark ∷ marks) = legalMark mark && legalMarks marks
+
+-- a blockette whose mark is not "good"
+unfoldable pub isError : ℕ → Bool
+isError mark = not (eqb mark 15)

@@ -1,0 +1,42 @@
+-- The scan of the marks (document 01, Records). A place counts in tape order from 0; the end is the number of marks and stands
+-- for "none". Behind a place stand `after` others: data blockettes are numbered n-1 down to 0 and the check blockettes 1 and 0
+-- follow them, so `after` has the parity of the number, is the number of a check blockette, and is 2 above that of data.
+-- Assumes nothing.
+use Prim.Native.Nat.{ℕ, suc, _-_, _%_}
+use mathlib.Core.List.{List, [], _∷_}
+use lib.Dec.{leb, ltb, eqb}
+use lib.ListN.{length, getD}
+use Rattle.common.specs.Pick.{pick}
+use Rattle.marks.specs.Marks.{isError}
+use Rattle.marks.specs.declared.Scan.{Scan}
+use Rattle.marks.specs.declared.Defect.{Defect}
+
+-- "the scan stops at the first blockette that is the second bad one of its parity"; "an error's parity is its number's, check
+-- blockettes included". The marks that are left, the place of the first of them, the end, and the first odd and the first even
+-- error so far.
+unfoldable pub scanFrom : List ℕ → ℕ → ℕ → ℕ → ℕ → Scan
+scanFrom [] at end odd even = record { odd = odd; even = even; stop = end }
+scanFrom (mark ∷ marks) at end odd even =
+    pick (isError mark)
+    (pick (eqb (length marks % 2) 1)
+    (pick (ltb odd end) (record { odd = odd; even = even; stop = at }) (scanFrom marks (suc at) end at even))
+    (pick (ltb even end) (record { odd = odd; even = even; stop = at }) (scanFrom marks (suc at) end odd at)))
+    (scanFrom marks (suc at) end odd even)
+
+unfoldable pub scanOf : List ℕ → Scan
+scanOf marks = scanFrom marks 0 (length marks) (length marks) (length marks)
+
+-- "kind (1 data, 2 check)", by the number of places after it
+unfoldable pub kindOf : ℕ → ℕ
+kindOf after = pick (leb 2 after) 1 2
+
+-- "its number", one byte: no record has more than 256 blockettes
+unfoldable pub numberOf : ℕ → ℕ
+numberOf after = pick (leb 2 after) ((after - 2) % 256) after
+
+-- An error's mark, kind and number; "zero where none", which is the end.
+unfoldable pub defectAt : List ℕ → ℕ → Defect
+defectAt marks place =
+    pick (ltb place (length marks))
+    (record { mark = getD marks place 0; kind = kindOf (length marks - 1 - place); number = numberOf (length marks - 1 - place) })
+    (record { mark = 0; kind = 0; number = 0 })

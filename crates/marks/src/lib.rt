@@ -1,0 +1,103 @@
+// The marks of a GCR record: their test, the scan for errors, and what is told of an error.
+ghost use mathlib.Core.Path.{_≡_};
+ghost use Rattle.marks.specs.Marks.{legalMark, legalMarks};
+ghost use Rattle.marks.specs.Scan.{scanOf, defectAt};
+
+// The mark of a good blockette.
+pub const GOOD: u8 = 15;
+
+// The places of the first odd error, of the first even one, and where the scan stopped; the number of marks where there is none.
+pub struct Scan {
+    pub odd: usize,
+    pub even: usize,
+    pub stop: usize,
+}
+
+// What is told of an error: its mark, its kind (1 data, 2 check) and its blockette's number. All are 0 where there is none.
+pub struct Defect {
+    pub mark: u8,
+    pub kind: u8,
+    pub number: u8,
+}
+
+// Whether a mark is one of 1-9 or 15.
+pub fn legal_mark(mark: u8) -> bool
+    ensures { λ r. ⌜ r ≡ legalMark mark ⌝ }
+{
+    ((1 <= mark) & (mark <= 9)) | (mark == GOOD)
+}
+
+// Whether every mark is.
+pub fn legal_marks(marks: &[u8]) -> bool
+    ensures { λ r. ⌜ r ≡ legalMarks (now (marks .entry)) ⌝ }
+{
+    let end = marks.len();
+    let mut at = 0;
+    while at < end {
+        if !legal_mark(marks[at]) {
+            return false;
+        }
+        at += 1;
+    }
+    true
+}
+
+// Goes over the marks in tape order, to the second error of one parity or to the end.
+pub fn scan_marks(marks: &[u8]) -> Scan
+    ensures { λ r. ⌜ r ≡ scanOf (now (marks .entry)) ⌝ }
+{
+    let end = marks.len();
+    let mut odd = end;
+    let mut even = end;
+    let mut at = 0;
+    let stop = loop {
+        if end <= at {
+            break end;
+        }
+        if marks[at] != GOOD {
+            if (end - 1 - at) % 2 == 1 {
+                if odd < end {
+                    break at;
+                }
+                odd = at;
+            } else {
+                if even < end {
+                    break at;
+                }
+                even = at;
+            }
+        }
+        at += 1;
+    };
+    Scan { odd, even, stop }
+}
+
+// What is told of the blockette at a place.
+pub fn defect_at(marks: &[u8], place: usize) -> Defect
+    ensures { λ r. ⌜ r ≡ defectAt (now (marks .entry)) place ⌝ }
+{
+    let end = marks.len();
+    if end <= place {
+        return Defect {
+            mark: 0,
+            kind: 0,
+            number: 0,
+        };
+    }
+    let mark = marks[place];
+    let after = end - 1 - place;
+    if 2 <= after {
+        let number = ((after - 2) % 256) as u8;
+        return Defect {
+            mark,
+            kind: 1,
+            number,
+        };
+    }
+    let number = after as u8;
+    Defect {
+        mark,
+        kind: 2,
+        number,
+    }
+}

@@ -1,0 +1,4 @@
+pub mod ImageLaws
+pub mod WholeLaws
+pub mod Restoring
+pub mod BuiltRecordsAreRestored

@@ -1,0 +1,48 @@
+-- `records::interface::ctc_scan` meets its contract: refused with the space as it was, or the nine bytes given.
+-- Assumes nothing.
+use borrow.Author.Needs.{needs}
+use borrow.Author.Tests.{lt-ltb, le-ltb}
+use Rattle.common.specs.Pick.{pick}
+use Rattle.records.specs.Interface.{scanRefusal, scannedInto}
+use mathlib.Core.Path.{ap, _∙_}
+use mathlib.Core.List.{List}
+use Prim.Native.Nat.{ℕ}
+use Rattle.common.specs.Given.{given}
+use Rattle.records.proofs.interface.ctc_scan.Statement.{statement}
+use Rattle.records.proofs.interface.ctc_scan.Tie as tie
+
+returns : tie.Need-returns
+unfolding scanRefusal scannedInto pick
+returns c = (simp (lt-ltb _ _ (c .if1 .taken)), simp (lt-ltb _ _ (c .if1 .taken)))
+
+scan-report-requires : tie.Need-scan-report-requires
+scan-report-requires c κs = search needs
+
+slice-aggregate-give : tie.Need-slice-aggregate-give
+slice-aggregate-give c = search needs
+
+give-requires : tie.Need-give-requires
+give-requires c κs = search needs
+
+same-length : tie.Need-same-length
+same-length c = search needs
+
+returns-2 : tie.Need-returns-2
+unfolding scanRefusal scannedInto pick
+returns-2 c =
+    let g = c .before .before in
+    let r = g .before .before .before in
+    let i = r .before in
+    let space = i .before .before .before .args .report .now in
+    (simp (le-ltb _ _ (i .if1 .left)), simp (le-ltb _ _ (i .if1 .left)) (g .give .ensures ∙ ap (λ (x : List ℕ). given x space) (r .scan-report .ensures)))
+
+pub ctc-scan-spec : {M : Type 1} → statement M
+ctc-scan-spec =
+    tie.close
+    (tie.spec
+    returns
+    scan-report-requires
+    slice-aggregate-give
+    give-requires
+    same-length
+    returns-2)

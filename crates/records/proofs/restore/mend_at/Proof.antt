@@ -1,0 +1,87 @@
+-- `records::restore::mend_at` meets its contract: the part that is lent is the blockette, as far as the bytes go.
+-- Assumes nothing.
+use borrow.Author.Needs.{needs}
+use mathlib.Core.Path.{_≡_, ap, _∙_}
+use Prim.Native.Nat.{ℕ, _+_, _-_, _*_, _≤_, min}
+use mathlib.Core.List.{List, _++_}
+use lib.ListN.{length, take, drop, length-take, length-drop}
+use borrow.Author.Tests.{lt-ltb, le-ltb}
+use borrow.Rule.Slice.PartMut.{putMid}
+use native.Mathlib.Omega.{arith}
+use Rattle.common.specs.Pick.{pick}
+use Rattle.blockettes.specs.Blockettes.{othersOf}
+use Rattle.blockettes.proofs.Others.{others-length}
+use Rattle.common.proofs.Parts.{part-written}
+use Rattle.records.specs.Image.{blocketteCount}
+use Rattle.records.specs.Restore.{writtenAt, mendedAt}
+use Rattle.records.proofs.restore.mend_at.Statement.{statement}
+use Rattle.records.proofs.restore.mend_at.Tie as tie
+
+mul-start : tie.Need-mul-start
+mul-start c = search needs
+
+add-least : tie.Need-add-least
+add-least c = search needs
+
+least-requires : tie.Need-least-requires
+least-requires c κs = search needs
+
+sub-restore-at : tie.Need-sub-restore-at
+unfolding blocketteCount
+sub-restore-at c = omega arith
+
+part-restore-at-start : tie.Need-part-restore-at-start
+unfolding blocketteCount
+part-restore-at-start c = omega arith
+
+part-restore-at-end : tie.Need-part-restore-at-end
+part-restore-at-end c = search needs
+
+add-restore-at : tie.Need-add-restore-at
+add-restore-at c = search needs
+
+restore-at-requires : tie.Need-restore-at-requires
+restore-at-requires c κs = search needs
+
+same-length : tie.Need-same-length
+same-length c = search needs
+
+returns : tie.Need-returns
+unfolding mendedAt writtenAt pick blocketteCount
+returns c =
+    let r = c .before .before in
+    let l = r .before .before in
+    let i = l .before in
+    let e = i .before .before .before in
+    let bytes = e .args .bytes .now in
+    let place = e .args .place in
+    let start = 256 * place in
+    let end = l .least .result in
+    let new = othersOf (e .args .blockettes .now) (e .args .n + 2) place in
+    let so-many : length new ≡ 256 = others-length (e .args .blockettes .now) (e .args .n + 2) place in
+    let is-end : end ≡ min (length bytes) (start + length new) = omega (arith, l .least .ensures) in
+    let room : start ≤ length bytes = omega arith in
+    let part : length (take (end - start) (drop start bytes)) ≡ end - start = simp (length-take, length-drop) (omega arith) in
+    simp (lt-ltb _ _ (i .if1 .taken))
+    (ap (λ (x : List ℕ). putMid start (end - start) bytes x) (r .restore-at .ensures ∙ ap (λ (k : ℕ). take k new) part)
+    ∙ part-written bytes new start end is-end room)
+
+returns-2 : tie.Need-returns-2
+unfolding mendedAt pick
+returns-2 c = simp (le-ltb _ _ (c .if1 .left))
+
+pub mend-at-spec : {M : Type 1} → statement M
+mend-at-spec =
+    tie.close
+    (tie.spec
+    mul-start
+    add-least
+    least-requires
+    sub-restore-at
+    part-restore-at-start
+    part-restore-at-end
+    add-restore-at
+    restore-at-requires
+    same-length
+    returns
+    returns-2)

@@ -1,0 +1,6 @@
+pub mod Count
+pub mod Image
+pub mod Whole
+pub mod Build
+pub mod Restore
+pub mod Interface

@@ -1,0 +1,28 @@
+// A record's count: 16 bits, rotated right by one, high byte first.
+ghost use mathlib.Core.Path.{_≡_};
+ghost use Prim.Native.Nat.{_≤_};
+ghost use lib.ListN.{length};
+ghost use Rattle.records.specs.Count.{limit, countBytes, countOf};
+
+// The most bytes of a record.
+pub const LIMIT: usize = 16384;
+
+// Writes a count.
+pub fn put_count(count: usize, space: &mut [u8])
+    requires { ⌜ count ≤ limit ⌝ }
+    requires { ⌜ length (now space) ≡ 2 ⌝ }
+    ensures { λ _. ⌜ now (space .exit) ≡ countBytes count ⌝ }
+{
+    let word = count / 2 + count % 2 * 32768;
+    space[0] = (word / 256) as u8;
+    space[1] = (word % 256) as u8;
+}
+
+// The count that an image says.
+pub fn count_of(image: &[u8]) -> usize
+    requires { ⌜ 2 ≤ length (now image) ⌝ }
+    ensures { λ r. ⌜ r ≡ countOf (now (image .entry)) ⌝ }
+{
+    let word = image[0] as usize * 256 + image[1] as usize;
+    word % 32768 * 2 + word / 32768
+}

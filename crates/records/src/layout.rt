@@ -1,0 +1,44 @@
+// How many blockettes, bytes and marks a record has.
+ghost use mathlib.Core.Path.{_≡_};
+ghost use Prim.Native.Nat.{_≤_};
+ghost use Rattle.records.specs.Count.{limit};
+ghost use Rattle.records.specs.Image.{blocketteCount, hasBlockettes, imageLength, markCount};
+
+// The blockettes of data.
+pub fn blockette_count(count: usize) -> usize
+    requires { ⌜ count ≤ limit ⌝ }
+    ensures { λ r. ⌜ r ≡ blocketteCount count ⌝ }
+{
+    (count + 255) / 256
+}
+
+// Whether there are any: in GCR, where the count is not 0.
+pub fn has_blockettes(count: usize, density: u8) -> bool
+    ensures { λ r. ⌜ r ≡ hasBlockettes count density ⌝ }
+{
+    !(density == 0) & !(count == 0)
+}
+
+// The length of an image.
+pub fn image_length(count: usize, density: u8) -> usize
+    requires { ⌜ count ≤ limit ⌝ }
+    ensures { λ r. ⌜ r ≡ imageLength count density ⌝ }
+{
+    let gcr = has_blockettes(count, density);
+    if gcr {
+        return 2 + 256 * (blockette_count(count) + 2);
+    }
+    2 + count
+}
+
+// The number of its marks.
+pub fn mark_count(count: usize, density: u8) -> usize
+    requires { ⌜ count ≤ limit ⌝ }
+    ensures { λ r. ⌜ r ≡ markCount count density ⌝ }
+{
+    let gcr = has_blockettes(count, density);
+    if gcr {
+        return blockette_count(count) + 2;
+    }
+    0
+}
