@@ -23,11 +23,13 @@ unfolding filled
 filled-self bytes = ap (λ (k : ℕ). bytes ++ replicate k 0) (sub-self (length bytes)) ∙ append-nil bytes
 
 -- filled and filled further
+rest-sum : (a m n : ℕ) → a ≤ m → m ≤ n → m - a + (n - m) ≡ n - a
+rest-sum a m n h k = omega arith
+
 pub filled-further : (bytes : List ℕ) (m n : ℕ) → length bytes ≤ m → m ≤ n → filled (filled bytes m) n ≡ filled bytes n
 unfolding filled
 filled-further bytes m n h k =
-    let whole : length (bytes ++ replicate (m - length bytes) 0) ≡ m = simp (length-append, length-replicate) (omega arith) in
-    let sum : m - length bytes + (n - m) ≡ n - length bytes = omega arith in
-    ap (λ (x : ℕ). bytes ++ replicate (m - length bytes) 0 ++ replicate (n - x) 0) whole
+    ap (λ (x : ℕ). bytes ++ replicate (m - length bytes) 0 ++ replicate (n - x) 0) (filled-length bytes m h)
     ∙ append-assoc bytes (replicate (m - length bytes) 0) (replicate (n - m) 0)
-    ∙ ap (λ (x : List ℕ). bytes ++ x) (replicate-append-replicate (m - length bytes) (n - m) 0 ∙ ap (λ (x : ℕ). replicate x 0) sum)
+    ∙ ap (λ (x : List ℕ). bytes ++ x)
+    (replicate-append-replicate (m - length bytes) (n - m) 0 ∙ ap (λ (x : ℕ). replicate x 0) (rest-sum (length bytes) m n h k))

@@ -26,8 +26,8 @@ pub fn give(bytes: &[u8], space: &mut [u8])
     requires { ⌜ length (now bytes) ≤ length (now space) ⌝ }
     ensures { λ _. ⌜ now (space .exit) ≡ given (now (bytes .entry)) (now (space .entry)) ⌝ }
 {
-    let n = bytes.len();
-    for i in 0..n {
+    let count = bytes.len();
+    for i in 0..count {
         space[i] = bytes[i];
     }
 }

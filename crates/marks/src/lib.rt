@@ -51,11 +51,12 @@ pub fn scan_marks(marks: &[u8]) -> Scan
     let mut even = end;
     let mut at = 0;
     let stop = loop {
-        if end <= at {
+        let left = end - at;
+        if left < 1 {
             break end;
         }
         if marks[at] != GOOD {
-            if (end - 1 - at) % 2 == 1 {
+            if (left - 1) % 2 == 1 {
                 if odd < end {
                     break at;
                 }

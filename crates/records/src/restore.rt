@@ -48,11 +48,12 @@ pub fn restore(image: &[u8], marks: &[u8], space: &mut [u8]) -> u32
         return refusal;
     }
     let count = count_of(image);
+    let errors = scan_marks(marks);
+    let stop = errors.stop;
     if space.len() < count {
         return 11;
     }
-    let errors = scan_marks(marks);
-    if errors.stop < marks.len() {
+    if stop < marks.len() {
         return 12;
     }
     let n = blockette_count(count);

@@ -13,10 +13,10 @@ use Rattle.common.proofs.give.Statement.{statement}
 use Rattle.common.proofs.give.Tie as tie
 
 abbrev Inv-loop : tie.InvT-loop
-Inv-loop bytes space₀ n i₀ space i = (i ≤ length bytes) × (length space ≡ length space₀) × (space ≡ take i bytes ++ drop i space₀)
+Inv-loop bytes space₀ count i₀ space i = (i ≤ length bytes) × (length space ≡ length space₀) × (space ≡ take i bytes ++ drop i space₀)
 
 abbrev μ-loop : tie.MeasureT-loop
-μ-loop bytes space₀ n i₀ space i = length bytes - i
+μ-loop bytes space₀ count i₀ space i = length bytes - i
 
 loop-holds : tie.Need-loop-holds Inv-loop μ-loop
 loop-holds c = search needs

@@ -60,14 +60,11 @@ loop-holds : tie.Need-loop-holds Inv-loop μ-loop
 unfolding scanOf
 loop-holds c = (omega arith, refl)
 
+sub-left : tie.Need-sub-left Inv-loop μ-loop
+sub-left c = search needs
+
 shared-slice-read-if2 : tie.Need-shared-slice-read-if2 Inv-loop μ-loop
 shared-slice-read-if2 c = search needs
-
-sub-if3 : tie.Need-sub-if3 Inv-loop μ-loop
-sub-if3 c = search needs
-
-sub-if3-2 : tie.Need-sub-if3-2 Inv-loop μ-loop
-sub-if3-2 c = search needs
 
 add-at : tie.Need-add-at Inv-loop μ-loop
 add-at c = search needs
@@ -94,7 +91,8 @@ unfolding scanFrom
 returns c =
     let l = c .before .loop in
     let marks = c .before .before .args .marks .now in
-    rw (drop-of-length-le marks (c .if1 .taken)) at (l .inv .1)
+    let done : length marks ≤ l .at = omega arith in
+    rw (drop-of-length-le marks done) at (l .inv .1)
 
 returns-2 : tie.Need-returns-2 Inv-loop μ-loop
 returns-2 c =
@@ -117,9 +115,8 @@ scan-marks-spec =
     Inv-loop
     μ-loop
     loop-holds
+    sub-left
     shared-slice-read-if2
-    sub-if3
-    sub-if3-2
     add-at
     loop-less
     loop-again

@@ -32,11 +32,11 @@ kept : (image marks space : List ℕ) (r : ℕ) → r ≡ restoreRefusal image m
 unfolding restoredInto
 kept image marks space r e some = sym (where-refused _ _ _ (λ z. some (e ∙ z)))
 
-restored : (image marks space last : List ℕ) (count : ℕ) → restoreRefusal image marks (length space) ≡ 0 → last ≡ restoredOf image marks → length (restoredOf image marks) ≡ count
+restored : (image marks space last : List ℕ) (count : ℕ) → restoreRefusal image marks (length space) ≡ 0 → last ≡ restoredOf image marks → length last ≡ count
     → last ++ drop count space ≡ restoredInto image marks space
 unfolding restoredInto given
 restored image marks space last count none e so-many =
-    ap₂ (λ (x : List ℕ) (k : ℕ). x ++ drop k space) e (sym so-many) ∙ sym (where-done _ _ _ none)
+    ap₂ (λ (x : List ℕ) (k : ℕ). x ++ drop k space) e (sym so-many ∙ ap (λ (x : List ℕ). length x) e) ∙ sym (where-done _ _ _ none)
 
 -- what the first test showed
 is-whole : (c : tie.Else1) → let e = c .before .before .before .before .before in IsWhole (e .args .image .now) (e .args .marks .now) 1
@@ -61,10 +61,13 @@ returns c =
 count-of-requires : tie.Need-count-of-requires
 count-of-requires c κs = is-whole c .two
 
+scan-marks-requires : tie.Need-scan-marks-requires
+scan-marks-requires c κs = search needs
+
 returns-2 : tie.Need-returns-2
 unfolding restoreRefusal pick
 returns-2 c =
-    let n = c .before in
+    let n = c .before .before in
     let i = n .before in
     let w = i .before in
     let e = w .before .before .before .before in
@@ -73,15 +76,12 @@ returns-2 c =
     in
     (r, kept (e .args .image .now) (e .args .marks .now) (e .args .space .now) 11 r (λ z. omega arith))
 
-scan-marks-requires : tie.Need-scan-marks-requires
-scan-marks-requires c κs = search needs
-
 returns-3 : tie.Need-returns-3
 unfolding restoreRefusal pick
 returns-3 c =
-    let s = c .before .before in
-    let j = s .before in
-    let n = j .before in
+    let j = c .before in
+    let s = j .before in
+    let n = s .before in
     let i = n .before in
     let w = i .before in
     let e = w .before .before .before .before in
@@ -99,14 +99,14 @@ returns-3 c =
 
 blockette-count-requires : tie.Need-blockette-count-requires
 blockette-count-requires c κs =
-    let n = c .before .before .before .before in
+    let n = c .before .before .before in
     rw (n .count-of .ensures) (is-whole (n .before) .within)
 
 sub-put-restored : tie.Need-sub-put-restored
-sub-put-restored c = is-whole (c .before .before .before .before .before .before) .two
+sub-put-restored c = is-whole (c .before .before .before .before .before) .two
 
 part-put-restored-start : tie.Need-part-put-restored-start
-part-put-restored-start c = omega (arith, is-whole (c .before .before .before .before .before .before) .two)
+part-put-restored-start c = omega (arith, is-whole (c .before .before .before .before .before) .two)
 
 part-put-restored-end : tie.Need-part-put-restored-end
 part-put-restored-end c = search needs
@@ -120,8 +120,7 @@ slice-aggregate-put-restored c = simp length-take (omega arith)
 put-restored-requires : tie.Need-put-restored-requires
 put-restored-requires c κs =
     let b = c .before .before in
-    let j = b .before .before .before .before in
-    let n = j .before in
+    let n = b .before .before .before .before in
     let h = is-whole (n .before) in
     let e = n .before .before .before .before .before .before in
     let count = n .count-of .result in
@@ -144,9 +143,9 @@ returns-4 c =
     let p = c .before .before in
     let b = p .before .before .before in
     let t = b .before in
-    let s = t .before .before in
-    let j = s .before in
-    let n = j .before in
+    let j = t .before in
+    let s = j .before in
+    let n = s .before in
     let i = n .before in
     let w = i .before in
     let e = w .before .before .before .before in
@@ -160,7 +159,6 @@ returns-4 c =
     p .put-restored .ensures
     ∙ alike _ _ _ _ _ _ _ _ part (b .blockette-count .ensures ∙ ap blocketteCount (n .count-of .ensures)) (s .scan-marks .ensures) (all ∙ n .count-of .ensures)
     in
-    let so-many : length (restoredOf image marks) ≡ count = ap (λ (x : List ℕ). length x) (sym is-last) ∙ p .put-restored .kept .1 .1 .1 .1 .0 ∙ all in
     let none : 0 ≡ restoreRefusal image marks (length space) =
     simp (
       ← w .whole-refusal .ensures,
@@ -171,7 +169,7 @@ returns-4 c =
       le-ltb _ _ (t .if3 .left),
     )
     in
-    (none, restored image marks space _ count (sym none) is-last so-many)
+    (none, restored image marks space _ count (sym none) is-last (p .put-restored .kept .1 .1 .1 .1 .0 ∙ all))
 
 pub restore-spec : {M : Type 1} → statement M
 restore-spec =
@@ -180,8 +178,8 @@ restore-spec =
     whole-refusal-requires
     returns
     count-of-requires
-    returns-2
     scan-marks-requires
+    returns-2
     returns-3
     blockette-count-requires
     sub-put-restored

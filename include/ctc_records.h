@@ -1,0 +1,187 @@
+/*
+ * ctc_records.h: tape records of the BTI-8000 cartridge controller.
+ *
+ * The builder turns record bytes into the image that goes on tape; the restorer
+ * turns a GCR image, some of whose blockettes were read badly, back into the
+ * record bytes. Link with librecords.a (x86-64):
+ *
+ *     cc -I include tool.c target/staticlib/librecords.a
+ *
+ * THE IMAGE of a record of c bytes, c from 0 to CTC_COUNT_LIMIT
+ *
+ *   - Two count bytes: c rotated right by one bit as a 16-bit number, high byte
+ *     first. 5 is 80 02, 3 is 80 01, 256 is 00 80 (hexadecimal).
+ *   - In MFM: the c bytes. Length 2 + c.
+ *   - In GCR: n data blockettes of 256 bytes, n being c / 256 rounded up. They
+ *     are numbered n-1, the first on tape, down to 0; the last is filled up with
+ *     zeros. Then check blockette 1, the XOR of the odd-numbered data blockettes,
+ *     and check blockette 0, the XOR of the even-numbered ones.
+ *     Length 2 + 256 * (n + 2).
+ *   - A record of 0 bytes is the two count bytes alone, in GCR too.
+ *
+ * MARKS say how each GCR blockette was read: one byte for each of the n + 2
+ * blockettes in tape order, check blockettes included. 1 to 9 is an error, 15
+ * (CTC_MARK_GOOD) is good. MFM images and records of 0 bytes have no marks.
+ *
+ * The parity of a blockette is that of its number: check blockette 1 is odd,
+ * check blockette 0 is even. One bad odd and one bad even blockette can be
+ * restored; two bad ones of one parity cannot.
+ *
+ * FOR EVERY FUNCTION
+ *
+ *   - Any length and any byte value is taken: what does not fit is refused.
+ *   - A null pointer is allowed exactly where its length is 0.
+ *   - The space that a call writes must share no byte with anything else that
+ *     is handed to the same call. What a call only reads may overlap.
+ *   - A refused call writes nothing. A call that is carried out writes only the
+ *     bytes it gives; every other byte of the lent space keeps its value. What
+ *     is handed over as const is never changed.
+ *   - Where several refusals apply, the lowest number is returned.
+ *   - Nothing is kept between calls, so several threads may call at once, each
+ *     with its own space to be written.
+ */
+#ifndef CTC_RECORDS_H
+#define CTC_RECORDS_H
+
+#include <stddef.h>
+#include <stdint.h>
+
+/* The most bytes that a record may have. */
+#define CTC_COUNT_LIMIT 16384
+
+/* Bytes in a blockette. */
+#define CTC_BLOCKETTE_LENGTH 256
+
+/* The most marks that a record has: 66. */
+#define CTC_MARKS_MOST \
+    ((CTC_COUNT_LIMIT + CTC_BLOCKETTE_LENGTH - 1) / CTC_BLOCKETTE_LENGTH + 2)
+
+/* The length of the longest image: 16,898 bytes. */
+#define CTC_IMAGE_MOST (2 + CTC_BLOCKETTE_LENGTH * CTC_MARKS_MOST)
+
+/* What ctc_image_count gives for an image that is too short to have a count. */
+#define CTC_NO_COUNT 65536
+
+/* Densities. Every value other than CTC_DENSITY_MFM counts as GCR. */
+#define CTC_DENSITY_MFM 0
+#define CTC_DENSITY_GCR 1
+
+/* The mark of a blockette that was read well, and the marks that are errors. */
+#define CTC_MARK_GOOD 15
+#define CTC_MARK_ERROR_LEAST 1
+#define CTC_MARK_ERROR_MOST 9
+
+/* What ctc_build, ctc_restore and ctc_scan return. */
+#define CTC_DONE 0u
+#define CTC_REFUSED_LENGTH 9u         /* count above the limit, or a wrong length */
+#define CTC_REFUSED_MARK 10u          /* a mark that is neither 1-9 nor 15 */
+#define CTC_REFUSED_SPACE 11u         /* the space to be written is too short */
+#define CTC_REFUSED_UNRESTORABLE 12u  /* two bad blockettes of one parity */
+
+/* The report of ctc_scan: three entries of mark, kind and number. */
+#define CTC_REPORT_LENGTH 9
+#define CTC_REPORT_ODD 0   /* where the entry of the first odd error starts */
+#define CTC_REPORT_EVEN 3  /* ... of the first even error */
+#define CTC_REPORT_STOP 6  /* ... of the blockette that stopped the scan */
+#define CTC_KIND_DATA 1
+#define CTC_KIND_CHECK 2
+
+#ifdef __cplusplus
+extern "C" {
+#endif
+
+/*
+ * Builds the image of a record.
+ *
+ *   bytes, bytes_len   the record; its count is bytes_len
+ *   density            CTC_DENSITY_MFM, or any other value for GCR
+ *   image, image_len   the space for the image; it may be longer than the image
+ *
+ * Returns
+ *   CTC_DONE (0)              the first ctc_image_length(bytes_len, density)
+ *                             bytes of image are the image, the others unchanged
+ *   CTC_REFUSED_LENGTH (9)    bytes_len is above CTC_COUNT_LIMIT
+ *   CTC_REFUSED_SPACE (11)    image_len is less than the length of the image
+ * When refused, all of image is unchanged.
+ */
+uint32_t ctc_build(const uint8_t *bytes, size_t bytes_len, uint8_t density,
+                   uint8_t *image, size_t image_len);
+
+/*
+ * Restores the bytes of a record from its GCR image. A bad data blockette is
+ * given as the XOR of the check blockette of its parity and the other data
+ * blockettes of that parity. Good blockettes are given as they are: whether the
+ * check blockettes fit them is not looked at. A bad check blockette alone needs
+ * no repair.
+ *
+ *   image, image_len   the whole image, of exactly the length its count asks for
+ *   marks, marks_len   exactly one mark for each blockette, in tape order
+ *   out, out_len       the space for the record bytes; it may be longer
+ *
+ * Returns, c being the image's count,
+ *   CTC_DONE (0)              the first c bytes of out are the record, the others
+ *                             unchanged
+ *   CTC_REFUSED_LENGTH (9)    image_len is below 2, or c is above CTC_COUNT_LIMIT,
+ *                             or image_len is not ctc_image_length(c, GCR), or
+ *                             marks_len is not ctc_mark_count(c, GCR)
+ *   CTC_REFUSED_MARK (10)     a mark is neither 1-9 nor 15
+ *   CTC_REFUSED_SPACE (11)    out_len is less than c
+ *   CTC_REFUSED_UNRESTORABLE (12)  two blockettes of one parity are bad
+ * When refused, all of out is unchanged.
+ */
+uint32_t ctc_restore(const uint8_t *image, size_t image_len,
+                     const uint8_t *marks, size_t marks_len,
+                     uint8_t *out, size_t out_len);
+
+/*
+ * The length of the image of a record of `count` bytes, from 2 to CTC_IMAGE_MOST;
+ * 0 where the count is above CTC_COUNT_LIMIT.
+ */
+size_t ctc_image_length(size_t count, uint8_t density);
+
+/*
+ * The number of marks of a record of `count` bytes: n + 2 in GCR, up to
+ * CTC_MARKS_MOST; 0 in MFM, for a count of 0, and where the count is above
+ * CTC_COUNT_LIMIT.
+ */
+size_t ctc_mark_count(size_t count, uint8_t density);
+
+/*
+ * The count that the first two bytes of an image say, from 0 to 65,535. It may be
+ * above CTC_COUNT_LIMIT, and the length of the image is not held to it.
+ * CTC_NO_COUNT (65,536) where image_len is below 2.
+ */
+size_t ctc_image_count(const uint8_t *image, size_t image_len);
+
+/*
+ * Walks the marks in tape order and reports the first odd error, the first even
+ * error, and the blockette at which the walk stopped: the first one that is the
+ * second bad one of its parity. Errors after the stop are not seen. A record can
+ * be restored where nothing stopped the walk.
+ *
+ *   marks, marks_len     marks of any number and any value; every value other
+ *                        than CTC_MARK_GOOD is an error. The last mark is that of
+ *                        check blockette 0, the one before it that of check
+ *                        blockette 1, and those before are of data blockettes
+ *   report, report_len   the space for the report; it may be longer
+ *
+ * The report has three entries, at CTC_REPORT_ODD, CTC_REPORT_EVEN and
+ * CTC_REPORT_STOP. Each is three bytes: the mark, the kind (CTC_KIND_DATA or
+ * CTC_KIND_CHECK) and the number of the blockette modulo 256, or 0 0 0 where
+ * there is none. The kind tells an entry from none, since a mark of 0 is an
+ * error here.
+ *
+ * Returns
+ *   CTC_DONE (0)              the first CTC_REPORT_LENGTH bytes of report are the
+ *                             report, the others unchanged
+ *   CTC_REFUSED_SPACE (11)    report_len is less than CTC_REPORT_LENGTH; all of
+ *                             report is unchanged
+ */
+uint32_t ctc_scan(const uint8_t *marks, size_t marks_len,
+                  uint8_t *report, size_t report_len);
+
+#ifdef __cplusplus
+}
+#endif
+
+#endif

@@ -1,0 +1,818 @@
+/*
+ * Tests of ctc_records.h from C. Each call is made four times on copies: between
+ * guard bytes, before and behind a fence (a page that nobody may touch), and in a
+ * malloc of the exact size. The sanitizers watch what is compiled with them, and
+ * the archive is not; the fences stop it too, even where it only reads.
+ */
+#define _DEFAULT_SOURCE /* for MAP_ANONYMOUS */
+
+#include "ctc_records.h"
+
+#include <signal.h>
+#include <stdarg.h>
+#include <stdbool.h>
+#include <stdint.h>
+#include <stdio.h>
+#include <stdlib.h>
+#include <string.h>
+#include <sys/mman.h>
+#include <unistd.h>
+
+/* ---- counting ---- */
+
+static int passed, failed;
+static bool test_failed;
+static const char *test_name = "no test";
+
+__attribute__((format(printf, 2, 3))) static void expect(bool holds, const char *format, ...)
+{
+    if (holds) {
+        return;
+    }
+    if (!test_failed) { /* the first failure says enough */
+        va_list words;
+        va_start(words, format);
+        printf("  %s: ", test_name);
+        vprintf(format, words);
+        printf("\n");
+        va_end(words);
+    }
+    test_failed = true;
+}
+
+static void run(const char *name, void (*test)(void))
+{
+    test_name = name;
+    test_failed = false;
+    test();
+    printf("%s %s\n", test_failed ? "FAILED" : "ok", name);
+    if (test_failed) {
+        failed++;
+    } else {
+        passed++;
+    }
+}
+
+/* A touched fence ends the run: the call cannot go on from there. */
+static void fence_touched(int number)
+{
+    static const char message[] = ": a call read or wrote outside its lent space\n";
+    (void)number;
+    /* nothing can be done where even this fails */
+    bool said = write(STDOUT_FILENO, test_name, strlen(test_name)) > 0 &&
+                write(STDOUT_FILENO, message, sizeof message - 1) > 0;
+    _exit(said ? 1 : 2);
+}
+
+/* ---- pseudo-random numbers: xorshift, always the same ones ---- */
+
+static uint64_t random_state = 80008000;
+
+static uint64_t random_word(void)
+{
+    random_state ^= random_state << 13;
+    random_state ^= random_state >> 7;
+    random_state ^= random_state << 17;
+    return random_state;
+}
+
+static size_t between(size_t low, size_t high)
+{
+    return low + (size_t)(random_word() % (high - low + 1));
+}
+
+static void fill_random(uint8_t *bytes, size_t length)
+{
+    for (size_t place = 0; place < length; place++) {
+        bytes[place] = (uint8_t)(random_word() >> 32);
+    }
+}
+
+static uint8_t random_error(void)
+{
+    return (uint8_t)between(CTC_MARK_ERROR_LEAST, CTC_MARK_ERROR_MOST);
+}
+
+/* ---- lent spaces ---- */
+
+/* In this order: guards say most, and a fence ends the run before malloc's own data is hit. */
+enum lay { GUARDED, FENCE_BEHIND, FENCE_BEFORE, EXACT, LAYS, FIRST_LAY = GUARDED };
+enum { GUARD = 64 };
+
+struct lent {
+    enum lay lay;
+    uint8_t *bytes;
+    size_t length;
+    uint8_t *memory;
+    size_t memory_length;
+    size_t page;
+};
+
+static void *must(void *memory)
+{
+    if (memory == NULL || memory == MAP_FAILED) {
+        printf("  out of memory\n");
+        exit(2);
+    }
+    return memory;
+}
+
+static uint8_t guard_byte(size_t place)
+{
+    return (uint8_t)(place * 29 + 165);
+}
+
+static struct lent lend(enum lay lay, const uint8_t *content, size_t length)
+{
+    struct lent lent = {.lay = lay, .length = length, .page = (size_t)sysconf(_SC_PAGESIZE)};
+    switch (lay) {
+    case EXACT:
+        lent.memory_length = length;
+        lent.memory = must(malloc(length == 0 ? 1 : length));
+        lent.bytes = length == 0 ? lent.memory + 1 : lent.memory;
+        break;
+    case GUARDED:
+        lent.memory_length = length + 2 * GUARD;
+        lent.memory = must(malloc(lent.memory_length));
+        lent.bytes = lent.memory + GUARD;
+        break;
+    default:
+        lent.memory_length = (length + lent.page - 1) / lent.page * lent.page + lent.page;
+        lent.memory = must(mmap(NULL, lent.memory_length, PROT_READ | PROT_WRITE,
+                                MAP_PRIVATE | MAP_ANONYMOUS, -1, 0));
+        lent.bytes = lay == FENCE_BEFORE ? lent.memory + lent.page
+                                         : lent.memory + lent.memory_length - lent.page - length;
+        break;
+    }
+    if (lay != EXACT) {
+        for (size_t place = 0; place < lent.memory_length; place++) {
+            lent.memory[place] = guard_byte(place);
+        }
+    }
+    if (length > 0) {
+        memcpy(lent.bytes, content, length);
+    }
+    if (lay == FENCE_BEHIND || lay == FENCE_BEFORE) {
+        uint8_t *fence =
+            lay == FENCE_BEFORE ? lent.memory : lent.memory + lent.memory_length - lent.page;
+        if (mprotect(fence, lent.page, PROT_NONE) != 0) {
+            must(NULL);
+        }
+    }
+    return lent;
+}
+
+/* Frees a lent space; nothing around it may have changed. */
+static void take_back(struct lent *lent, const char *name)
+{
+    size_t from = 0, to = lent->memory_length; /* what can be read */
+    if (lent->lay == FENCE_BEFORE) {
+        from = lent->page;
+    } else if (lent->lay == FENCE_BEHIND) {
+        to -= lent->page;
+    }
+    if (lent->lay != EXACT) {
+        for (size_t place = from; place < to; place++) {
+            const uint8_t *byte = lent->memory + place;
+            bool outside = byte < lent->bytes || byte >= lent->bytes + lent->length;
+            expect(!outside || *byte == guard_byte(place),
+                   "%s of %zu bytes: wrote at its place %td", name, lent->length,
+                   byte - lent->bytes);
+        }
+    }
+    if (lent->lay == EXACT || lent->lay == GUARDED) {
+        free(lent->memory);
+    } else {
+        munmap(lent->memory, lent->memory_length);
+    }
+}
+
+static bool alike(const uint8_t *a, const uint8_t *b, size_t length)
+{
+    return length == 0 || memcmp(a, b, length) == 0;
+}
+
+static void take_back_unchanged(struct lent *lent, const uint8_t *before, const char *name)
+{
+    expect(alike(lent->bytes, before, lent->length), "%s: an input was changed", name);
+    take_back(lent, name);
+}
+
+/*
+ * The calls. Each lends copies in every lay, holds the answers to each other, and
+ * leaves in `space` what the call left in its own.
+ */
+
+static uint8_t after_first[CTC_IMAGE_MOST + 1024];
+
+/* Keeps the first lay's answer and holds the others to it. */
+static void settle(enum lay lay, uint32_t *kept, uint32_t given, struct lent *space,
+                   const char *name)
+{
+    if (space->length > sizeof after_first) {
+        must(NULL);
+    }
+    if (lay == FIRST_LAY) {
+        *kept = given;
+        if (space->length > 0) {
+            memcpy(after_first, space->bytes, space->length);
+        }
+    }
+    expect(given == *kept && alike(space->bytes, after_first, space->length),
+           "%s: the answer depends on where its space lies", name);
+    take_back(space, name);
+}
+
+static void give_after(uint8_t *space, size_t length)
+{
+    if (length > 0) {
+        memcpy(space, after_first, length);
+    }
+}
+
+static uint32_t build(const uint8_t *bytes, size_t bytes_len, uint8_t density, uint8_t *space,
+                      size_t space_len)
+{
+    uint32_t kept = 0;
+    for (enum lay lay = FIRST_LAY; lay < LAYS; lay++) {
+        struct lent input = lend(lay, bytes, bytes_len);
+        struct lent image = lend(lay, space, space_len);
+        uint32_t given = ctc_build(input.bytes, bytes_len, density, image.bytes, space_len);
+        take_back_unchanged(&input, bytes, "bytes");
+        settle(lay, &kept, given, &image, "image space");
+    }
+    give_after(space, space_len);
+    return kept;
+}
+
+static uint32_t restore(const uint8_t *image, size_t image_len, const uint8_t *marks,
+                        size_t marks_len, uint8_t *space, size_t space_len)
+{
+    uint32_t kept = 0;
+    for (enum lay lay = FIRST_LAY; lay < LAYS; lay++) {
+        struct lent lent_image = lend(lay, image, image_len);
+        struct lent lent_marks = lend(lay, marks, marks_len);
+        struct lent out = lend(lay, space, space_len);
+        uint32_t given = ctc_restore(lent_image.bytes, image_len, lent_marks.bytes, marks_len,
+                                     out.bytes, space_len);
+        take_back_unchanged(&lent_image, image, "image");
+        take_back_unchanged(&lent_marks, marks, "marks");
+        settle(lay, &kept, given, &out, "output space");
+    }
+    give_after(space, space_len);
+    return kept;
+}
+
+static uint32_t scan(const uint8_t *marks, size_t marks_len, uint8_t *space, size_t space_len)
+{
+    uint32_t kept = 0;
+    for (enum lay lay = FIRST_LAY; lay < LAYS; lay++) {
+        struct lent input = lend(lay, marks, marks_len);
+        struct lent report = lend(lay, space, space_len);
+        uint32_t given = ctc_scan(input.bytes, marks_len, report.bytes, space_len);
+        take_back_unchanged(&input, marks, "marks");
+        settle(lay, &kept, given, &report, "report space");
+    }
+    give_after(space, space_len);
+    return kept;
+}
+
+static size_t image_count(const uint8_t *image, size_t image_len)
+{
+    size_t kept = 0;
+    for (enum lay lay = FIRST_LAY; lay < LAYS; lay++) {
+        struct lent input = lend(lay, image, image_len);
+        size_t given = ctc_image_count(input.bytes, image_len);
+        take_back_unchanged(&input, image, "image");
+        kept = lay == FIRST_LAY ? given : kept;
+        expect(given == kept, "image count: it depends on where the image lies");
+    }
+    return kept;
+}
+
+/* ---- what is expected ---- */
+
+static size_t data_blockettes(size_t count)
+{
+    return (count + 255) / 256;
+}
+
+/* The image of a record, blockette by number; gives its length. */
+static size_t expected_image(const uint8_t *bytes, size_t count, uint8_t density, uint8_t *image)
+{
+    size_t rotated = count / 2 + count % 2 * 32768;
+    image[0] = (uint8_t)(rotated / 256);
+    image[1] = (uint8_t)(rotated % 256);
+    if (count == 0) {
+        return 2;
+    }
+    if (density == CTC_DENSITY_MFM) {
+        memcpy(image + 2, bytes, count);
+        return 2 + count;
+    }
+    size_t n = data_blockettes(count);
+    uint8_t *check_1 = image + 2 + 256 * n;
+    uint8_t *check_0 = check_1 + 256;
+    memset(image + 2, 0, 256 * (n + 2));
+    memcpy(image + 2, bytes, count);
+    for (size_t number = 0; number < n; number++) {
+        const uint8_t *data = image + 2 + 256 * (n - 1 - number);
+        uint8_t *check = number % 2 == 1 ? check_1 : check_0;
+        for (size_t i = 0; i < 256; i++) {
+            check[i] = (uint8_t)(check[i] ^ data[i]);
+        }
+    }
+    return 2 + 256 * (n + 2);
+}
+
+/* ---- tests ---- */
+
+static uint8_t bytes[CTC_COUNT_LIMIT + 1024];
+static uint8_t image[CTC_IMAGE_MOST + 1024];
+static uint8_t before[CTC_IMAGE_MOST + 1024];
+static uint8_t expected[CTC_IMAGE_MOST + 1024];
+static uint8_t out[CTC_IMAGE_MOST + 1024];
+static uint8_t marks[1024];
+
+static const size_t edge_counts[] = {0,   1,   2,    3,    5,    254,  255,   256,   257,  511,
+                                     512, 513, 600,  767,  768,  769,  1023,  1024,  1025, 8191,
+                                     8192, 8193, 16127, 16128, 16129, CTC_COUNT_LIMIT - 1,
+                                     CTC_COUNT_LIMIT};
+enum { EDGES = sizeof edge_counts / sizeof edge_counts[0] };
+
+/* The space `now` must be `before` with `given_len` bytes of `given` at its start. */
+static bool only_start_written(const uint8_t *now, size_t length, const uint8_t *given,
+                               size_t given_len)
+{
+    return given_len <= length && alike(now, given, given_len) &&
+           alike(now + given_len, before + given_len, length - given_len);
+}
+
+static void constants(void)
+{
+    expect(CTC_COUNT_LIMIT == 16384, "limit");
+    expect(CTC_IMAGE_MOST == 16898, "longest image");
+    expect(CTC_MARKS_MOST == 66, "most marks");
+    expect(CTC_NO_COUNT == 65536, "no count");
+    expect(CTC_DENSITY_MFM == 0 && CTC_DENSITY_GCR == 1, "densities");
+    expect(CTC_MARK_GOOD == 15, "good mark");
+    expect(CTC_DONE == 0 && CTC_REFUSED_LENGTH == 9 && CTC_REFUSED_MARK == 10, "refusals");
+    expect(CTC_REFUSED_SPACE == 11 && CTC_REFUSED_UNRESTORABLE == 12, "refusals");
+    expect(ctc_image_length(CTC_COUNT_LIMIT, CTC_DENSITY_GCR) == CTC_IMAGE_MOST, "longest image");
+    expect(ctc_mark_count(CTC_COUNT_LIMIT, CTC_DENSITY_GCR) == CTC_MARKS_MOST, "most marks");
+}
+
+static void lengths(void)
+{
+    for (size_t count = 0; count <= CTC_COUNT_LIMIT + 300; count++) {
+        bool above = count > CTC_COUNT_LIMIT;
+        size_t n = data_blockettes(count);
+        size_t gcr = above ? 0 : count == 0 ? 2 : 2 + 256 * (n + 2);
+        size_t in_marks = above || count == 0 ? 0 : n + 2;
+        expect(ctc_image_length(count, CTC_DENSITY_MFM) == (above ? 0 : 2 + count),
+               "MFM length of %zu", count);
+        expect(ctc_image_length(count, CTC_DENSITY_GCR) == gcr, "GCR length of %zu", count);
+        expect(ctc_image_length(count, 255) == gcr, "GCR length of %zu", count);
+        expect(ctc_mark_count(count, CTC_DENSITY_MFM) == 0, "MFM marks of %zu", count);
+        expect(ctc_mark_count(count, CTC_DENSITY_GCR) == in_marks, "GCR marks of %zu", count);
+        expect(ctc_mark_count(count, 2) == in_marks, "GCR marks of %zu", count);
+    }
+    const size_t large[] = {65535, 65536, SIZE_MAX / 2, SIZE_MAX - 255, SIZE_MAX - 1, SIZE_MAX};
+    for (size_t i = 0; i < sizeof large / sizeof large[0]; i++) {
+        for (unsigned density = 0; density < 3; density++) {
+            expect(ctc_image_length(large[i], (uint8_t)density) == 0, "length of %zu", large[i]);
+            expect(ctc_mark_count(large[i], (uint8_t)density) == 0, "marks of %zu", large[i]);
+        }
+    }
+}
+
+static void counts_of_images(void)
+{
+    uint8_t few[5];
+    for (size_t count = 0; count <= 65535; count += 13) {
+        fill_random(few, sizeof few);
+        size_t rotated = count / 2 + count % 2 * 32768;
+        few[0] = (uint8_t)(rotated / 256);
+        few[1] = (uint8_t)(rotated % 256);
+        expect(image_count(few, 2) == count, "two bytes of %zu", count);
+        expect(image_count(few, sizeof few) == count, "five bytes of %zu", count);
+        expect(image_count(few, 1) == CTC_NO_COUNT, "one byte");
+    }
+    expect(image_count(few, 0) == CTC_NO_COUNT, "no byte");
+}
+
+static void null_bytes(void)
+{
+    for (unsigned density = 0; density < 3; density++) {
+        uint8_t four[4] = {1, 2, 3, 4};
+        expect(ctc_build(NULL, 0, (uint8_t)density, four, 4) == CTC_DONE, "built");
+        expect(four[0] == 0 && four[1] == 0 && four[2] == 3 && four[3] == 4, "two bytes of 0");
+        four[0] = 1;
+        expect(ctc_build(NULL, 0, (uint8_t)density, four, 1) == CTC_REFUSED_SPACE, "one byte");
+        expect(four[0] == 1, "nothing written");
+    }
+}
+
+static void null_image_space(void)
+{
+    const uint8_t five[5] = {1, 2, 3, 4, 5};
+    for (unsigned density = 0; density < 3; density++) {
+        expect(ctc_build(five, 5, (uint8_t)density, NULL, 0) == CTC_REFUSED_SPACE, "five bytes");
+        expect(ctc_build(NULL, 0, (uint8_t)density, NULL, 0) == CTC_REFUSED_SPACE, "both null");
+        expect(ctc_build(bytes, CTC_COUNT_LIMIT + 1, (uint8_t)density, NULL, 0) ==
+                   CTC_REFUSED_LENGTH,
+               "9 before 11");
+    }
+}
+
+static void null_image(void)
+{
+    uint8_t space[4] = {1, 2, 3, 4};
+    const uint8_t good[3] = {15, 15, 15};
+    expect(ctc_restore(NULL, 0, good, 3, space, 4) == CTC_REFUSED_LENGTH, "no image");
+    expect(ctc_restore(NULL, 0, NULL, 0, space, 4) == CTC_REFUSED_LENGTH, "no image, no marks");
+    expect(ctc_restore(NULL, 0, NULL, 0, NULL, 0) == CTC_REFUSED_LENGTH, "nothing at all");
+    expect(space[0] == 1 && space[3] == 4, "nothing written");
+    expect(ctc_image_count(NULL, 0) == CTC_NO_COUNT, "count of no image");
+}
+
+static void null_marks(void)
+{
+    uint8_t space[5] = {1, 2, 3, 4, 5};
+    const uint8_t five[5] = {6, 7, 8, 9, 10};
+    const uint8_t empty[2] = {0, 0};
+    size_t length = expected_image(five, 5, CTC_DENSITY_GCR, image);
+    expect(ctc_restore(image, length, NULL, 0, space, 5) == CTC_REFUSED_LENGTH, "marks missing");
+    expect(space[0] == 1 && space[4] == 5, "nothing written");
+    expect(ctc_restore(empty, 2, NULL, 0, space, 5) == CTC_DONE, "a record of 0 bytes");
+    expect(space[0] == 1 && space[4] == 5, "nothing given");
+}
+
+static void null_output_space(void)
+{
+    const uint8_t five[5] = {6, 7, 8, 9, 10};
+    const uint8_t empty[2] = {0, 0};
+    const uint8_t good[3] = {15, 15, 15};
+    size_t length = expected_image(five, 5, CTC_DENSITY_GCR, image);
+    expect(ctc_restore(image, length, good, 3, NULL, 0) == CTC_REFUSED_SPACE, "five bytes");
+    expect(ctc_restore(empty, 2, NULL, 0, NULL, 0) == CTC_DONE, "a record of 0 bytes");
+}
+
+static void null_scan(void)
+{
+    static const uint8_t zeros[9] = {0};
+    uint8_t report[10];
+    memset(report, 0xEE, sizeof report);
+    expect(ctc_scan(NULL, 0, report, 10) == CTC_DONE, "no marks");
+    expect(alike(report, zeros, 9) && report[9] == 0xEE, "nine zeros");
+    const uint8_t good[3] = {15, 15, 15};
+    expect(ctc_scan(good, 3, NULL, 0) == CTC_REFUSED_SPACE, "no space");
+    expect(ctc_scan(NULL, 0, NULL, 0) == CTC_REFUSED_SPACE, "nothing at all");
+}
+
+static void worked_rotations(void)
+{
+    static const struct {
+        size_t count;
+        uint8_t high, low;
+    } cases[] = {{5, 0x80, 0x02}, {3, 0x80, 0x01}, {256, 0x00, 0x80}};
+    for (size_t i = 0; i < 3; i++) {
+        for (unsigned density = 0; density < 2; density++) {
+            size_t length = ctc_image_length(cases[i].count, (uint8_t)density);
+            expect(build(bytes, cases[i].count, (uint8_t)density, image, length) == CTC_DONE,
+                   "built");
+            expect(image[0] == cases[i].high && image[1] == cases[i].low, "count %zu",
+                   cases[i].count);
+            expect(image_count(image, length) == cases[i].count, "count %zu", cases[i].count);
+        }
+    }
+}
+
+static void worked_two_errors(void)
+{
+    /* tape order: 2, 1, 0, check 1, check 0 */
+    static const uint8_t on_1_and_check_0[5] = {15, 9, 15, 15, 3};
+    static const uint8_t report_expected[9] = {9, 1, 1, 3, 2, 0, 0, 0, 0};
+    uint8_t report[9];
+    fill_random(bytes, 600);
+    size_t length = expected_image(bytes, 600, CTC_DENSITY_GCR, image);
+    memset(image + 2 + 256, 0x55, 256);
+    memset(image + 2 + 1024, 0x55, 256);
+    expect(scan(on_1_and_check_0, 5, report, 9) == CTC_DONE, "scanned");
+    expect(alike(report, report_expected, 9), "report");
+    expect(restore(image, length, on_1_and_check_0, 5, out, 600) == CTC_DONE, "restored");
+    expect(alike(out, bytes, 600), "bytes");
+}
+
+static void worked_unrestorable(void)
+{
+    static const uint8_t on_2_and_0[5] = {6, 15, 4, 15, 15};
+    static const uint8_t report_expected[9] = {0, 0, 0, 6, 1, 2, 4, 1, 0};
+    uint8_t report[9];
+    fill_random(bytes, 600);
+    size_t length = expected_image(bytes, 600, CTC_DENSITY_GCR, image);
+    memset(before, 0xEE, 600);
+    memset(out, 0xEE, 600);
+    expect(scan(on_2_and_0, 5, report, 9) == CTC_DONE, "scanned");
+    expect(alike(report, report_expected, 9), "report");
+    expect(restore(image, length, on_2_and_0, 5, out, 600) == CTC_REFUSED_UNRESTORABLE, "12");
+    expect(alike(out, before, 600), "nothing written");
+}
+
+static void worked_one_byte(void)
+{
+    const uint8_t one = 0x5A;
+    memset(expected, 0, 770);
+    expected[0] = 0x80;
+    expected[2] = 0x5A;
+    expected[2 + 256 + 256] = 0x5A;
+    memset(image, 0xEE, 770);
+    expect(build(&one, 1, CTC_DENSITY_GCR, image, 770) == CTC_DONE, "built");
+    expect(alike(image, expected, 770), "the 257th check byte, and no other");
+}
+
+static void builds_edges(void)
+{
+    for (size_t i = 0; i < EDGES; i++) {
+        size_t count = edge_counts[i];
+        fill_random(bytes, count);
+        for (unsigned density = 0; density < 3; density++) {
+            size_t length = expected_image(bytes, count, (uint8_t)density, expected);
+            for (size_t more = 0; more <= 600; more += 300) {
+                fill_random(before, length + more);
+                memcpy(image, before, length + more);
+                expect(build(bytes, count, (uint8_t)density, image, length + more) == CTC_DONE,
+                       "built %zu", count);
+                expect(only_start_written(image, length + more, expected, length),
+                       "image of %zu, density %u, %zu bytes more", count, density, more);
+            }
+        }
+    }
+}
+
+static void builder_refuses(void)
+{
+    static const size_t rooms_above[] = {0, 1, 2, CTC_IMAGE_MOST, CTC_IMAGE_MOST + 500};
+    fill_random(bytes, sizeof bytes);
+    for (unsigned density = 0; density < 2; density++) {
+        for (size_t i = 0; i < sizeof rooms_above / sizeof rooms_above[0]; i++) {
+            size_t room = rooms_above[i];
+            fill_random(before, room);
+            memcpy(image, before, room);
+            expect(build(bytes, CTC_COUNT_LIMIT + 1, (uint8_t)density, image, room) ==
+                       CTC_REFUSED_LENGTH,
+                   "one above the limit, space of %zu", room);
+            expect(build(bytes, sizeof bytes, (uint8_t)density, image, room) == CTC_REFUSED_LENGTH,
+                   "far above the limit, space of %zu", room);
+            expect(alike(image, before, room), "nothing written");
+        }
+        for (size_t i = 0; i < EDGES; i++) {
+            size_t needed = ctc_image_length(edge_counts[i], (uint8_t)density);
+            const size_t rooms[] = {0, 1, needed / 2, needed > 256 ? needed - 256 : 1, needed - 2,
+                                    needed - 1};
+            for (size_t r = 0; r < sizeof rooms / sizeof rooms[0]; r++) {
+                fill_random(before, rooms[r]);
+                memcpy(image, before, sizeof image);
+                expect(build(bytes, edge_counts[i], (uint8_t)density, image, rooms[r]) ==
+                           CTC_REFUSED_SPACE,
+                       "%zu bytes, space of %zu", edge_counts[i], rooms[r]);
+                expect(alike(image, before, rooms[r]), "nothing written");
+            }
+        }
+    }
+}
+
+static void restorer_refuses(void)
+{
+    for (unsigned reasons = 0; reasons < 32; reasons++) {
+        bool image_wrong = reasons & 1u, marks_wrong = reasons & 2u, illegal = reasons & 4u;
+        bool space_short = reasons & 8u, unrestorable = reasons & 16u;
+        size_t count = 1100, image_len, marks_len = 7, room = count;
+        fill_random(bytes, count);
+        image_len = expected_image(bytes, count, CTC_DENSITY_GCR, image);
+        memset(marks, CTC_MARK_GOOD, sizeof marks);
+        if (unrestorable) {
+            marks[1] = marks[5] = 4; /* data 3 and check 1 */
+        }
+        if (illegal) {
+            marks[6] = 10;
+        }
+        if (space_short) {
+            room = count - 1;
+        }
+        if (marks_wrong) {
+            marks_len = 8;
+        }
+        if (image_wrong) {
+            image_len = image_len - 1;
+        }
+        uint32_t answer = image_wrong || marks_wrong ? CTC_REFUSED_LENGTH
+                          : illegal                  ? CTC_REFUSED_MARK
+                          : space_short              ? CTC_REFUSED_SPACE
+                          : unrestorable             ? CTC_REFUSED_UNRESTORABLE
+                                                     : CTC_DONE;
+        fill_random(before, room);
+        memcpy(out, before, room);
+        expect(restore(image, image_len, marks, marks_len, out, room) == answer, "reasons %u",
+               reasons);
+        expect(answer == CTC_DONE || alike(out, before, room), "nothing written, reasons %u",
+               reasons);
+    }
+}
+
+static void restorer_refuses_every_mark(void)
+{
+    size_t count = 300;
+    fill_random(bytes, count);
+    size_t length = expected_image(bytes, count, CTC_DENSITY_GCR, image);
+    for (size_t place = 0; place < 4; place++) {
+        for (unsigned value = 0; value < 256; value++) {
+            bool legal = (value >= 1 && value <= 9) || value == 15;
+            memset(marks, CTC_MARK_GOOD, 4);
+            marks[place] = (uint8_t)value;
+            fill_random(before, count);
+            memcpy(out, before, count);
+            expect(restore(image, length, marks, 4, out, count) ==
+                       (legal ? CTC_DONE : CTC_REFUSED_MARK),
+                   "mark %u at %zu", value, place);
+            expect(alike(out, legal ? bytes : before, count), "mark %u at %zu", value, place);
+        }
+    }
+}
+
+static void restorer_refuses_lengths(void)
+{
+    for (size_t i = 0; i < EDGES; i++) {
+        size_t count = edge_counts[i];
+        fill_random(bytes, count);
+        memset(image, 0, sizeof image);
+        memset(marks, CTC_MARK_GOOD, sizeof marks);
+        size_t length = expected_image(bytes, count, CTC_DENSITY_GCR, image);
+        size_t mark_count = ctc_mark_count(count, CTC_DENSITY_GCR);
+        fill_random(before, count);
+        memcpy(out, before, count);
+        const size_t lengths_wrong[] = {0, 1, length - 1, length + 1, length + 256, length + 512};
+        for (size_t w = 0; w < sizeof lengths_wrong / sizeof lengths_wrong[0]; w++) {
+            expect(restore(image, lengths_wrong[w], marks, mark_count, out, count) ==
+                       CTC_REFUSED_LENGTH,
+                   "count %zu, image of %zu", count, lengths_wrong[w]);
+        }
+        for (size_t wrong = 0; wrong <= 70; wrong++) {
+            if (wrong != mark_count) {
+                expect(restore(image, length, marks, wrong, out, count) == CTC_REFUSED_LENGTH,
+                       "count %zu, %zu marks", count, wrong);
+            }
+        }
+        expect(alike(out, before, count), "nothing written, count %zu", count);
+    }
+}
+
+/* Whether check blockettes fit is not looked at: here they are random. */
+static void good_blockettes_as_they_are(void)
+{
+    for (size_t i = 0; i < EDGES; i++) {
+        size_t count = edge_counts[i], room = count + 100;
+        size_t length = ctc_image_length(count, CTC_DENSITY_GCR);
+        expected_image(bytes, count, CTC_DENSITY_GCR, image); /* for its count bytes */
+        fill_random(image + 2, length - 2);
+        memset(marks, CTC_MARK_GOOD, sizeof marks);
+        fill_random(before, room);
+        memcpy(out, before, room);
+        expect(restore(image, length, marks, ctc_mark_count(count, CTC_DENSITY_GCR), out, room) ==
+                   CTC_DONE,
+               "restored %zu", count);
+        expect(only_start_written(out, room, image + 2, count), "the record of %zu", count);
+    }
+}
+
+/* A few hundred records: built, spoiled in one odd and one even blockette, restored. */
+static void round_trips(void)
+{
+    for (int turn = 0; turn < 400; turn++) {
+        size_t count = turn < EDGES ? edge_counts[turn]
+                                    : between(1, turn % 4 == 0 ? CTC_COUNT_LIMIT : 1500);
+        size_t length = ctc_image_length(count, CTC_DENSITY_GCR);
+        size_t mark_count = ctc_mark_count(count, CTC_DENSITY_GCR);
+        size_t room = count + between(0, 300);
+        fill_random(bytes, count);
+        fill_random(image, length);
+        expect(build(bytes, count, CTC_DENSITY_GCR, image, length) == CTC_DONE, "built %zu", count);
+        memset(marks, CTC_MARK_GOOD, sizeof marks);
+        for (size_t parity = 0; parity < 2 && mark_count > 0; parity++) {
+            if (between(0, 4) == 0) {
+                continue;
+            }
+            /* the last place is even, the one before it odd */
+            size_t of_parity = (mark_count + 1 - parity) / 2;
+            size_t place = mark_count - 1 - parity - 2 * between(0, of_parity - 1);
+            marks[place] = random_error();
+            fill_random(image + 2 + 256 * place, 256);
+        }
+        fill_random(before, room);
+        memcpy(out, before, room);
+        expect(restore(image, length, marks, mark_count, out, room) == CTC_DONE, "restored %zu",
+               count);
+        expect(only_start_written(out, room, bytes, count), "the record of %zu", count);
+
+        uint8_t report[CTC_REPORT_LENGTH];
+        expect(scan(marks, mark_count, report, sizeof report) == CTC_DONE, "scanned");
+        expect(report[CTC_REPORT_STOP + 1] == 0, "nothing stops the scan of %zu", count);
+    }
+}
+
+/* Two bad blockettes of one parity: refused, and the scan tells which two. */
+static void unrestorable(void)
+{
+    for (int turn = 0; turn < 300; turn++) {
+        size_t count = between(257, turn % 4 == 0 ? CTC_COUNT_LIMIT : 1500);
+        size_t mark_count = ctc_mark_count(count, CTC_DENSITY_GCR);
+        size_t first = between(0, mark_count - 3);
+        size_t second = first + 2 * between(1, (mark_count - 1 - first) / 2);
+        fill_random(bytes, count);
+        size_t length = expected_image(bytes, count, CTC_DENSITY_GCR, image);
+        memset(marks, CTC_MARK_GOOD, sizeof marks);
+        marks[first] = random_error();
+        marks[second] = random_error();
+        fill_random(before, count);
+        memcpy(out, before, count);
+        expect(restore(image, length, marks, mark_count, out, count) == CTC_REFUSED_UNRESTORABLE,
+               "count %zu, places %zu and %zu", count, first, second);
+        expect(alike(out, before, count), "nothing written, count %zu", count);
+
+        uint8_t report[CTC_REPORT_LENGTH], wanted[CTC_REPORT_LENGTH] = {0};
+        size_t first_after = mark_count - 1 - first, second_after = mark_count - 1 - second;
+        uint8_t *entry = wanted + (first_after % 2 == 1 ? CTC_REPORT_ODD : CTC_REPORT_EVEN);
+        entry[0] = marks[first];
+        entry[1] = CTC_KIND_DATA;
+        entry[2] = (uint8_t)(first_after - 2);
+        entry = wanted + CTC_REPORT_STOP;
+        entry[0] = marks[second];
+        entry[1] = second_after < 2 ? CTC_KIND_CHECK : CTC_KIND_DATA;
+        entry[2] = (uint8_t)(second_after < 2 ? second_after : second_after - 2);
+        expect(scan(marks, mark_count, report, sizeof report) == CTC_DONE, "scanned");
+        expect(alike(report, wanted, sizeof wanted), "report, count %zu", count);
+    }
+}
+
+static void report_spaces(void)
+{
+    for (size_t room = 0; room <= 40; room++) {
+        static const uint8_t five[5] = {15, 9, 15, 15, 3};
+        static const uint8_t wanted[9] = {9, 1, 1, 3, 2, 0, 0, 0, 0};
+        bool short_space = room < CTC_REPORT_LENGTH;
+        fill_random(before, room);
+        memcpy(out, before, room);
+        expect(scan(five, 5, out, room) == (short_space ? CTC_REFUSED_SPACE : CTC_DONE),
+               "space of %zu", room);
+        expect(only_start_written(out, room, wanted, short_space ? 0 : 9), "space of %zu", room);
+    }
+}
+
+static void unusual_marks(void)
+{
+    uint8_t report[9];
+    static const uint8_t zero_mark[9] = {0, 0, 0, 0, 2, 0, 0, 0, 0};
+    static const uint8_t far_number[9] = {255, 1, 1, 0, 0, 0, 0, 0, 0};
+    static const uint8_t beyond_stop[5] = {6, 15, 4, 9, 9};
+    static const uint8_t stopped[9] = {0, 0, 0, 6, 1, 2, 4, 1, 0};
+    const uint8_t zero = 0;
+    expect(scan(&zero, 1, report, 9) == CTC_DONE && alike(report, zero_mark, 9), "one mark of 0");
+    memset(marks, CTC_MARK_GOOD, 260);
+    marks[0] = 255; /* 259 places after it: data blockette 257 */
+    expect(scan(marks, 260, report, 9) == CTC_DONE && alike(report, far_number, 9),
+           "a number above 255");
+    expect(scan(beyond_stop, 5, report, 9) == CTC_DONE && alike(report, stopped, 9),
+           "errors after the stop");
+}
+
+int main(void)
+{
+    setvbuf(stdout, NULL, _IOLBF, BUFSIZ); /* a fence loses no line */
+    signal(SIGSEGV, fence_touched);
+    signal(SIGBUS, fence_touched);
+    run("constants", constants);
+    run("lengths", lengths);
+    run("counts of images", counts_of_images);
+    run("null bytes", null_bytes);
+    run("null image space", null_image_space);
+    run("null image", null_image);
+    run("null marks", null_marks);
+    run("null output space", null_output_space);
+    run("null marks and null report", null_scan);
+    run("worked case: rotated counts", worked_rotations);
+    run("worked case: 9 on 1, 3 on check 0", worked_two_errors);
+    run("worked case: 6 on 2, 4 on 0", worked_unrestorable);
+    run("worked case: one byte 5A", worked_one_byte);
+    run("images at the edges of blockettes", builds_edges);
+    run("builder refuses", builder_refuses);
+    run("restorer refuses, lowest first", restorer_refuses);
+    run("restorer refuses marks", restorer_refuses_every_mark);
+    run("restorer refuses lengths", restorer_refuses_lengths);
+    run("good blockettes as they are", good_blockettes_as_they_are);
+    run("round trips", round_trips);
+    run("two bad of one parity", unrestorable);
+    run("report spaces", report_spaces);
+    run("unusual marks", unusual_marks);
+    printf("%d passed, %d failed\n", passed, failed);
+    return failed == 0 ? 0 : 1;
+}

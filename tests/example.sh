@@ -1,0 +1,405 @@
+#!/usr/bin/env bash
+# Tests of the example tool and of the script that builds it.
+#
+#   tests/example.sh TOOL ARCHIVE
+#
+# TOOL is examples/ctc-record.c, compiled and linked; ARCHIVE is librecords.a, for
+# the root script, which is tried in a copy of the tree. The last line is
+# 'N passed, M failed'; the exit status is not 0 where anything failed.
+set -uo pipefail
+
+if [ $# -ne 2 ]; then
+    echo "usage: tests/example.sh TOOL ARCHIVE" >&2
+    exit 2
+fi
+tool=$(readlink -f "$1")
+archive=$(readlink -f "$2")
+root=$(dirname "$(dirname "$(readlink -f "${BASH_SOURCE[0]}")")")
+folder=$(mktemp -d) || exit 2
+trap 'rm -rf -- "$folder"' EXIT
+cd "$folder" || exit 2
+
+passed=0
+failed=0
+
+# check NAME COMMAND...: one test, which passes where the command succeeds.
+check() {
+    local name=$1
+    shift
+    if "$@"; then
+        passed=$((passed + 1))
+        echo "ok $name"
+    else
+        failed=$((failed + 1))
+        echo "FAILED $name"
+        echo "  status $status"
+        sed 's/^/  said: /' said 2>/dev/null
+        sed 's/^/  error: /' errors 2>/dev/null
+    fi
+}
+
+# Runs a command; its status goes to $status, what it says to said and errors. The
+# file unwanted is what a command that must fail is told to write.
+status=0
+run() {
+    rm -f unwanted
+    "$@" >said 2>errors </dev/null
+    status=$?
+}
+
+# What the last command did: its status, and a piece of its message (none: no message).
+ended() { # STATUS [MESSAGE-PART]...
+    local part
+    [ "$status" -eq "$1" ] || return 1
+    shift
+    [ $# -gt 0 ] || { [ ! -s errors ]; return; }
+    for part in "$@"; do
+        grep -qF -- "$part" errors || return 1
+    done
+}
+
+absent() {
+    local path
+    for path in "$@"; do
+        [ ! -e "$path" ] && [ ! -L "$path" ] || return 1
+    done
+}
+
+no_temporary_files() { ! compgen -G '*.part' >/dev/null; }
+
+# Bytes that differ from one blockette to the next.
+make_bytes() { # COUNT
+    seq 1 20000 | head -c "$1"
+}
+
+spoil() { # FILE PLACE: the blockette at this place in tape order
+    head -c 256 /dev/zero | tr '\0' '#' |
+        dd of="$1" bs=1 seek=$((2 + 256 * $2)) conv=notrunc status=none
+}
+
+hexadecimal() { od -An -tx1 -v "$1" | tr -d ' \n'; }
+
+make_bytes 600 >record
+make_bytes 16384 >limit
+make_bytes 16385 >above
+: >empty
+printf 'old contents' >kept
+
+# ---- usage ----
+
+run "$tool" --help
+help_shown() { ended 0 && grep -q '^usage: ctc-record build' said && grep -q 'MARKS-FILE' said; }
+check "--help" help_shown
+
+usage_refused() { ended 2 'usage: ctc-record build' && [ ! -s said ]; }
+run "$tool"
+check "no words" usage_refused
+run "$tool" burn gcr record image
+check "an unknown word" usage_refused
+run "$tool" build gcr record
+check "a word missing" usage_refused
+run "$tool" build gcr record image more
+check "a word too many" usage_refused
+run "$tool" restore image out
+check "restore with a word missing" usage_refused
+run "$tool" show image
+check "show with a word missing" usage_refused
+run "$tool" build GCR record unwanted
+unknown_density() { ended 2 'mfm or gcr' && absent unwanted; }
+check "an unknown density" unknown_density
+
+# ---- build ----
+
+run "$tool" build mfm record image.mfm
+mfm_right() {
+    ended 0 && [ "$(head -c 2 image.mfm | od -An -tx1 | tr -d ' ')" = 012c ] &&
+        tail -c +3 image.mfm | cmp -s - record
+}
+check "build in MFM" mfm_right
+
+run "$tool" build gcr record image
+gcr_right() {
+    ended 0 && [ "$(wc -c <image)" -eq 1282 ] &&
+        head -c 602 image | tail -c +3 | cmp -s - record &&
+        # check blockette 1 is of blockette 1 alone, the second on tape
+        head -c 1026 image | tail -c 256 | cmp -s - <(head -c 512 record | tail -c 256)
+}
+check "build in GCR" gcr_right
+
+printf 'Z' >one
+run "$tool" build gcr one image.one
+zeros() { printf '00%.0s' $(seq "$1"); }
+one_right() {
+    ended 0 && [ "$(hexadecimal image.one)" = "80005a$(zeros 511)5a$(zeros 255)" ]
+}
+check "build one byte" one_right
+
+empty_built() {
+    run "$tool" build "$1" empty image.empty
+    ended 0 && [ "$(hexadecimal image.empty)" = 0000 ]
+}
+check "build no bytes in MFM" empty_built mfm
+check "build no bytes in GCR" empty_built gcr
+
+run "$tool" build gcr limit image.limit
+limit_built() { ended 0 && [ "$(wc -c <image.limit)" -eq 16898 ]; }
+check "build the longest record" limit_built
+
+run "$tool" build gcr above unwanted
+above_refused() { ended 1 'above: refusal 9' 16384 && absent unwanted; }
+check "build a record above the limit" above_refused
+run "$tool" build mfm /dev/zero unwanted
+endless_refused() { ended 1 '/dev/zero: refusal 9' && absent unwanted; }
+check "build from a file without end" endless_refused
+run "$tool" build gcr above kept
+kept_unchanged() { ended 1 refusal && [ "$(cat kept)" = 'old contents' ]; }
+check "a refused build leaves an earlier file" kept_unchanged
+
+cp record replaced
+run "$tool" build mfm record replaced
+replaced() { ended 0 && cmp -s replaced image.mfm && no_temporary_files; }
+check "build replaces an earlier file" replaced
+
+# ---- restore ----
+
+restored() { # RECORD OUT
+    ended 0 && cmp -s "$1" "$2" && no_temporary_files
+}
+run "$tool" restore image - out
+check "restore with all good" restored record out
+run "$tool" restore image.limit - out.limit
+check "restore the longest record" restored limit out.limit
+run "$tool" restore image.empty - out.empty
+check "restore no bytes" restored empty out.empty
+run "$tool" restore image.empty empty out.empty
+check "restore no bytes with an empty marks file" restored empty out.empty
+
+# 2, 1, 0, check 1, check 0 on tape: every odd one with every even one
+spoiled_round_trip() {
+    local odd even place marks
+    for odd in 1 3 none; do
+        for even in 0 2 4 none; do
+            cp image spoiled
+            marks=(017 017 017 017 017)
+            for place in "$odd" "$even"; do
+                [ "$place" = none ] && continue
+                spoil spoiled "$place"
+                marks[place]=005
+            done
+            printf '%b' "${marks[@]/#/\\0}" >marks
+            run "$tool" restore spoiled marks out.spoiled
+            restored record out.spoiled || return 1
+        done
+    done
+}
+check "restore with every odd and every even blockette spoiled" spoiled_round_trip
+
+spoiled_limit() {
+    cp image.limit spoiled
+    spoil spoiled 0
+    spoil spoiled 63
+    { printf '\001'; head -c 62 /dev/zero | tr '\0' '\017'; printf '\011\017\017'; } >marks
+    run "$tool" restore spoiled marks out.spoiled
+    restored limit out.spoiled
+}
+check "restore the longest record from a spoiled image" spoiled_limit
+
+printf '\006\017\004\017\017' >marks.12
+run "$tool" restore image marks.12 unwanted
+unrestorable() {
+    ended 1 'image: refusal 12' 'one parity' && absent unwanted && no_temporary_files
+}
+check "two bad of one parity" unrestorable
+
+printf '\017\017\012\017\017' >marks.10
+run "$tool" restore image marks.10 unwanted
+mark_refused() { ended 1 'marks.10: refusal 10' 'byte 3 is 10' && absent unwanted; }
+check "a mark that is none" mark_refused
+
+printf '\017\017\017\017' >marks.short
+run "$tool" restore image marks.short unwanted
+marks_short() {
+    ended 1 'marks.short: refusal 9' 'asks for 5 marks' 'there are 4' && absent unwanted
+}
+check "a mark missing" marks_short
+run "$tool" restore image /dev/zero unwanted
+marks_endless() { ended 1 '/dev/zero: refusal 9' 'more than 66' && absent unwanted; }
+check "marks without end" marks_endless
+
+head -c 1281 image >image.short
+run "$tool" restore image.short - unwanted
+image_short() { ended 1 'image.short: refusal 9' '1282' '1281' && absent unwanted; }
+check "a byte of the image missing" image_short
+run "$tool" restore one - unwanted
+image_without_count() { ended 1 'one: refusal 9' 'at least 2 bytes' && absent unwanted; }
+check "an image of one byte" image_without_count
+run "$tool" restore /dev/zero - unwanted
+image_endless() { ended 1 '/dev/zero: refusal 9' 'more than 16898' && absent unwanted; }
+check "an image without end" image_endless
+{ printf '\240\000'; tail -c +3 image.limit; } >image.count # says 16,385
+run "$tool" restore image.count - unwanted
+count_above() { ended 1 'image.count: refusal 9' '16385' && absent unwanted; }
+check "a count above the limit" count_above
+run "$tool" restore image.mfm - unwanted
+mfm_refused() { ended 1 'image.mfm: refusal 9' && absent unwanted; }
+check "an MFM image" mfm_refused
+run "$tool" restore image marks.12 kept
+check "a refused restore leaves an earlier file" kept_unchanged
+
+# ---- show ----
+
+run "$tool" show image gcr
+shown() {
+    ended 0 && grep -q '^count  *600$' said && grep -q '^blockettes  *3 data, 2 check$' said
+}
+check "show an image" shown
+printf '\017\011\017\017\003' >marks.15
+run "$tool" show image gcr marks.15
+shown_errors() {
+    ended 0 && grep -q '^odd error  *data blockette 1, mark 9$' said &&
+        grep -q '^even error  *check blockette 0, mark 3$' said && grep -q '^restorable  *yes$' said
+}
+check "show errors that can be restored" shown_errors
+run "$tool" show image gcr marks.12
+shown_stop() {
+    ended 0 && grep -q '^odd error  *none$' said &&
+        grep -q '^even error  *data blockette 2, mark 6$' said &&
+        grep -q 'data blockette 0, mark 4$' said && grep -q '^restorable  *no$' said
+}
+check "show errors that cannot be restored" shown_stop
+run "$tool" show image.mfm mfm
+shown_mfm() { ended 0 && grep -q '^count  *600$' said && grep -q '^blockettes  *none$' said; }
+check "show an MFM image" shown_mfm
+run "$tool" show image mfm
+shown_wrong() { ended 1 'image: refusal 9' '602' && [ ! -s said ]; }
+check "show in the wrong density" shown_wrong
+run "$tool" show image gcr marks.10
+shown_mark() { ended 1 'marks.10: refusal 10' && [ ! -s said ]; }
+check "show a mark that is none" shown_mark
+
+# ---- files ----
+
+run "$tool" build gcr nowhere unwanted
+missing() { ended 1 'cannot open nowhere' && absent unwanted; }
+check "a missing bytes file" missing
+run "$tool" restore nowhere - unwanted
+check "a missing image" missing
+run "$tool" restore image nowhere unwanted
+check "a missing marks file" missing
+mkdir a_folder
+run "$tool" build gcr a_folder unwanted
+folder_read() { ended 1 'a_folder' && absent unwanted; }
+check "a folder in place of a file" folder_read
+run "$tool" build gcr record a_folder
+folder_written() { ended 1 'a_folder' && [ -d a_folder ]; }
+check "a folder in place of the image" folder_written
+run "$tool" build gcr record nowhere/image
+no_folder() { ended 1 'nowhere/image' && absent nowhere; }
+check "an image in a folder that is not there" no_folder
+
+run "$tool" build gcr record /dev/full
+device_full() { ended 1 'cannot write /dev/full' && [ -c /dev/full ]; }
+check "a full device" device_full
+
+# a file that may not grow past 1,024 bytes stands in for a full disk
+no_room() (
+    trap '' XFSZ
+    ulimit -f 1
+    exec "$@"
+)
+run no_room "$tool" build gcr limit unwanted
+disk_full() { ended 1 'cannot write unwanted' && absent unwanted && no_temporary_files; }
+check "a full disk leaves no part of a file" disk_full
+run no_room "$tool" build gcr limit kept
+disk_full_kept() {
+    ended 1 'cannot write kept' && [ "$(cat kept)" = 'old contents' ] && no_temporary_files
+}
+check "a full disk leaves an earlier file" disk_full_kept
+
+printed_to_full() { [ "$status" -eq 1 ] && grep -q 'standard output' errors; }
+"$tool" show image gcr >/dev/full 2>errors
+status=$?
+check "show to a full device" printed_to_full
+
+"$tool" build gcr record /dev/stdout 2>errors | cmp -s - image
+status=$?
+check "build into a pipe" ended 0
+ln -s target.of.link link
+: >target.of.link
+run "$tool" build mfm record link
+link_kept() { ended 0 && [ -L link ] && cmp -s target.of.link image.mfm; }
+check "a link is written through" link_kept
+
+# ---- the root script, in a copy of the tree ----
+
+mkdir -p tree/target/staticlib tree/crates/records
+cp -r "$root/ctc-record" "$root/examples" "$root/include" "$root/tools" tree/
+touch tree/crates.txt tree/crates/records/lib.rt
+sleep 0.1
+cp "$archive" tree/target/staticlib/librecords.a
+
+# the commands that the script may use, without rt and cc
+mkdir bare
+for name in bash env dirname readlink find mkdir rm mv mktemp cat seq wc head tail tr dd sed cmp grep awk tee touch; do
+    ln -s "$(command -v "$name")" bare/
+done
+# an rt that writes down how it was called and puts the archive in its place
+mkdir with_rt
+cat >with_rt/rt <<END
+#!/bin/sh
+echo "\$PWD: \$*" >>'$folder/rt.calls'
+[ ! -e '$folder/rt.fails' ] || exit 1
+mkdir -p target/staticlib && cp '$archive' target/staticlib/librecords.a
+END
+chmod +x with_rt/rt
+
+run env PATH="$folder/bare" tree/ctc-record
+without_cc() { ended 1 'cc is not in PATH'; }
+check "script: no C compiler" without_cc
+
+run env PATH="$folder/with_rt:$PATH" tree/ctc-record
+played() {
+    ended 0 && grep -q 'Built the GCR image' said && grep -q 'bytes are as they were' said &&
+        [ -x tree/target/ctc-record ] && absent rt.calls
+}
+check "script: plays its example, without rt where the archive is there" played
+
+mkdir elsewhere
+from_elsewhere() {
+    (cd elsewhere && "$folder/tree/ctc-record" build gcr ../record image >../said 2>../errors)
+    status=$?
+    ended 0 && cmp -s elsewhere/image image
+}
+check "script: runs from another folder, with files of that folder" from_elsewhere
+ln -s tree/ctc-record script_link
+run ./script_link restore image marks.12 unwanted
+through_link() { ended 1 'refusal 12' && absent unwanted; }
+check "script: hands on the tool's status, also through a link" through_link
+
+# built once: a second run without compilers works
+run env PATH="$folder/bare" tree/ctc-record show image gcr
+check "script: builds nothing twice" shown
+
+sleep 0.1
+touch tree/crates/records/lib.rt
+run env PATH="$folder/bare" tree/ctc-record --help
+without_rt() { ended 1 'rt is not in PATH'; }
+check "script: no rt" without_rt
+run env PATH="$folder/with_rt:$PATH" tree/ctc-record show image gcr
+built_anew() {
+    [ "$status" -eq 0 ] && grep -q '^count  *600$' said &&
+        grep -q 'proving and building the records library' errors &&
+        [ "$(cat rt.calls)" = "$folder/tree: staticlib records" ]
+}
+check "script: proves and builds anew where a crate is newer" built_anew
+rm -f rt.calls tree/target/staticlib/librecords.a
+run env PATH="$folder/with_rt:$PATH" tree/ctc-record show image gcr
+check "script: proves and builds where the archive is missing" built_anew
+rm -f tree/target/staticlib/librecords.a
+touch rt.fails
+run env PATH="$folder/with_rt:$PATH" tree/ctc-record show image gcr
+rt_failed() { ended 1 'the records library was not built' && [ ! -s said ]; }
+check "script: says so where the library is not built" rt_failed
+
+echo "$passed passed, $failed failed"
+[ "$failed" -eq 0 ]

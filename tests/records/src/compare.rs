@@ -1,0 +1,60 @@
+//! One call of the library beside the plain implementation: both must return the same number and
+//! leave every byte of the lent space alike. Each gives the number and the space.
+
+use crate::{library, plain};
+
+fn expect_alike(what: &str, given: (u32, Vec<u8>), expected: (u32, Vec<u8>)) -> (u32, Vec<u8>) {
+    assert_eq!(
+        given.0, expected.0,
+        "{what}: returned {} and not {}",
+        given.0, expected.0
+    );
+    let differing = given.1.iter().zip(&expected.1).position(|(a, b)| a != b);
+    if let Some(place) = differing {
+        panic!(
+            "{what}, returned {}: byte {place} of the lent space is {:02X} and not {:02X}",
+            given.0, given.1[place], expected.1[place],
+        );
+    }
+    given
+}
+
+pub fn build(bytes: &[u8], density: u8, space: &[u8]) -> (u32, Vec<u8>) {
+    let what = format!(
+        "build of {} bytes, density {density}, space of {}",
+        bytes.len(),
+        space.len()
+    );
+    expect_alike(
+        &what,
+        library::build(bytes, density, space),
+        plain::build(bytes, density, space),
+    )
+}
+
+pub fn restore(image: &[u8], marks: &[u8], space: &[u8]) -> (u32, Vec<u8>) {
+    let what = format!(
+        "restore of an image of {} bytes, count {}, space of {}, marks {marks:?}",
+        image.len(),
+        plain::image_count(image),
+        space.len(),
+    );
+    expect_alike(
+        &what,
+        library::restore(image, marks, space),
+        plain::restore(image, marks, space),
+    )
+}
+
+pub fn scan(marks: &[u8], space: &[u8]) -> (u32, Vec<u8>) {
+    let what = if marks.len() <= 66 {
+        format!("scan of {marks:?}, space of {}", space.len())
+    } else {
+        format!("scan of {} marks, space of {}", marks.len(), space.len())
+    };
+    expect_alike(
+        &what,
+        library::scan(marks, space),
+        plain::scan(marks, space),
+    )
+}

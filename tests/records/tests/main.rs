@@ -1,0 +1,9 @@
+//! All comparisons in one program: linked once, counted once.
+
+mod builder;
+mod lengths;
+mod null_pointers;
+mod restorer;
+mod round_trip;
+mod scanner;
+mod worked_cases;

@@ -1,0 +1,87 @@
+//! A null pointer is allowed where its length is 0, for each argument in turn.
+
+use records_tests::library::raw;
+use std::ptr::{null, null_mut};
+
+const BYTES: [u8; 5] = [1, 2, 3, 4, 5];
+
+#[test]
+fn build_from_no_bytes() {
+    for density in [0, 1] {
+        let mut image = [0xEE; 4];
+        let refusal = unsafe { raw::ctc_build(null(), 0, density, image.as_mut_ptr(), 4) };
+        assert_eq!((refusal, image), (0, [0, 0, 0xEE, 0xEE]));
+    }
+}
+
+#[test]
+fn build_into_no_space() {
+    for density in [0, 1] {
+        assert_eq!(
+            unsafe { raw::ctc_build(BYTES.as_ptr(), 5, density, null_mut(), 0) },
+            11
+        );
+        assert_eq!(
+            unsafe { raw::ctc_build(null(), 0, density, null_mut(), 0) },
+            11
+        );
+    }
+}
+
+#[test]
+fn restore_from_no_image() {
+    let mut out = [0xEE; 5];
+    let marks = [15; 3];
+    let refusal = unsafe { raw::ctc_restore(null(), 0, marks.as_ptr(), 3, out.as_mut_ptr(), 5) };
+    assert_eq!((refusal, out), (9, [0xEE; 5]));
+    assert_eq!(
+        unsafe { raw::ctc_restore(null(), 0, null(), 0, null_mut(), 0) },
+        9
+    );
+}
+
+#[test]
+fn restore_with_no_marks() {
+    let mut out = [0xEE; 5];
+    let mut image = [0; 770];
+    let refusal = unsafe { raw::ctc_build(BYTES.as_ptr(), 5, 1, image.as_mut_ptr(), 770) };
+    assert_eq!(refusal, 0);
+    let refusal = unsafe { raw::ctc_restore(image.as_ptr(), 770, null(), 0, out.as_mut_ptr(), 5) };
+    assert_eq!((refusal, out), (9, [0xEE; 5]));
+    // a record of no bytes has none
+    let refusal = unsafe { raw::ctc_restore([0, 0].as_ptr(), 2, null(), 0, out.as_mut_ptr(), 5) };
+    assert_eq!((refusal, out), (0, [0xEE; 5]));
+}
+
+#[test]
+fn restore_into_no_space() {
+    let mut image = [0; 770];
+    let refusal = unsafe { raw::ctc_build(BYTES.as_ptr(), 5, 1, image.as_mut_ptr(), 770) };
+    assert_eq!(refusal, 0);
+    let marks = [15; 3];
+    let refusal =
+        unsafe { raw::ctc_restore(image.as_ptr(), 770, marks.as_ptr(), 3, null_mut(), 0) };
+    assert_eq!(refusal, 11);
+    assert_eq!(
+        unsafe { raw::ctc_restore([0, 0].as_ptr(), 2, null(), 0, null_mut(), 0) },
+        0
+    );
+}
+
+#[test]
+fn count_of_no_image() {
+    assert_eq!(unsafe { raw::ctc_image_count(null(), 0) }, 65_536);
+}
+
+#[test]
+fn scan_of_no_marks_or_into_no_space() {
+    let mut report = [0xEE; 10];
+    let refusal = unsafe { raw::ctc_scan(null(), 0, report.as_mut_ptr(), 10) };
+    assert_eq!((refusal, report), (0, [0, 0, 0, 0, 0, 0, 0, 0, 0, 0xEE]));
+    let marks = [15; 3];
+    assert_eq!(
+        unsafe { raw::ctc_scan(marks.as_ptr(), 3, null_mut(), 0) },
+        11
+    );
+    assert_eq!(unsafe { raw::ctc_scan(null(), 0, null_mut(), 0) }, 11);
+}
