@@ -1,4 +1,4 @@
--- Laws of `pick` over refusals: what is known where a list of them gives 0, and what a call leaves.
+-- Laws of `pick`: by its test, over a list of refusals, and of what a call leaves.
 -- Assumes nothing.
 use mathlib.Core.Path.{_≡_, refl}
 use Prim.Native.Nat.{ℕ}
@@ -6,6 +6,31 @@ use mathlib.Core.Bool.{Bool, true, false}
 use lib.Dec.{eqb}
 use borrow.Author.Tests.{eq-eqb, ne-eqb}
 use Rattle.common.specs.Pick.{pick}
+
+-- ---- by the test
+
+-- a test that holds, and one that fails
+pub pick-yes : {A : Type 0} {b : Bool} (x y : A) → b ≡ true → pick b x y ≡ x
+unfolding pick
+pick-yes x y e = rw e
+
+pub pick-no : {A : Type 0} {b : Bool} (x y : A) → b ≡ false → pick b x y ≡ y
+unfolding pick
+pick-no x y e = rw e
+
+-- choices that differ only where the test fails
+pub pick-same : {A : Type 0} (b : Bool) (z x y : A) → (b ≡ false → x ≡ y) → pick b z x ≡ pick b z y
+unfolding pick
+pick-same true z x y same = refl
+pick-same false z x y same = same refl
+
+-- a claim of a choice, from the claim where the test holds and the claim where it fails
+pub pick-by : {A : Type 0} (P : A → Type 0) (b : Bool) {x y : A} → (b ≡ true → P x) → (b ≡ false → P y) → P (pick b x y)
+unfolding pick
+pick-by P true f g = f refl
+pick-by P false f g = g refl
+
+-- ---- a list of refusals that gives 0
 
 -- a test that would have refused did not hold, and the tests after it give 0
 pub not-refused : (test : Bool) (refusal rest : ℕ) → (refusal ≡ 0 → ⊥) → pick test refusal rest ≡ 0 → (test ≡ false) × (rest ≡ 0)
@@ -19,12 +44,12 @@ unfolding pick
 passed true refusal some e = refl
 passed false refusal some e = absurd (some e)
 
--- what a refused call leaves
-pub where-refused : {A : Type 0} (refusal : ℕ) (done kept : A) → (refusal ≡ 0 → ⊥) → pick (eqb refusal 0) done kept ≡ kept
-unfolding pick
-where-refused refusal done kept some = simp (ne-eqb refusal 0 some)
+-- ---- what a call leaves
 
--- what a call that is carried out leaves
+-- where it is refused
+pub where-refused : {A : Type 0} (refusal : ℕ) (done kept : A) → (refusal ≡ 0 → ⊥) → pick (eqb refusal 0) done kept ≡ kept
+where-refused refusal done kept some = pick-no done kept (ne-eqb refusal 0 some)
+
+-- where it is carried out
 pub where-done : {A : Type 0} (refusal : ℕ) (done kept : A) → refusal ≡ 0 → pick (eqb refusal 0) done kept ≡ done
-unfolding pick
-where-done refusal done kept e = simp (eq-eqb refusal 0 e)
+where-done refusal done kept e = pick-yes done kept (eq-eqb refusal 0 e)

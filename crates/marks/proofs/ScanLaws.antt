@@ -13,15 +13,10 @@ use lib.Dec.{T, eqb, ltb}
 use lib.ListN.{length, getD, drop, length-drop}
 use lib.Seq.{drop-cons}
 use Rattle.common.specs.Pick.{pick}
+use Rattle.common.proofs.PickLaws.{pick-by}
 use Rattle.marks.specs.Marks.{legalMark, legalMarks, isError}
 use Rattle.marks.specs.Scan.{scanFrom, scanOf}
 use Rattle.marks.specs.declared.Scan.{Scan}
-
--- a claim of a choice, from the claim where the test holds and the claim where it fails
-pick-by : {A : Type 0} (P : A → Type 0) (b : Bool) {x y : A} → (b ≡ true → P x) → (b ≡ false → P y) → P (pick b x y)
-unfolding pick
-pick-by P true f g = f refl
-pick-by P false f g = g refl
 
 -- ---- marks with at most one error of each parity
 

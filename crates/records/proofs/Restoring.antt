@@ -15,6 +15,7 @@ use lib.ListN.{length, take, drop, getD, replicate, length-append, length-take, 
 use lib.Seq.{take-all, take-append-le, drop-append-le, drop-at, getD-take, getD-drop, getD-append-add, length-take-le, ext-getD}
 use borrow.Author.Tests.{eq-eqb, ne-eqb, eqb-false, lt-ltb, le-ltb}
 use Rattle.common.specs.Pick.{pick}
+use Rattle.common.proofs.PickLaws.{pick-yes, pick-no, pick-same, where-done}
 use Rattle.common.specs.Given.{given, filled}
 use Rattle.common.proofs.GivenLaws.{filled-length}
 use Rattle.blockettes.specs.Xor.{_⊕_, xorAll}
@@ -29,23 +30,6 @@ use Rattle.records.specs.Image.{blocketteCount, hasBlockettes, blockette
 use Rattle.records.specs.Whole.{wholeRefusal}
 use Rattle.records.specs.Restore.{writtenAt, mendedAt, restoreRefusal, restoredOf, restoredInto}
 use Rattle.records.proofs.ImageLaws.{blockettes-hold, check-length, body-gcr, image-holds}
-
--- ---- choices
-
--- a test that holds, and one that fails
-pick-yes : {A : Type 0} {b : Bool} (x y : A) → b ≡ true → pick b x y ≡ x
-unfolding pick
-pick-yes x y e = rw e
-
-pick-no : {A : Type 0} {b : Bool} (x y : A) → b ≡ false → pick b x y ≡ y
-unfolding pick
-pick-no x y e = rw e
-
--- choices that differ only where the test fails
-pick-same : {A : Type 0} (b : Bool) (z x y : A) → (b ≡ false → x ≡ y) → pick b z x ≡ pick b z y
-unfolding pick
-pick-same true z x y same = refl
-pick-same false z x y same = same refl
 
 -- ---- the count
 
@@ -462,7 +446,7 @@ pub restorer-gives : (image marks space : List ℕ) → restoreRefusal image mar
     → restoredInto image marks space ≡ given (restoredOf image marks) space
 unfolding restoredInto
 restorer-gives image marks space accepted =
-    pick-yes (given (restoredOf image marks) space) space (eq-eqb (restoreRefusal image marks (length space)) 0 accepted)
+    where-done (restoreRefusal image marks (length space)) (given (restoredOf image marks) space) space accepted
 
 -- ---- marks that are all good
 
