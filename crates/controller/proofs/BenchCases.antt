@@ -1,0 +1,123 @@
+-- The starred bench cases of document 01 that speak of the machine, as one group over the definitions.
+-- Assumes nothing.
+use mathlib.Core.Path.{_≡_, refl}
+use mathlib.Core.Bool.{Bool, true, false, not, _&&_, _||_}
+use mathlib.Core.List.{List, [], _∷_, _++_}
+use Prim.Native.Nat.{ℕ}
+use lib.ListN.{length, take, getD, replicate}
+use Rattle.common.specs.Pick.{pick}
+use Rattle.common.specs.Given.{given, filled}
+use Rattle.blockettes.specs.Xor.{_⊕_, xorAll}
+use Rattle.blockettes.specs.Blockettes.{blocketteAt, numbered, ofParity, foldParity, checkOf}
+use Rattle.marks.specs.Marks.{legalMark, legalMarks, isError}
+use Rattle.marks.specs.Scan.{scanFrom, scanOf, kindOf, numberOf, defectAt}
+use Rattle.records.specs.Count.{limit, rotated, countBytes, unrotated, countOf}
+use Rattle.records.specs.Image.{blocketteCount, hasBlockettes, blockettesOf, bodyOf, imageOf, imageLength, markCount}
+use Rattle.records.specs.Whole.{wholeRefusal, countRefusal, emptyRefusal, imageRefusal}
+use Rattle.operations.specs.Decode.{controlOf, readOf, writeOf, decodeOf}
+use Rattle.operations.specs.Test as test
+use Rattle.operations.specs.Answers.{forwardCodes, reverseCodes, endCodes, listedCodes, isIn, answerOf}
+use Rattle.operations.specs.After.{losesTape, usualMotion, motionOf, gapOf, gapAfter, retryOf}
+use Rattle.status.specs.declared.words.Word.{Word}
+use Rattle.status.specs.Drives.{reports, driveOf, withDrive, reported, differs, reviewedAll, freshDrives, resetDrives}
+use Rattle.status.specs.Words.{bit, noOutcome, anyBit, primaryOf, secondaryWord, digits, tertiaryOf, quintaryOf, reportsWord}
+use Rattle.status.specs.Strings.{stringOf, orderOf}
+use Rattle.controller.specs.declared.state.Body.{Body}
+use Rattle.controller.specs.declared.state.Controller.{Controller}
+use Rattle.controller.specs.declared.state.Action.{Action}
+use Rattle.controller.specs.declared.state.Action.the-variants.{Nothing, Byte}
+use Rattle.controller.specs.State.{startWith, fresh, resetOf, review, idle}
+use Rattle.controller.specs.Completion.{primaryNow, sent, interrupts, completed, coded}
+use Rattle.controller.specs.Link.{wholeLength, appended, loadXor, checks, firstByte, lastByte, nextByte, accepted, givenUp, saidNo, asksInterrupt, goRefused, goTaken, byteIn, brokenIn, tickWith, tickIn}
+use Rattle.controller.specs.Loads.{loadWord, loaded}
+use Rattle.controller.specs.Stores.{storeOf, namesDrive, named, asked, endedBy, settled, tracked, withDensity, motionOrder, pastTest, ordered, begun, operated, decoded, cleared, carriedOut}
+use Rattle.controller.specs.Records.{Result, Answer, isGcr, checkBytes, thrownAway, heldCount, recordBytes, runsShort, withUnderflow, zeroedWords, dataRefusal, dataDone, takesMark, isSearch, markAgainst, wholeCode, expectedWhole, expectedOf, resultRefusal, movesTape, isGone, usesImage, scanCode, finalCode, readsGcr, resultTertiary, resultQuintary, resultCheck, readBytes, delivered, handedOver, wroteWell, resultSecondary, resultBits, withRetry, withGap, resultBody, ending, resultDone}
+use Rattle.controller.specs.Damaged.{soundDrive, soundDrives, soundBody, soundLead, soundPart, soundString, soundCount, soundHeld, soundPhase, sound}
+use Rattle.controller.specs.Machine.{byteCall, brokenCall, tickCall, takenBody, takenIn, takenCall, reportCall, resetCall, dataIn, dataCall, resultIn, resultCall, Call, step}
+use Rattle.controller.specs.Machine.Call.{byte, taken, report, hostData, result}
+
+-- the last answer of a list of calls from a state, and the body that it leaves
+abbrev after : Controller → List Call → Answer → Answer
+after c [] answer = answer
+after c (call ∷ calls) answer = after (step c call .reply .controller) calls (step c call)
+
+abbrev played : List Call → Answer
+played calls = after fresh calls (record { reply = record { controller = fresh; action = Nothing; refusal = 0 }; space = []; check = [] })
+
+abbrev left : List Call → Body
+left calls = played calls .reply .controller .body
+
+-- a store of eight bytes, and taken
+abbrev store : ℕ → ℕ → ℕ → ℕ → ℕ → ℕ → List Call
+store address first second third fourth check =
+    byte 0x64 ∷ byte address ∷ byte first ∷ byte second ∷ byte third ∷ byte fourth ∷ byte 0x00 ∷ byte check ∷ taken ∷ []
+
+-- "Store 64 49 00 00 00 00 00 2D gets ACK; ending 2C, NACK."
+abbrev readStore : ℕ → List Call
+readStore check = byte 0x64 ∷ byte 0x49 ∷ byte 0x00 ∷ byte 0x00 ∷ byte 0x00 ∷ byte 0x00 ∷ byte 0x00 ∷ byte check ∷ []
+
+-- "Report #22 on drive 1, that read, .."
+abbrev readOn : ℕ → List ℕ → Bool → List Call
+readOn reported image mark =
+    report 1 reported ∷ store 0x49 0x00 0x00 0x00 0x00 0x2D
+    ++ result (record { code = 0; mark = mark; late = 0; image = image; marks = [] }) (replicate 5 0) (replicate 512 0) ∷ byte 0x06 ∷ []
+
+-- a GCR read on drive 1 with a result
+abbrev gcrRead : List ℕ → List ℕ → List Call
+gcrRead image marks =
+    report 1 0x22 ∷ store 0x39 0x00 0x00 0x00 0x0D 0x50 ++ store 0x49 0x00 0x00 0x00 0x00 0x2D
+    ++ result (record { code = 0; mark = false; late = 0; image = image; marks = marks }) (replicate 600 0) (replicate 512 0) ∷ []
+
+-- a GCR write of one byte on drive 1, up to its data call
+abbrev gcrWrite : ℕ → List Call
+gcrWrite value =
+    report 1 0x22 ∷ store 0x39 0x00 0x00 0x00 0x0D 0x50 ++ store 0x59 0x00 0x00 0x00 0x01 0x3C
+    ++ byte 0x06 ∷ hostData (value ∷ []) (replicate 770 0) (replicate 512 0) ∷ []
+
+pub record BenchCases : Type 0 where
+  pub ack : played (readStore 0x2D) .reply .action ≡ Byte 0x06
+  pub nack : played (readStore 0x2C) .reply .action ≡ Byte 0x15
+  -- ".. MFM count 5: primary 81200222; a mark instead: 81A00022."
+  pub counted : primaryNow (left (readOn 0x22 (0x80 ∷ 0x02 ∷ 1 ∷ 2 ∷ 3 ∷ 4 ∷ 5 ∷ []) false)) ≡ record { b0 = 0x81; b1 = 0x20; b2 = 0x02; b3 = 0x22 }
+  pub marked : primaryNow (left (readOn 0x22 [] true)) ≡ record { b0 = 0x81; b1 = 0xA0; b2 = 0x00; b3 = 0x22 }
+  -- "Track 3, then 4: code 03."
+  pub track-4 : left (store 0x38 0x00 0x00 0x00 0x03 0x5F ++ store 0x38 0x00 0x00 0x00 0x04 0x58) .outcome .code ≡ 0x03
+  -- "Count 16,384 offers GO, 16,385 is 02."
+  pub longest : played (report 1 0x22 ∷ store 0x59 0x00 0x00 0x40 0x00 0x7D) .reply .action ≡ Byte 0x47
+  pub too-long : left (report 1 0x22 ∷ store 0x59 0x00 0x00 0x40 0x01 0x7C) .outcome .code ≡ 0x02
+  -- "Drive 7: 01."
+  pub drive-7 : left (store 0x4F 0x00 0x00 0x00 0x00 0x2B) .outcome .code ≡ 0x01
+  -- "Read with report #A2: 04."
+  pub at-end : left (report 1 0xA2 ∷ store 0x49 0x00 0x00 0x00 0x00 0x2D) .outcome .code ≡ 0x04
+  -- "c = 600, mark 9 on blockette 1, 3 on check 0: 91013200, code 15."
+  pub one-of-each : left (gcrRead (imageOf (replicate 600 7) 1) (15 ∷ 9 ∷ 15 ∷ 15 ∷ 3 ∷ [])) .tertiary ≡ record { b0 = 0x91; b1 = 0x01; b2 = 0x32; b3 = 0x00 }
+  pub code-15 : left (gcrRead (imageOf (replicate 600 7) 1) (15 ∷ 9 ∷ 15 ∷ 15 ∷ 3 ∷ [])) .outcome .code ≡ 0x15
+  -- "6 on 2, 4 on 0: 00006102, quintary 00004100, code 16, 512 bytes."
+  pub two-even : left (gcrRead (imageOf (replicate 600 7) 1) (6 ∷ 15 ∷ 4 ∷ 15 ∷ 15 ∷ [])) .tertiary ≡ record { b0 = 0x00; b1 = 0x00; b2 = 0x61; b3 = 0x02 }
+  pub stopped : left (gcrRead (imageOf (replicate 600 7) 1) (6 ∷ 15 ∷ 4 ∷ 15 ∷ 15 ∷ [])) .quintary ≡ record { b0 = 0x00; b1 = 0x00; b2 = 0x41; b3 = 0x00 }
+  pub code-16 : left (gcrRead (imageOf (replicate 600 7) 1) (6 ∷ 15 ∷ 4 ∷ 15 ∷ 15 ∷ [])) .outcome .code ≡ 0x16
+  pub bytes-512 : played (gcrRead (imageOf (replicate 600 7) 1) (6 ∷ 15 ∷ 4 ∷ 15 ∷ 15 ∷ [])) .space ≡ replicate 512 7 ++ replicate 88 0
+  -- "c = 1, byte 5A: the 257th check byte is 5A."
+  pub check-257 : getD (played (gcrWrite 0x5A) .check) 256 0 ≡ 0x5A
+
+pub bench-cases : BenchCases
+unfolding pick given filled _⊕_ xorAll blocketteAt numbered ofParity foldParity checkOf legalMark legalMarks isError scanFrom scanOf kindOf numberOf defectAt limit rotated countBytes unrotated countOf blocketteCount hasBlockettes blockettesOf bodyOf imageOf imageLength markCount wholeRefusal countRefusal emptyRefusal imageRefusal controlOf readOf writeOf decodeOf test.ready test.placed test.aheadFree test.behindFree test.writable test.mayMove forwardCodes reverseCodes endCodes listedCodes isIn answerOf losesTape motionOf gapOf gapAfter retryOf reports driveOf withDrive reported differs reviewedAll freshDrives resetDrives bit noOutcome anyBit primaryOf secondaryWord digits tertiaryOf quintaryOf reportsWord stringOf orderOf startWith fresh resetOf review idle primaryNow sent interrupts completed coded wholeLength appended loadXor checks firstByte lastByte nextByte accepted givenUp saidNo asksInterrupt goRefused goTaken byteIn brokenIn tickWith tickIn loadWord loaded storeOf namesDrive named asked endedBy settled tracked withDensity motionOrder pastTest ordered begun operated decoded cleared carriedOut isGcr checkBytes thrownAway heldCount recordBytes runsShort withUnderflow zeroedWords dataRefusal dataDone takesMark isSearch markAgainst wholeCode expectedWhole expectedOf resultRefusal movesTape isGone usesImage scanCode finalCode readsGcr resultTertiary resultQuintary resultCheck readBytes delivered handedOver wroteWell resultSecondary resultBits withRetry withGap resultBody ending resultDone soundDrive soundDrives soundBody soundLead soundPart soundString soundCount soundHeld soundPhase sound byteCall brokenCall tickCall takenBody takenIn takenCall reportCall resetCall dataIn dataCall resultIn resultCall step
+bench-cases =
+    record {
+      ack = refl;
+      nack = refl;
+      counted = refl;
+      marked = refl;
+      track-4 = refl;
+      longest = refl;
+      too-long = refl;
+      drive-7 = refl;
+      at-end = refl;
+      one-of-each = refl;
+      code-15 = refl;
+      two-even = refl;
+      stopped = refl;
+      code-16 = refl;
+      bytes-512 = refl;
+      check-257 = refl;
+    }

@@ -1,0 +1,131 @@
+-- The machine of document 01: its eight calls as one type, a step, and a run over a list of calls. "Calls: byte; taken; broken; report;
+-- data; result; tick; reset. The state goes in and the next state comes out, with one action or none".
+-- Assumes nothing.
+use Prim.Native.Nat.{ℕ}
+use mathlib.Core.List.{List, [], _∷_}
+use lib.Dec.{leb, eqb}
+use lib.ListN.{length}
+use Rattle.common.specs.Pick.{pick}
+use Rattle.operations.specs.declared.operation.Operation.{Operation}
+use Rattle.status.specs.Drives.{driveOf, withDrive, reported}
+use Rattle.controller.specs.declared.state.Phase.{Phase}
+use Rattle.controller.specs.declared.state.Phase.the-variants.{Collecting, AckOffered, Sending, GoOffered, DataAwaited, ResultAwaited, EndOffered}
+use Rattle.controller.specs.declared.state.Body.{Body}
+use Rattle.controller.specs.declared.state.Controller.{Controller}
+use Rattle.controller.specs.declared.state.Action.the-variants.{Nothing}
+use Rattle.controller.specs.declared.state.Reply.{Reply}
+use Rattle.controller.specs.State.{setDrives, resetOf, done, refused}
+use Rattle.controller.specs.Link.{byteIn, brokenIn, tickIn}
+use Rattle.controller.specs.Loads.{loaded}
+use Rattle.controller.specs.Stores.{storeOf, carriedOut}
+use Rattle.controller.specs.Records.{Answer, Result, dataRefusal, dataDone, resultRefusal, resultDone}
+use Rattle.controller.specs.Damaged.{sound}
+
+-- ---- the eight calls
+
+unfoldable pub byteCall : Controller → ℕ → Reply
+byteCall c byte = pick (sound c) (byteIn c (c .body) byte (c .phase)) (refused 1 c)
+
+unfoldable pub brokenCall : Controller → Reply
+brokenCall c = pick (sound c) (brokenIn c (c .body) (c .phase)) (refused 1 c)
+
+unfoldable pub tickCall : Controller → Reply
+tickCall c = pick (sound c) (tickIn c (c .body) (c .phase)) (refused 1 c)
+
+-- "Then taken carries it out": a load or a store, by its lead
+unfoldable pub takenBody : Body → Reply
+takenBody b = pick (eqb (b .collected .c0) 0x62) (loaded b (b .collected .c1)) (carriedOut b (storeOf (b .collected)))
+
+-- "2 .. taken with no ACK offered"
+unfoldable pub takenIn : Controller → Body → Phase → Reply
+takenIn c b AckOffered = takenBody b
+takenIn c b Collecting = refused 2 c
+takenIn c b (Sending s) = refused 2 c
+takenIn c b (GoOffered store) = refused 2 c
+takenIn c b (DataAwaited store) = refused 2 c
+takenIn c b (ResultAwaited operation store) = refused 2 c
+takenIn c b (EndOffered interrupt) = refused 2 c
+
+unfoldable pub takenCall : Controller → Reply
+takenCall c = pick (sound c) (takenIn c (c .body) (c .phase)) (refused 1 c)
+
+-- "5 drive above 3"
+unfoldable pub reportCall : Controller → ℕ → ℕ → Reply
+reportCall c drive report =
+    pick (sound c)
+    (pick (leb 4 drive) (refused 5 c)
+    (done
+    (record {
+      body = setDrives (c .body) (withDrive (c .body .drives) drive (reported (driveOf (c .body .drives) drive) report));
+      phase = c .phase;
+    })
+    Nothing))
+    (refused 1 c)
+
+unfoldable pub resetCall : Controller → Reply
+resetCall c = pick (sound c) (done (resetOf (c .body)) Nothing) (refused 1 c)
+
+-- a refused data or result call: "state and buffers unchanged"
+abbrev pub unchanged : ℕ → Controller → List ℕ → List ℕ → Answer
+unchanged number c space check = record { reply = refused number c; space = space; check = check }
+
+-- "3 data or result not awaited"
+unfoldable pub dataIn : Controller → Body → List ℕ → List ℕ → List ℕ → Phase → Answer
+dataIn c b host space check (DataAwaited store) =
+    pick (eqb (dataRefusal b store (length space) (length check)) 0) (dataDone b store host space check)
+    (unchanged (dataRefusal b store (length space) (length check)) c space check)
+dataIn c b host space check Collecting = unchanged 3 c space check
+dataIn c b host space check AckOffered = unchanged 3 c space check
+dataIn c b host space check (Sending s) = unchanged 3 c space check
+dataIn c b host space check (GoOffered store) = unchanged 3 c space check
+dataIn c b host space check (ResultAwaited operation store) = unchanged 3 c space check
+dataIn c b host space check (EndOffered interrupt) = unchanged 3 c space check
+
+unfoldable pub dataCall : Controller → List ℕ → List ℕ → List ℕ → Answer
+dataCall c host space check = pick (sound c) (dataIn c (c .body) host space check (c .phase)) (unchanged 1 c space check)
+
+unfoldable pub resultIn : Controller → Body → Result → List ℕ → List ℕ → Phase → Answer
+resultIn c b r space check (ResultAwaited operation store) =
+    pick (eqb (resultRefusal b operation r (length check)) 0) (resultDone b operation store r space check)
+    (unchanged (resultRefusal b operation r (length check)) c space check)
+resultIn c b r space check Collecting = unchanged 3 c space check
+resultIn c b r space check AckOffered = unchanged 3 c space check
+resultIn c b r space check (Sending s) = unchanged 3 c space check
+resultIn c b r space check (GoOffered store) = unchanged 3 c space check
+resultIn c b r space check (DataAwaited store) = unchanged 3 c space check
+resultIn c b r space check (EndOffered interrupt) = unchanged 3 c space check
+
+unfoldable pub resultCall : Controller → Result → List ℕ → List ℕ → Answer
+resultCall c r space check = pick (sound c) (resultIn c (c .body) r space check (c .phase)) (unchanged 1 c space check)
+
+-- ---- a step and a run
+
+-- a call with all its inputs, lent space included
+pub data Call : Type 0 where
+  byte : ℕ → Call
+  taken : Call
+  broken : Call
+  report : ℕ → ℕ → Call
+  hostData : List ℕ → List ℕ → List ℕ → Call
+  result : Result → List ℕ → List ℕ → Call
+  tick : Call
+  reset : Call
+
+-- an answer of a call that is lent nothing
+abbrev pub plain : Reply → Answer
+plain r = record { reply = r; space = []; check = [] }
+
+unfoldable pub step : Controller → Call → Answer
+step c (byte b) = plain (byteCall c b)
+step c taken = plain (takenCall c)
+step c broken = plain (brokenCall c)
+step c (report drive r) = plain (reportCall c drive r)
+step c (hostData host space check) = dataCall c host space check
+step c (result r space check) = resultCall c r space check
+step c tick = plain (tickCall c)
+step c reset = plain (resetCall c)
+
+-- "each call gets the state that the last one handed back": the answers, in order
+unfoldable pub run : Controller → List Call → List Answer
+run c [] = []
+run c (call ∷ calls) = step c call ∷ run (step c call .reply .controller) calls

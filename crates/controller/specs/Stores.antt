@@ -1,0 +1,111 @@
+-- Stores (document 01, Stores): "Carrying out: clear primary bits 2 and 8-22; a named drive above 3 is code 01 with selection unchanged,
+-- else select it; decode; test. A code here ends the store with motion 00."
+-- Assumes nothing.
+use Prim.Native.Nat.{ℕ, _/_, _%_}
+use mathlib.Core.Bool.{Bool}
+use lib.Dec.{leb, eqb}
+use Rattle.common.specs.Pick.{pick}
+use Rattle.operations.specs.declared.operation.Operation.{Operation}
+use Rattle.operations.specs.declared.operation.Operation.the-variants.{Read, CheckBytes, Write, Erase, Rewind, FastForward, SkipForward, SkipReverse, SearchForward, SearchReverse, WriteMark}
+use Rattle.operations.specs.declared.decode.Decoded.{Decoded}
+use Rattle.operations.specs.declared.decode.Decoded.the-variants.{Reset, Code, Track, Enable, Density, Operate}
+use Rattle.operations.specs.Operation.{moveOf, orderByte, countsBytes}
+use Rattle.operations.specs.Decode.{decodeOf}
+use Rattle.operations.specs.Test.{mayMove}
+use Rattle.status.specs.declared.drives.Drive.{Drive}
+use Rattle.status.specs.declared.strings.Six.{Six}
+use Rattle.status.specs.Drives.{reports}
+use Rattle.status.specs.Words.{noOutcome}
+use Rattle.status.specs.Strings.{orderOf}
+use Rattle.controller.specs.declared.state.Store.{Store}
+use Rattle.controller.specs.declared.state.Collected.{Collected}
+use Rattle.controller.specs.declared.state.Phase.the-variants.{GoOffered, ResultAwaited}
+use Rattle.controller.specs.declared.state.Body.{Body}
+use Rattle.controller.specs.declared.state.Action.the-variants.{Nothing, Byte, Order}
+use Rattle.controller.specs.declared.state.Reply.{Reply}
+use Rattle.controller.specs.State.{setSelected, setFlags, setOutcome, setWords, setCurrent, current, resetOf, done}
+use Rattle.controller.specs.Completion.{completed, coded}
+use Rattle.controller.specs.Link.{asksInterrupt}
+
+-- the store that was collected
+unfoldable pub storeOf : Collected → Store
+storeOf s = record { address = s .c1; first = s .c2; second = s .c3; third = s .c4; fourth = s .c5 }
+
+-- "bit 4 names a drive, 5-7 its number"
+unfoldable pub namesDrive : Store → Bool
+namesDrive store = eqb (store .address / 8 % 2) 1
+
+unfoldable pub named : Store → ℕ
+named store = store .address % 8
+
+-- "1-3 are the operation"
+unfoldable pub asked : Store → Decoded
+asked store = decodeOf (store .address / 16 % 8) (store .first) (store .third) (store .fourth)
+
+-- a code ends the store
+unfoldable pub endedBy : Body → Store → ℕ → Reply
+endedBy b store code = completed (coded b code) (asksInterrupt store)
+
+-- a setting is made, and the store is done
+unfoldable pub settled : Body → Store → Reply
+settled b store = completed b (asksInterrupt store)
+
+-- "A new track sets the gap to 0 if BOT is reported, else 3; the same track changes nothing."
+unfoldable pub tracked : Drive → ℕ → Drive
+tracked drive track =
+    pick (eqb (drive .track) track) drive
+    (record { report = drive .report; reviewed = drive .reviewed; track = track; density = drive .density; gap = pick (reports (drive .report) 1) 0 3 })
+
+unfoldable pub withDensity : Drive → ℕ → Drive
+withDensity drive density =
+    record { report = drive .report; reviewed = drive .reviewed; track = drive .track; density = density; gap = drive .gap }
+
+-- "A motion order is six bytes: operation (..), drive, track, density, last two operand bytes."
+unfoldable pub motionOrder : Body → Operation → Store → Six
+motionOrder b operation store =
+    orderOf (orderByte operation) (b .selected) (current b .track) (current b .density) (store .third) (store .fourth)
+
+-- "Past the test, read, skip and write set secondary to 0."
+unfoldable pub pastTest : Body → Operation → Body
+pastTest b operation = pick (countsBytes operation) (setWords b 0 (b .tertiary) (b .quintary)) b
+
+-- the move is ordered, and its result awaited
+unfoldable pub ordered : Body → Operation → Store → Reply
+ordered b operation store =
+    done (record { body = b; phase = ResultAwaited operation store }) (Order (motionOrder b operation store))
+
+-- "A write offers GO"; "Check bytes give no order but await a result."
+unfoldable pub begun : Body → Operation → Store → Reply
+begun b Write store = done (record { body = b; phase = GoOffered store }) (Byte 0x47)
+begun b CheckBytes store = done (record { body = b; phase = ResultAwaited CheckBytes store }) Nothing
+begun b Read store = ordered b Read store
+begun b Erase store = ordered b Erase store
+begun b Rewind store = ordered b Rewind store
+begun b FastForward store = ordered b FastForward store
+begun b SkipForward store = ordered b SkipForward store
+begun b SkipReverse store = ordered b SkipReverse store
+begun b SearchForward store = ordered b SearchForward store
+begun b SearchReverse store = ordered b SearchReverse store
+begun b WriteMark store = ordered b WriteMark store
+
+-- "Code 04 unless: .."
+unfoldable pub operated : Body → Operation → Store → Reply
+operated b operation store =
+    pick (mayMove (moveOf operation) (current b .report)) (begun (pastTest b operation) operation store) (endedBy b store 0x04)
+
+-- "0: reset, then collecting, with no completion."; "08/09 clear/set enable"
+unfoldable pub decoded : Body → Store → Decoded → Reply
+decoded b store Reset = done (resetOf b) Nothing
+decoded b store (Code code) = endedBy b store code
+decoded b store (Track track) = settled (setCurrent b (tracked (current b) track)) store
+decoded b store (Enable enable) = settled (setFlags b (b .changed) enable) store
+decoded b store (Density density) = settled (setCurrent b (withDensity (current b) density)) store
+decoded b store (Operate operation) = operated b operation store
+
+unfoldable pub cleared : Body → Body
+cleared b = setOutcome b noOutcome
+
+unfoldable pub carriedOut : Body → Store → Reply
+carriedOut b store =
+    pick (namesDrive store) (pick (leb 4 (named store)) (endedBy (cleared b) store 0x01) (decoded (setSelected (cleared b) (named store)) store (asked store)))
+    (decoded (cleared b) store (asked store))

@@ -1,0 +1,5 @@
+pub mod Operation
+pub mod Decode
+pub mod Test
+pub mod Answers
+pub mod After

@@ -1,0 +1,78 @@
+// What an operation leaves: motion, gap and retry.
+use crate::operation::Move;
+ghost use mathlib.Core.Path.{_≡_};
+ghost use Rattle.operations.specs.After.{losesTape, usualMotion, motionOf, gapOf, gapAfter, retryOf};
+
+// The motion after which nobody knows where the tape is.
+const LOST: u8 = 3;
+
+// The codes that leave it so.
+pub fn loses_tape(code: u8) -> bool
+    ensures { λ r. ⌜ r ≡ losesTape code ⌝ }
+{
+    (code == 0x6)
+        | ((code == 0x7) | ((code == 0x8) | ((code == 0x9) | ((code == 0x17) | (code == 0x18)))))
+}
+
+// The motion of an operation that loses nothing.
+pub fn usual_motion(movement: Move) -> u8
+    ensures { λ r. ⌜ r ≡ usualMotion movement ⌝ }
+{
+    match movement {
+        Move::Still => 0,
+        Move::Forward => 1,
+        Move::Reverse => 2,
+        Move::Rewinding => 2,
+        Move::Winding => 1,
+        Move::Writing => 1,
+        Move::Erasing => 0,
+    }
+}
+
+// The motion by the final code.
+pub fn motion(movement: Move, code: u8) -> u8
+    ensures { λ r. ⌜ r ≡ motionOf movement code ⌝ }
+{
+    let lost = loses_tape(code);
+    if lost {
+        return LOST;
+    }
+    usual_motion(movement)
+}
+
+// The gap after a move that was made and lost nothing.
+pub fn gap_of(movement: Move, code: u8) -> u8
+    ensures { λ r. ⌜ r ≡ gapOf movement code ⌝ }
+{
+    let good = code == 0;
+    match movement {
+        Move::Still => if good { 0 } else { 1 },
+        Move::Forward => if good { 0 } else { 1 },
+        Move::Reverse => 0,
+        Move::Rewinding => 0,
+        Move::Winding => 3,
+        Move::Writing => if good { 0 } else { 2 },
+        Move::Erasing => if good { 0 } else { 1 },
+    }
+}
+
+// The gap by the final code, from the gap before.
+pub fn gap_after(movement: Move, code: u8, gap: u8) -> u8
+    ensures { λ r. ⌜ r ≡ gapAfter movement code gap ⌝ }
+{
+    let moved = motion(movement, code);
+    if moved == 0 {
+        return gap;
+    }
+    if moved == LOST {
+        return 3;
+    }
+    gap_of(movement, code)
+}
+
+// Bit 2, by the final code and whether any of bits 16-20 is set.
+pub fn retry(code: u8, any_bit: bool) -> bool
+    ensures { λ r. ⌜ r ≡ retryOf code «any_bit» ⌝ }
+{
+    !(code == 0) | any_bit
+}

@@ -1,0 +1,13 @@
+-- `status::drives::any_differs` meets its contract: it is its definition.
+-- Assumes nothing.
+use mathlib.Core.Path.{refl}
+use Rattle.status.specs.Drives.{differs}
+use Rattle.status.proofs.drives.any_differs.Statement.{statement}
+use Rattle.status.proofs.drives.any_differs.Tie as tie
+
+returns : tie.Need-returns
+unfolding differs
+returns c = refl
+
+pub any-differs-spec : {M : Type 1} → statement M
+any-differs-spec = tie.close (tie.spec returns)

@@ -1,0 +1,70 @@
+-- The status words (document 01, Loads, restorer, session; Records), four bytes each, high byte first. "Bits of a 32-bit word count
+-- from 0, the most significant."
+-- Assumes nothing.
+use Prim.Native.Nat.{ℕ, _+_, _*_, _/_, _%_}
+use mathlib.Core.Bool.{Bool, false, _||_}
+use Rattle.common.specs.Pick.{pick}
+use Rattle.marks.specs.declared.Defect.{Defect}
+use Rattle.status.specs.declared.drives.Drive.{Drive}
+use Rattle.status.specs.declared.drives.Drives.{Drives}
+use Rattle.status.specs.declared.words.Word.{Word}
+use Rattle.status.specs.declared.words.Outcome.{Outcome}
+
+-- a bit of a byte, by its weight there
+unfoldable pub bit : Bool → ℕ → ℕ
+bit set weight = pick set weight 0
+
+-- "clear primary bits 2 and 8-22"
+unfoldable pub noOutcome : Outcome
+noOutcome =
+    record {
+      retry = false;
+      mark = false;
+      motion = 0;
+      code = 0;
+      parity = false;
+      overflow = false;
+      underflow = false;
+      wdl = false;
+      rdl = false;
+      supplied = false;
+      counted = false;
+    }
+
+-- "any of bits 16-20"
+unfoldable pub anyBit : Outcome → Bool
+anyBit outcome = outcome .parity || (outcome .overflow || (outcome .underflow || (outcome .wdl || outcome .rdl)))
+
+-- "Primary: changed, enable, retry, track (3-5), drive (6-7), mark, motion (9-10), code (11-15), 16-22 as said, density, report."
+unfoldable pub primaryOf : Bool → Bool → Outcome → ℕ → Drive → Word
+primaryOf changed enable outcome selected drive =
+    record {
+      b0 = bit changed 128 + bit enable 64 + bit (outcome .retry) 32 + drive .track % 8 * 4 + selected % 4;
+      b1 = bit (outcome .mark) 128 + outcome .motion % 4 * 32 + outcome .code % 32;
+      b2 =
+          bit (outcome .parity) 128 + bit (outcome .overflow) 64 + bit (outcome .underflow) 32 + bit (outcome .wdl) 16 + bit (outcome .rdl) 8
+          + bit (outcome .supplied) 4
+          + bit (outcome .counted) 2
+          + drive .density % 2;
+      b3 = drive .report;
+    }
+
+-- secondary: a count in the last two bytes
+unfoldable pub secondaryWord : ℕ → Word
+secondaryWord count = record { b0 = 0; b1 = 0; b2 = count / 256 % 256; b3 = count % 256 }
+
+-- "mark and kind .. as two digits"
+unfoldable pub digits : Defect → ℕ
+digits defect = defect .mark % 16 * 16 + defect .kind % 16
+
+-- "Tertiary: first odd error's mark and kind (1 data, 2 check) as two digits, its number, then the same for even; zero where none."
+unfoldable pub tertiaryOf : Defect → Defect → Word
+tertiaryOf odd even = record { b0 = digits odd; b1 = odd .number; b2 = digits even; b3 = even .number }
+
+-- "Quintary: 00 00, mark and kind, number of the stopping one."
+unfoldable pub quintaryOf : Defect → Word
+quintaryOf stop = record { b0 = 0; b1 = 0; b2 = digits stop; b3 = stop .number }
+
+-- load 4: "reports, drive 0 first"
+unfoldable pub reportsWord : Drives → Word
+reportsWord drives = record { b0 = drives .d0 .report; b1 = drives .d1 .report; b2 = drives .d2 .report; b3 = drives .d3 .report }

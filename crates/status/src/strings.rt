@@ -1,0 +1,48 @@
+// Strings of six bytes: those that carry a status word to the host, and motion orders.
+use crate::words::Word;
+ghost use mathlib.Core.Path.{_≡_};
+ghost use Rattle.status.specs.Strings.{stringOf, orderOf};
+
+// Leads of sent strings.
+pub const LOAD_REPLY: u8 = 0x66;
+
+pub const SECONDARY_UPDATE: u8 = 0x68;
+
+pub const INTERRUPT: u8 = 0x69;
+
+pub struct Six {
+    pub b0: u8,
+    pub b1: u8,
+    pub b2: u8,
+    pub b3: u8,
+    pub b4: u8,
+    pub b5: u8,
+}
+
+// A lead, a status word and the check byte that makes the XOR of all six 0.
+pub fn string_of(lead: u8, word: Word) -> Six
+    ensures { λ r. ⌜ r ≡ stringOf lead word ⌝ }
+{
+    Six {
+        b0: lead,
+        b1: word.b0,
+        b2: word.b1,
+        b3: word.b2,
+        b4: word.b3,
+        b5: lead ^ word.b0 ^ word.b1 ^ word.b2 ^ word.b3,
+    }
+}
+
+// A motion order.
+pub fn order_of(operation: u8, drive: u8, track: u8, density: u8, third: u8, fourth: u8) -> Six
+    ensures { λ r. ⌜ r ≡ orderOf operation drive track density third fourth ⌝ }
+{
+    Six {
+        b0: operation,
+        b1: drive,
+        b2: track,
+        b3: density,
+        b4: third,
+        b5: fourth,
+    }
+}

@@ -1,0 +1,146 @@
+// Status words: four bytes, high byte first.
+//
+//   primary   bit 0 changed, 1 enable, 2 retry, 3-5 track, 6-7 drive
+//             bit 8 mark, 9-10 motion, 11-15 code
+//             bit 16 host parity, 17 overflow, 18 underflow, 19 write data late, 20 read data late, 21 supplied count, 22 count valid, 23 density
+//             bits 24-31 report
+use crate::drives::Drive;
+use crate::drives::Drives;
+use marks::Defect;
+ghost use mathlib.Core.Path.{_≡_};
+ghost use Prim.Native.Nat.{_≤_};
+ghost use Rattle.status.specs.Words.{bit, noOutcome, anyBit, primaryOf, secondaryWord, digits, tertiaryOf, quintaryOf, reportsWord};
+
+pub struct Word {
+    pub b0: u8,
+    pub b1: u8,
+    pub b2: u8,
+    pub b3: u8,
+}
+
+// The fields of primary that a store sets: bits 2 and 8-22.
+pub struct Outcome {
+    pub retry: bool,
+    pub mark: bool,
+    pub motion: u8,
+    pub code: u8,
+    pub parity: bool,
+    pub overflow: bool,
+    pub underflow: bool,
+    pub wdl: bool,
+    pub rdl: bool,
+    pub supplied: bool,
+    pub counted: bool,
+}
+
+// A bit of a byte.
+fn bit_of(set: bool, weight: u8) -> u8
+    ensures { λ r. ⌜ r ≡ bit set weight ⌝ }
+    ensures { λ r. ⌜ r ≤ weight ⌝ }
+{
+    if set { weight } else { 0 }
+}
+
+// Nothing set.
+pub fn no_outcome() -> Outcome
+    ensures { λ r. ⌜ r ≡ noOutcome ⌝ }
+{
+    Outcome {
+        retry: false,
+        mark: false,
+        motion: 0,
+        code: 0,
+        parity: false,
+        overflow: false,
+        underflow: false,
+        wdl: false,
+        rdl: false,
+        supplied: false,
+        counted: false,
+    }
+}
+
+// Whether any of bits 16-20 is set.
+pub fn any_bit(outcome: Outcome) -> bool
+    ensures { λ r. ⌜ r ≡ anyBit outcome ⌝ }
+{
+    outcome.parity | (outcome.overflow | (outcome.underflow | (outcome.wdl | outcome.rdl)))
+}
+
+// Primary.
+pub fn primary(changed: bool, enable: bool, outcome: Outcome, selected: u8, drive: Drive) -> Word
+    ensures { λ r. ⌜ r ≡ primaryOf changed enable outcome selected drive ⌝ }
+{
+    Word {
+        b0: bit_of(changed, 128)
+            + bit_of(enable, 64)
+            + bit_of(outcome.retry, 32)
+            + drive.track % 8 * 4
+            + selected % 4,
+        b1: bit_of(outcome.mark, 128) + outcome.motion % 4 * 32 + outcome.code % 32,
+        b2: bit_of(outcome.parity, 128)
+            + bit_of(outcome.overflow, 64)
+            + bit_of(outcome.underflow, 32)
+            + bit_of(outcome.wdl, 16)
+            + bit_of(outcome.rdl, 8)
+            + bit_of(outcome.supplied, 4)
+            + bit_of(outcome.counted, 2)
+            + drive.density % 2,
+        b3: drive.report,
+    }
+}
+
+// Secondary.
+pub fn secondary_word(count: u32) -> Word
+    ensures { λ r. ⌜ r ≡ secondaryWord count ⌝ }
+{
+    Word {
+        b0: 0,
+        b1: 0,
+        b2: (count / 256 % 256) as u8,
+        b3: (count % 256) as u8,
+    }
+}
+
+// An error's mark and kind as two digits.
+fn digits_of(defect: Defect) -> u8
+    ensures { λ r. ⌜ r ≡ digits defect ⌝ }
+{
+    defect.mark % 16 * 16 + defect.kind % 16
+}
+
+// Tertiary.
+pub fn tertiary(odd: Defect, even: Defect) -> Word
+    ensures { λ r. ⌜ r ≡ tertiaryOf odd even ⌝ }
+{
+    Word {
+        b0: digits_of(odd),
+        b1: odd.number,
+        b2: digits_of(even),
+        b3: even.number,
+    }
+}
+
+// Quintary.
+pub fn quintary(stop: Defect) -> Word
+    ensures { λ r. ⌜ r ≡ quintaryOf stop ⌝ }
+{
+    Word {
+        b0: 0,
+        b1: 0,
+        b2: digits_of(stop),
+        b3: stop.number,
+    }
+}
+
+// The four reports.
+pub fn reports_word(drives: Drives) -> Word
+    ensures { λ r. ⌜ r ≡ reportsWord drives ⌝ }
+{
+    Word {
+        b0: drives.d0.report,
+        b1: drives.d1.report,
+        b2: drives.d2.report,
+        b3: drives.d3.report,
+    }
+}
