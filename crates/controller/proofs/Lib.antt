@@ -1,1 +1,2 @@
+pub mod CompletionLaws
 pub mod BenchCases

@@ -3,19 +3,21 @@
 -- Assumes nothing.
 use Prim.Native.Nat.{ℕ}
 use mathlib.Core.Bool.{Bool, true, false, _||_}
+use mathlib.Core.List.{List, [], _∷_}
 use Rattle.status.specs.declared.drives.Drive.{Drive}
 use Rattle.status.specs.declared.drives.Drives.{Drives}
 use Rattle.status.specs.declared.words.Outcome.{Outcome}
+use Rattle.status.specs.declared.strings.Six.{Six}
 use Rattle.status.specs.declared.words.Word.{Word}
 use Rattle.status.specs.Drives.{driveOf, withDrive, differs, reviewedAll, freshDrives, resetDrives}
-use Rattle.status.specs.Words.{noOutcome, secondaryWord}
+use Rattle.status.specs.Words.{noOutcome}
 use Rattle.controller.specs.declared.state.Collected.{Collected}
 use Rattle.controller.specs.declared.state.Phase.{Phase}
 use Rattle.controller.specs.declared.state.Phase.the-variants.{Collecting}
 use Rattle.controller.specs.declared.state.Body.{Body}
 use Rattle.controller.specs.declared.state.Controller.{Controller}
 use Rattle.controller.specs.declared.state.Action.{Action}
-use Rattle.controller.specs.declared.state.Action.the-variants.{Nothing}
+use Rattle.controller.specs.declared.state.Action.the-variants.{Nothing, Byte, Text, Order}
 use Rattle.controller.specs.declared.state.Reply.{Reply}
 
 -- ---- setters
@@ -93,6 +95,18 @@ resetOf b = startWith (resetDrives (b .drives))
 unfoldable pub review : Body → Body
 review b =
     record { drives = reviewedAll (b .drives); selected = b .selected; changed = b .changed || differs (b .drives); enable = b .enable; outcome = b .outcome; secondary = b .secondary; tertiary = b .tertiary; quintary = b .quintary; collected = b .collected }
+
+-- ---- actions
+
+abbrev pub sixBytes : Six → List ℕ
+sixBytes s = s .b0 ∷ s .b1 ∷ s .b2 ∷ s .b3 ∷ s .b4 ∷ s .b5 ∷ []
+
+-- "one action or none: a byte, a string, a motion order": the bytes of each
+unfoldable pub actionBytes : Action → List ℕ
+actionBytes Nothing = []
+actionBytes (Byte b) = b ∷ []
+actionBytes (Text s) = sixBytes s
+actionBytes (Order s) = sixBytes s
 
 -- ---- replies
 

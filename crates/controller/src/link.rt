@@ -19,6 +19,7 @@ pub fn append(mut s: Collected, byte: u8) -> Collected
     ensures { λ r. ⌜ r ≡ appended s byte ⌝ }
 {
     let at = s.length;
+    s.length = at + 1;
     match at {
         0 => s.c0 = byte,
         1 => s.c1 = byte,
@@ -29,7 +30,6 @@ pub fn append(mut s: Collected, byte: u8) -> Collected
         6 => s.c6 = byte,
         _ => s.c7 = byte,
     }
-    s.length = at + 1;
     s
 }
 

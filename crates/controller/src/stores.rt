@@ -1,19 +1,27 @@
 // Stores: what the address and the operand ask for.
 use crate::body::current_drive;
+use crate::body::reply;
+use crate::completion::complete;
+use crate::link::asks_interrupt;
+use crate::state::Action;
 use crate::state::Body;
 use crate::state::Collected;
+use crate::state::Controller;
+use crate::state::Phase;
+use crate::state::Reply;
 use crate::state::Store;
 use operations::decode::Decoded;
 use operations::decode::decode;
 use operations::operation::Operation;
 use operations::operation::counts_bytes;
+use operations::operation::offers_end;
 use operations::operation::order_byte;
 use status::drives::Drive;
 use status::strings::Six;
 use status::strings::order_of;
 ghost use mathlib.Core.Path.{_≡_};
 ghost use Rattle.controller.specs.Stores.{storeOf, namesDrive, named, asked, tracked, withDensity, motionOrder, pastTest};
-ghost use Rattle.controller.specs.Records.{thrownAway, heldCount};
+ghost use Rattle.controller.specs.Records.{heldCount, ending};
 
 // The store that was collected.
 pub fn store_of(s: Collected) -> Store
@@ -112,4 +120,20 @@ pub fn past_test(mut b: Body, operation: Operation) -> Body
         b.secondary = 0;
     }
     b
+}
+
+// The end of an operation with a result: EOR is offered, or the store is completed at once.
+pub fn end_operation(b: Body, operation: Operation, store: Store) -> Reply
+    ensures { λ r. ⌜ r ≡ ending b operation store ⌝ }
+{
+    let asked = asks_interrupt(store);
+    let offered = offers_end(operation);
+    if offered {
+        let c = Controller {
+            body: b,
+            phase: Phase::EndOffered(asked),
+        };
+        return reply(c, Action::Byte(0x45));
+    }
+    complete(b, asked)
 }

@@ -1,11 +1,13 @@
+-- `controller::completion::with_code` meets its contract: three fields are set.
+-- Assumes nothing.
+use mathlib.Core.Path.{refl}
+use Rattle.controller.specs.Completion.{coded}
 use Rattle.controller.proofs.completion.with_code.Statement.{statement}
 use Rattle.controller.proofs.completion.with_code.Tie as tie
-use Rattle.controller.proofs.completion.with_code.Reads as reads
-use Rattle.controller.proofs.completion.with_code.Lts as lts
 
--- src/completion.rt:74:1
 returns : tie.Need-returns
-returns c = ?
+unfolding coded
+returns c = refl
 
 pub with-code-spec : {M : Type 1} → statement M
 with-code-spec = tie.close (tie.spec returns)

@@ -1,11 +1,13 @@
+-- `controller::damaged::sound_drive` meets its contract: it is its definition.
+-- Assumes nothing.
+use mathlib.Core.Path.{refl}
+use Rattle.controller.specs.Damaged.{soundDrive}
 use Rattle.controller.proofs.damaged.sound_drive.Statement.{statement}
 use Rattle.controller.proofs.damaged.sound_drive.Tie as tie
-use Rattle.controller.proofs.damaged.sound_drive.Reads as reads
-use Rattle.controller.proofs.damaged.sound_drive.Lts as lts
 
--- src/damaged.rt:16:1
 returns : tie.Need-returns
-returns c = ?
+unfolding soundDrive
+returns c = refl
 
 pub sound-drive-spec : {M : Type 1} → statement M
 sound-drive-spec = tie.close (tie.spec returns)

@@ -1,47 +1,46 @@
+-- `controller::loads::load_word` meets its contract: by the operation.
+-- Assumes nothing.
+use Rattle.common.specs.Pick.{pick}
 use borrow.Author.Needs.{needs}
+use Rattle.controller.specs.Loads.{loadWord}
+use borrow.Author.Tests.{ne-eqb}
 use Rattle.controller.proofs.loads.load_word.Statement.{statement}
 use Rattle.controller.proofs.loads.load_word.Tie as tie
-use Rattle.controller.proofs.loads.load_word.Reads as reads
-use Rattle.controller.proofs.loads.load_word.Lts as lts
-use Rattle.controller.proofs.completion.primary_now.Reads as primary-now-reads
-use Rattle.status.proofs.words.reports_word.Reads as reports-word-reads
-use Rattle.status.proofs.words.secondary_word.Reads as secondary-word-reads
 
--- src/loads.rt:21:14
 primary-now-requires : tie.Need-primary-now-requires
 primary-now-requires c κs = search needs
 
--- src/loads.rt:22:14
 secondary-word-requires : tie.Need-secondary-word-requires
 secondary-word-requires c κs = search needs
 
--- src/loads.rt:24:14
 reports-word-requires : tie.Need-reports-word-requires
 reports-word-requires c κs = search needs
 
--- src/loads.rt:11:1
 returns : tie.Need-returns
-returns c = ?
+unfolding loadWord pick
+returns c = simp (c .match .keys1)
 
--- src/loads.rt:11:1
 returns-2 : tie.Need-returns-2
-returns-2 c = ?
+unfolding loadWord pick
+returns-2 c = simp (c .primary-now .ensures, c .before .match .keys2)
 
--- src/loads.rt:11:1
 returns-3 : tie.Need-returns-3
-returns-3 c = ?
+unfolding loadWord pick
+returns-3 c = simp (c .secondary-word .ensures, c .before .match .keys3)
 
--- src/loads.rt:11:1
 returns-4 : tie.Need-returns-4
-returns-4 c = ?
+unfolding loadWord pick
+returns-4 c = simp (c .before .match .keys4)
 
--- src/loads.rt:11:1
 returns-5 : tie.Need-returns-5
-returns-5 c = ?
+unfolding loadWord pick
+returns-5 c = simp (c .reports-word .ensures, c .before .match .keys5)
 
--- src/loads.rt:11:1
 returns-6 : tie.Need-returns-6
-returns-6 c = ?
+unfolding loadWord pick
+returns-6 c =
+    let r = c .before .match .rest in
+    simp (ne-eqb _ _ (r .0 .0 .0 .0 .1), ne-eqb _ _ (r .0 .0 .0 .1), ne-eqb _ _ (r .0 .0 .1), ne-eqb _ _ (r .0 .1), ne-eqb _ _ (r .1))
 
 pub load-word-spec : {M : Type 1} → statement M
 load-word-spec =

@@ -1,11 +1,13 @@
+-- `controller::stores::names_drive` meets its contract: it is its definition.
+-- Assumes nothing.
+use mathlib.Core.Path.{refl}
+use Rattle.controller.specs.Stores.{namesDrive}
 use Rattle.controller.proofs.stores.names_drive.Statement.{statement}
 use Rattle.controller.proofs.stores.names_drive.Tie as tie
-use Rattle.controller.proofs.stores.names_drive.Reads as reads
-use Rattle.controller.proofs.stores.names_drive.Lts as lts
 
--- src/stores.rt:32:1
 returns : tie.Need-returns
-returns c = ?
+unfolding namesDrive
+returns c = refl
 
 pub names-drive-spec : {M : Type 1} → statement M
 names-drive-spec = tie.close (tie.spec returns)

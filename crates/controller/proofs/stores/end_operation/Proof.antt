@@ -1,0 +1,48 @@
+-- `controller::stores::end_operation` meets its contract: it is its definition.
+-- Assumes nothing.
+use Rattle.common.specs.Pick.{pick}
+use borrow.Author.Needs.{needs}
+use Rattle.controller.specs.Records.{ending}
+use Rattle.controller.proofs.stores.end_operation.Statement.{statement}
+use Rattle.controller.proofs.stores.end_operation.Tie as tie
+
+asks-interrupt-requires : tie.Need-asks-interrupt-requires
+asks-interrupt-requires c κs = search needs
+
+offers-end-requires : tie.Need-offers-end-requires
+offers-end-requires c κs = search needs
+
+reply-requires : tie.Need-reply-requires
+reply-requires c κs = search needs
+
+returns : tie.Need-returns
+unfolding ending pick
+returns c = simp (
+  c .reply .ensures,
+  c .before .if1 .taken,
+  ← c .before .before .offers-end .ensures,
+  c .before .before .before .asks-interrupt .ensures,
+)
+
+complete-requires : tie.Need-complete-requires
+complete-requires c κs = search needs
+
+returns-2 : tie.Need-returns-2
+unfolding ending pick
+returns-2 c = simp (
+  c .complete .ensures,
+  c .before .if1 .left,
+  ← c .before .before .offers-end .ensures,
+  c .before .before .before .asks-interrupt .ensures,
+)
+
+pub end-operation-spec : {M : Type 1} → statement M
+end-operation-spec =
+    tie.close
+    (tie.spec
+    asks-interrupt-requires
+    offers-end-requires
+    reply-requires
+    returns
+    complete-requires
+    returns-2)
