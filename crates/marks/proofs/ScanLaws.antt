@@ -1,10 +1,9 @@
 -- What the scan finds: in marks with at most one error of each parity it reaches the end and finds each error, by induction over
--- the marks that are left with what is known of the places found so far; its places are within any marks. And each mark of legal
--- marks is legal.
+-- the marks that are left with what is known of the places found so far; its places are within any marks.
 -- Assumes nothing.
-use Prim.Native.Nat.{ℕ, zero, suc, _+_, _≤_, _<_, _-_, _%_}
+use Prim.Native.Nat.{ℕ, suc, _+_, _≤_, _<_, _-_, _%_}
 use native.Mathlib.Omega.{arith}
-use mathlib.Core.Bool.{Bool, true, false, _&&_}
+use mathlib.Core.Bool.{Bool, true, false}
 use mathlib.Core.List.{List, [], _∷_}
 use mathlib.Core.Path.{_≡_, refl, sym, ap, subst, _∙_}
 use borrow.Author.Count.{below-more}
@@ -14,7 +13,7 @@ use lib.ListN.{length, getD, drop, length-drop}
 use lib.Seq.{drop-cons}
 use Rattle.common.specs.Pick.{pick}
 use Rattle.common.proofs.PickLaws.{pick-by}
-use Rattle.marks.specs.Marks.{legalMark, legalMarks, isError}
+use Rattle.marks.specs.Marks.{isError}
 use Rattle.marks.specs.Scan.{scanFrom, scanOf}
 use Rattle.marks.specs.declared.Scan.{Scan}
 
@@ -190,16 +189,3 @@ within (mark ∷ rest) at end odd even room o e =
 pub scan-bounds : (marks : List ℕ) → (scanOf marks .odd ≤ length marks) × (scanOf marks .even ≤ length marks) × (scanOf marks .stop ≤ length marks)
 unfolding scanOf
 scan-bounds marks = within marks 0 (length marks) (length marks) (length marks) (omega arith) (omega arith) (omega arith)
-
--- ---- legal marks
-
--- each half of a conjunction holds
-both : (a b : Bool) → (a && b) ≡ true → (a ≡ true) × (b ≡ true)
-both true b h = (refl, h)
-both false b h = (h, absurd (subst T (sym h) tt))
-
-pub legal-at : (marks : List ℕ) (j : ℕ) → j < length marks → legalMarks marks ≡ true → legalMark (getD marks j 0) ≡ true
-unfolding legalMarks
-legal-at [] j h all = absurd (omega arith)
-legal-at (mark ∷ marks) zero h all = both (legalMark mark) (legalMarks marks) all .0
-legal-at (mark ∷ marks) (suc j) h all = legal-at marks j (omega arith) (both (legalMark mark) (legalMarks marks) all .1)
