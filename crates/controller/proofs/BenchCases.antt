@@ -31,7 +31,7 @@ use Rattle.controller.specs.Completion.{primaryNow, sent, interrupts, co
 use Rattle.controller.specs.Link.{wholeLength, appended, loadXor, checks, firstByte, lastByte, nextByte, accepted, givenUp, saidNo, asksInterrupt, goRefused, goTaken, byteIn, brokenIn, tickWith, tickIn}
 use Rattle.controller.specs.Loads.{loadWord, loaded}
 use Rattle.controller.specs.Stores.{storeOf, namesDrive, named, asked, endedBy, settled, tracked, withDensity, motionOrder, pastTest, ordered, begun, operated, decoded, cleared, carriedOut}
-use Rattle.controller.specs.Records.{Result, Answer, isGcr, checkBytes, thrownAway, heldCount, recordBytes, runsShort, withUnderflow, zeroedWords, dataRefusal, dataDone, takesMark, isSearch, markAgainst, wholeCode, expectedWhole, expectedOf, resultRefusal, movesTape, isGone, usesImage, scanCode, finalCode, readsGcr, resultTertiary, resultQuintary, resultCheck, readBytes, delivered, handedOver, wroteWell, resultSecondary, resultBits, withRetry, withGap, resultBody, ending, resultDone}
+use Rattle.controller.specs.Records.{Result, Answer, isGcr, checkBytes, thrownAway, heldCount, recordBytes, runsShort, withUnderflow, zeroedWords, dataRefusal, dataDone, takesMark, isSearch, markAgainst, wholeCode, expectedWhole, expectedOf, resultRefusal, movesTape, isGone, usesImage, scanCode, finalCode, readsGcr, resultTertiary, resultQuintary, resultCheck, readBytes, delivered, fitting, wroteWell, resultSecondary, resultBits, withRetry, withGap, resultDrive, resultBody, ending, resultDone}
 use Rattle.controller.specs.Damaged.{soundDrive, soundDrives, soundBody, soundLead, soundPart, soundString, soundCount, soundHeld, soundPhase, sound}
 use Rattle.controller.specs.Machine.{byteCall, brokenCall, tickCall, takenBody, takenIn, takenCall, reportCall, resetCall, dataIn, dataCall, resultIn, resultCall, Call, step}
 use Rattle.controller.specs.Machine.Call.{byte, taken, report, hostData, result}
@@ -42,7 +42,7 @@ after c [] answer = answer
 after c (call ∷ calls) answer = after (step c call .reply .controller) calls (step c call)
 
 abbrev played : List Call → Answer
-played calls = after fresh calls (record { reply = record { controller = fresh; action = Nothing; refusal = 0 }; space = []; check = [] })
+played calls = after fresh calls (record { reply = record { controller = fresh; action = Nothing; refusal = 0 }; bytes = 0; space = []; check = [] })
 
 abbrev left : List Call → Body
 left calls = played calls .reply .controller .body
@@ -101,7 +101,7 @@ pub record BenchCases : Type 0 where
   pub check-257 : getD (played (gcrWrite 0x5A) .check) 256 0 ≡ 0x5A
 
 pub bench-cases : BenchCases
-unfolding pick given filled _⊕_ xorAll blocketteAt numbered ofParity foldParity checkOf legalMark legalMarks isError scanFrom scanOf kindOf numberOf defectAt limit rotated countBytes unrotated countOf blocketteCount hasBlockettes blockettesOf bodyOf imageOf imageLength markCount wholeRefusal countRefusal emptyRefusal imageRefusal controlOf readOf writeOf decodeOf test.ready test.placed test.aheadFree test.behindFree test.writable test.mayMove forwardCodes reverseCodes endCodes listedCodes isIn answerOf losesTape motionOf gapOf gapAfter retryOf reports driveOf withDrive reported differs reviewedAll freshDrives resetDrives bit noOutcome anyBit primaryOf secondaryWord digits tertiaryOf quintaryOf reportsWord stringOf orderOf startWith fresh resetOf review idle primaryNow sent interrupts completed coded wholeLength appended loadXor checks firstByte lastByte nextByte accepted givenUp saidNo asksInterrupt goRefused goTaken byteIn brokenIn tickWith tickIn loadWord loaded storeOf namesDrive named asked endedBy settled tracked withDensity motionOrder pastTest ordered begun operated decoded cleared carriedOut isGcr checkBytes thrownAway heldCount recordBytes runsShort withUnderflow zeroedWords dataRefusal dataDone takesMark isSearch markAgainst wholeCode expectedWhole expectedOf resultRefusal movesTape isGone usesImage scanCode finalCode readsGcr resultTertiary resultQuintary resultCheck readBytes delivered handedOver wroteWell resultSecondary resultBits withRetry withGap resultBody ending resultDone soundDrive soundDrives soundBody soundLead soundPart soundString soundCount soundHeld soundPhase sound byteCall brokenCall tickCall takenBody takenIn takenCall reportCall resetCall dataIn dataCall resultIn resultCall step
+unfolding pick given filled _⊕_ xorAll blocketteAt numbered ofParity foldParity checkOf legalMark legalMarks isError scanFrom scanOf kindOf numberOf defectAt limit rotated countBytes unrotated countOf blocketteCount hasBlockettes blockettesOf bodyOf imageOf imageLength markCount wholeRefusal countRefusal emptyRefusal imageRefusal controlOf readOf writeOf decodeOf test.ready test.placed test.aheadFree test.behindFree test.writable test.mayMove forwardCodes reverseCodes endCodes listedCodes isIn answerOf losesTape motionOf gapOf gapAfter retryOf reports driveOf withDrive reported differs reviewedAll freshDrives resetDrives bit noOutcome anyBit primaryOf secondaryWord digits tertiaryOf quintaryOf reportsWord stringOf orderOf startWith fresh resetOf review idle primaryNow sent interrupts completed coded wholeLength appended loadXor checks firstByte lastByte nextByte accepted givenUp saidNo asksInterrupt goRefused goTaken byteIn brokenIn tickWith tickIn loadWord loaded storeOf namesDrive named asked endedBy settled tracked withDensity motionOrder pastTest ordered begun operated decoded cleared carriedOut isGcr checkBytes thrownAway heldCount recordBytes runsShort withUnderflow zeroedWords dataRefusal dataDone takesMark isSearch markAgainst wholeCode expectedWhole expectedOf resultRefusal movesTape isGone usesImage scanCode finalCode readsGcr resultTertiary resultQuintary resultCheck readBytes delivered fitting wroteWell resultSecondary resultBits withRetry withGap resultDrive resultBody ending resultDone soundDrive soundDrives soundBody soundLead soundPart soundString soundCount soundHeld soundPhase sound byteCall brokenCall tickCall takenBody takenIn takenCall reportCall resetCall dataIn dataCall resultIn resultCall step
 bench-cases =
     record {
       ack = refl;

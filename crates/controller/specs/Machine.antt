@@ -14,7 +14,7 @@ use Rattle.controller.specs.declared.state.Body.{Body}
 use Rattle.controller.specs.declared.state.Controller.{Controller}
 use Rattle.controller.specs.declared.state.Action.the-variants.{Nothing}
 use Rattle.controller.specs.declared.state.Reply.{Reply}
-use Rattle.controller.specs.State.{setDrives, resetOf, done, refused}
+use Rattle.controller.specs.State.{setDrives, current, resetOf, done, refused}
 use Rattle.controller.specs.Link.{byteIn, brokenIn, tickIn}
 use Rattle.controller.specs.Loads.{loaded}
 use Rattle.controller.specs.Stores.{storeOf, carriedOut}
@@ -67,13 +67,13 @@ resetCall c = pick (sound c) (done (resetOf (c .body)) Nothing) (refused 1 c)
 
 -- a refused data or result call: "state and buffers unchanged"
 abbrev pub unchanged : ℕ → Controller → List ℕ → List ℕ → Answer
-unchanged number c space check = record { reply = refused number c; space = space; check = check }
+unchanged number c space check = record { reply = refused number c; bytes = 0; space = space; check = check }
 
 -- "3 data or result not awaited"
 unfoldable pub dataIn : Controller → Body → List ℕ → List ℕ → List ℕ → Phase → Answer
 dataIn c b host space check (DataAwaited store) =
-    pick (eqb (dataRefusal b store (length space) (length check)) 0) (dataDone b store host space check)
-    (unchanged (dataRefusal b store (length space) (length check)) c space check)
+    pick (eqb (dataRefusal (current b) store (length space) (length check)) 0) (dataDone b store host space check)
+    (unchanged (dataRefusal (current b) store (length space) (length check)) c space check)
 dataIn c b host space check Collecting = unchanged 3 c space check
 dataIn c b host space check AckOffered = unchanged 3 c space check
 dataIn c b host space check (Sending s) = unchanged 3 c space check
@@ -86,8 +86,8 @@ dataCall c host space check = pick (sound c) (dataIn c (c .body) host space chec
 
 unfoldable pub resultIn : Controller → Body → Result → List ℕ → List ℕ → Phase → Answer
 resultIn c b r space check (ResultAwaited operation store) =
-    pick (eqb (resultRefusal b operation r (length check)) 0) (resultDone b operation store r space check)
-    (unchanged (resultRefusal b operation r (length check)) c space check)
+    pick (eqb (resultRefusal (current b) operation r (length check)) 0) (resultDone b operation store r space check)
+    (unchanged (resultRefusal (current b) operation r (length check)) c space check)
 resultIn c b r space check Collecting = unchanged 3 c space check
 resultIn c b r space check AckOffered = unchanged 3 c space check
 resultIn c b r space check (Sending s) = unchanged 3 c space check
@@ -113,7 +113,7 @@ pub data Call : Type 0 where
 
 -- an answer of a call that is lent nothing
 abbrev pub plain : Reply → Answer
-plain r = record { reply = r; space = []; check = [] }
+plain r = record { reply = r; bytes = 0; space = []; check = [] }
 
 unfoldable pub step : Controller → Call → Answer
 step c (byte b) = plain (byteCall c b)
@@ -125,7 +125,12 @@ step c (result r space check) = resultCall c r space check
 step c tick = plain (tickCall c)
 step c reset = plain (resetCall c)
 
--- "each call gets the state that the last one handed back": the answers, in order
-unfoldable pub run : Controller → List Call → List Answer
+-- a call and its answer
+pub record Exchange : Type 0 where
+  pub call : Call
+  pub answer : Answer
+
+-- "each call gets the state that the last one handed back": the calls with their answers, in order
+unfoldable pub run : Controller → List Call → List Exchange
 run c [] = []
-run c (call ∷ calls) = step c call ∷ run (step c call .reply .controller) calls
+run c (call ∷ calls) = record { call = call; answer = step c call } ∷ run (step c call .reply .controller) calls

@@ -36,15 +36,16 @@ use Rattle.controller.specs.Completion.{completed}
 use Rattle.controller.specs.Link.{asksInterrupt}
 use Rattle.controller.specs.Stores.{ordered}
 
--- a call's answer with what it leaves in the space it writes and in the check store
+-- a call's answer: its reply, how many bytes of the lent space it gives, and what it leaves in that space and in the check store
 pub record Answer : Type 0 where
   pub reply : Reply
+  pub bytes : ℕ
   pub space : List ℕ
   pub check : List ℕ
 
 -- "density .. (MFM; 1 is GCR)"
-unfoldable pub isGcr : Body → Bool
-isGcr b = not (eqb (current b .density) 0)
+unfoldable pub isGcr : Drive → Bool
+isGcr drive = not (eqb (drive .density) 0)
 
 -- "check store then takes both check blockettes, or zeros for c = 0": the last 512 bytes of an image
 unfoldable pub checkBytes : List ℕ → ℕ → List ℕ
@@ -87,18 +88,19 @@ unfoldable pub zeroedWords : Body → Bool → Body
 zeroedWords b zeroes = pick zeroes (setWords b (b .secondary) zeroWord zeroWord) b
 
 -- "6 check store not 512; .. 11 the data call's .. image space .. short"
-unfoldable pub dataRefusal : Body → Store → ℕ → ℕ → ℕ
-dataRefusal b store space check =
-    pick (not (eqb check 512)) 6 (pick (ltb space (imageLength (heldCount store) (current b .density))) 11 0)
+unfoldable pub dataRefusal : Drive → Store → ℕ → ℕ → ℕ
+dataRefusal drive store space check =
+    pick (not (eqb check 512)) 6 (pick (ltb space (imageLength (heldCount store) (drive .density))) 11 0)
 
 -- "the data call builds the image and orders the move"
 unfoldable pub dataDone : Body → Store → List ℕ → List ℕ → List ℕ → Answer
 dataDone b store host space check =
     let image = imageOf (recordBytes store host) (current b .density) in
     record {
-      reply = ordered (zeroedWords (setOutcome b (withUnderflow (b .outcome) (runsShort store host))) (isGcr b)) Write store;
+      reply = ordered (zeroedWords (setOutcome b (withUnderflow (b .outcome) (runsShort store host))) (isGcr (current b))) Write store;
+      bytes = length image;
       space = given image space;
-      check = pick (isGcr b) (checkBytes image (heldCount store)) check;
+      check = pick (isGcr (current b)) (checkBytes image (heldCount store)) check;
     }
 
 -- ---- the result
@@ -166,12 +168,12 @@ expectedOf SearchReverse density code mark = NoImage
 expectedOf WriteMark density code mark = NoImage
 
 -- "6 check store not 512; 7 code not listed; 8 mark flag against its rule, or late flags above 3; 9 ..; 10 mark value"
-unfoldable pub resultRefusal : Body → Operation → Result → ℕ → ℕ
-resultRefusal b operation r check =
+unfoldable pub resultRefusal : Drive → Operation → Result → ℕ → ℕ
+resultRefusal drive operation r check =
     pick (not (eqb check 512)) 6
     (pick (eqb (answerOf operation (r .code)) 0) 7
     (pick (markAgainst operation (r .code) (r .mark) || leb 4 (r .late)) 8
-    (imageRefusal (r .image) (r .marks) (expectedOf operation (current b .density) (r .code) (r .mark)))))
+    (imageRefusal (r .image) (r .marks) (expectedOf operation (drive .density) (r .code) (r .mark)))))
 
 -- "Every operation but check bytes moves tape"
 unfoldable pub movesTape : Move → Bool
@@ -184,12 +186,12 @@ movesTape Writing = true
 movesTape Erasing = true
 
 -- "If the operation moves tape and none is installed, code 7 replaces the code, and mark and image go unused."
-unfoldable pub isGone : Body → Operation → Bool
-isGone b operation = movesTape (moveOf operation) && not (reports (current b .report) 32)
+unfoldable pub isGone : Drive → Operation → Bool
+isGone drive operation = movesTape (moveOf operation) && not (reports (drive .report) 32)
 
 -- an image that counts
-unfoldable pub usesImage : Body → Operation → Result → Bool
-usesImage b operation r = not (isGone b operation) && not (eqb (length (r .image)) 0)
+unfoldable pub usesImage : Drive → Operation → Result → Bool
+usesImage drive operation r = not (isGone drive operation) && not (eqb (length (r .image)) 0)
 
 -- "None: no change. At most one of each parity: code 15, in place of 0, 10, 11 or 12. Else 16"
 unfoldable pub scanCode : List ℕ → ℕ → ℕ
@@ -197,37 +199,37 @@ scanCode marks code =
     pick (ltb (scanOf marks .stop) (length marks)) 0x16
     (pick (ltb (scanOf marks .odd) (length marks) || ltb (scanOf marks .even) (length marks)) 0x15 code)
 
-unfoldable pub finalCode : Body → Operation → Result → ℕ
-finalCode b operation r = pick (isGone b operation) 0x07 (scanCode (r .marks) (r .code))
+unfoldable pub finalCode : Drive → Operation → Result → ℕ
+finalCode drive operation r = pick (isGone drive operation) 0x07 (scanCode (r .marks) (r .code))
 
 -- "For a GCR read or forward skip"
-unfoldable pub readsGcr : Body → Operation → Bool
-readsGcr b Read = isGcr b
-readsGcr b SkipForward = isGcr b
-readsGcr b CheckBytes = false
-readsGcr b Write = false
-readsGcr b Erase = false
-readsGcr b Rewind = false
-readsGcr b FastForward = false
-readsGcr b SkipReverse = false
-readsGcr b SearchForward = false
-readsGcr b SearchReverse = false
-readsGcr b WriteMark = false
+unfoldable pub readsGcr : Drive → Operation → Bool
+readsGcr drive Read = isGcr drive
+readsGcr drive SkipForward = isGcr drive
+readsGcr drive CheckBytes = false
+readsGcr drive Write = false
+readsGcr drive Erase = false
+readsGcr drive Rewind = false
+readsGcr drive FastForward = false
+readsGcr drive SkipReverse = false
+readsGcr drive SearchForward = false
+readsGcr drive SearchReverse = false
+readsGcr drive WriteMark = false
 
 -- "tertiary, quintary and check store are zeroed first": they stay zero where the image goes unused or the scan finds nothing
-unfoldable pub resultTertiary : Body → Operation → Result → Word
-resultTertiary b operation r =
-    pick (readsGcr b operation)
-    (pick (isGone b operation) zeroWord (tertiaryOf (defectAt (r .marks) (scanOf (r .marks) .odd)) (defectAt (r .marks) (scanOf (r .marks) .even))))
-    (b .tertiary)
+unfoldable pub resultTertiary : Drive → Operation → Result → Word → Word
+resultTertiary drive operation r before =
+    pick (readsGcr drive operation)
+    (pick (isGone drive operation) zeroWord (tertiaryOf (defectAt (r .marks) (scanOf (r .marks) .odd)) (defectAt (r .marks) (scanOf (r .marks) .even))))
+    before
 
-unfoldable pub resultQuintary : Body → Operation → Result → Word
-resultQuintary b operation r =
-    pick (readsGcr b operation) (pick (isGone b operation) zeroWord (quintaryOf (defectAt (r .marks) (scanOf (r .marks) .stop)))) (b .quintary)
+unfoldable pub resultQuintary : Drive → Operation → Result → Word → Word
+resultQuintary drive operation r before =
+    pick (readsGcr drive operation) (pick (isGone drive operation) zeroWord (quintaryOf (defectAt (r .marks) (scanOf (r .marks) .stop)))) before
 
-unfoldable pub resultCheck : Body → Operation → Result → List ℕ → List ℕ
-resultCheck b operation r check =
-    pick (readsGcr b operation) (pick (usesImage b operation r) (checkBytes (r .image) (countOf (r .image))) (replicate 512 0)) check
+unfoldable pub resultCheck : Drive → Operation → Result → List ℕ → List ℕ
+resultCheck drive operation r check =
+    pick (readsGcr drive operation) (pick (usesImage drive operation r) (checkBytes (r .image) (countOf (r .image))) (replicate 512 0)) check
 
 -- "A read delivers c bytes as the image has them; for 16, the lesser of c and 256 for each data blockette before the stop."
 unfoldable pub readBytes : Result → List ℕ
@@ -237,22 +239,22 @@ readBytes r =
     take (pick (ltb stop (length (r .marks))) (min c (256 * min stop (blocketteCount c))) c) (drop 2 (r .image))
 
 -- "Check bytes deliver the 512 of the check store."
-unfoldable pub delivered : Body → Operation → Result → List ℕ → List ℕ
-delivered b Read r check = pick (usesImage b Read r) (readBytes r) []
-delivered b CheckBytes r check = check
-delivered b Write r check = []
-delivered b Erase r check = []
-delivered b Rewind r check = []
-delivered b FastForward r check = []
-delivered b SkipForward r check = []
-delivered b SkipReverse r check = []
-delivered b SearchForward r check = []
-delivered b SearchReverse r check = []
-delivered b WriteMark r check = []
+unfoldable pub delivered : Drive → Operation → Result → List ℕ → List ℕ
+delivered drive Read r check = pick (usesImage drive Read r) (readBytes r) []
+delivered drive CheckBytes r check = check
+delivered drive Write r check = []
+delivered drive Erase r check = []
+delivered drive Rewind r check = []
+delivered drive FastForward r check = []
+delivered drive SkipForward r check = []
+delivered drive SkipReverse r check = []
+delivered drive SearchForward r check = []
+delivered drive SearchReverse r check = []
+delivered drive WriteMark r check = []
 
 -- "Host space too short: as many as fit"
-unfoldable pub handedOver : List ℕ → List ℕ → List ℕ
-handedOver bytes space = given (take (length space) bytes) space
+unfoldable pub fitting : List ℕ → ℕ → List ℕ
+fitting bytes space = take space bytes
 
 -- "writes with code 0"
 unfoldable pub wroteWell : Operation → ℕ → Bool
@@ -269,26 +271,26 @@ wroteWell SearchReverse code = false
 wroteWell WriteMark code = false
 
 -- "Used images, and writes with code 0, set bit 22 and secondary = c."
-unfoldable pub resultSecondary : Body → Operation → Store → Result → ℕ
-resultSecondary b operation store r =
-    pick (usesImage b operation r) (countOf (r .image))
-    (pick (wroteWell operation (finalCode b operation r)) (heldCount store) (b .secondary))
+unfoldable pub resultSecondary : Drive → Operation → Store → Result → ℕ → ℕ
+resultSecondary drive operation store r before =
+    pick (usesImage drive operation r) (countOf (r .image))
+    (pick (wroteWell operation (finalCode drive operation r)) (heldCount store) before)
 
 -- bits 17, 19, 20 and 22 are set, "(1 sets bit 19, 2 bit 20)", "Host space too short: .. bit 17"; mark, motion and code are assigned
-unfoldable pub resultBits : Body → Operation → Result → ℕ → ℕ → Outcome
-resultBits b operation r bytes space =
+unfoldable pub resultBits : Drive → Outcome → Operation → Result → ℕ → ℕ → Outcome
+resultBits drive o operation r bytes space =
     record {
-      retry = b .outcome .retry;
-      mark = r .mark && not (isGone b operation);
-      motion = motionOf (moveOf operation) (finalCode b operation r);
-      code = finalCode b operation r;
-      parity = b .outcome .parity;
-      overflow = b .outcome .overflow || ltb space bytes;
-      underflow = b .outcome .underflow;
-      wdl = b .outcome .wdl || eqb (r .late % 2) 1;
-      rdl = b .outcome .rdl || eqb (r .late / 2 % 2) 1;
-      supplied = b .outcome .supplied;
-      counted = b .outcome .counted || (usesImage b operation r || wroteWell operation (finalCode b operation r));
+      retry = o .retry;
+      mark = r .mark && not (isGone drive operation);
+      motion = motionOf (moveOf operation) (finalCode drive operation r);
+      code = finalCode drive operation r;
+      parity = o .parity;
+      overflow = o .overflow || ltb space bytes;
+      underflow = o .underflow;
+      wdl = o .wdl || eqb (r .late % 2) 1;
+      rdl = o .rdl || eqb (r .late / 2 % 2) 1;
+      supplied = o .supplied;
+      counted = o .counted || (usesImage drive operation r || wroteWell operation (finalCode drive operation r));
     }
 
 -- "Bit 2 (retry): code not 0, or any of bits 16-20."
@@ -311,12 +313,15 @@ withRetry o =
 unfoldable pub withGap : Drive → ℕ → Drive
 withGap drive gap = record { report = drive .report; reviewed = drive .reviewed; track = drive .track; density = drive .density; gap = gap }
 
+unfoldable pub resultDrive : Drive → Operation → Result → Drive
+resultDrive drive operation r = withGap drive (gapAfter (moveOf operation) (finalCode drive operation r) (drive .gap))
+
 unfoldable pub resultBody : Body → Operation → Store → Result → ℕ → ℕ → Body
 resultBody b operation store r bytes space =
     setOutcome
-    (setWords (setCurrent b (withGap (current b) (gapAfter (moveOf operation) (finalCode b operation r) (current b .gap))))
-    (resultSecondary b operation store r) (resultTertiary b operation r) (resultQuintary b operation r))
-    (withRetry (resultBits b operation r bytes space))
+    (setWords (setCurrent b (resultDrive (current b) operation r)) (resultSecondary (current b) operation store r (b .secondary))
+    (resultTertiary (current b) operation r (b .tertiary)) (resultQuintary (current b) operation r (b .quintary)))
+    (withRetry (resultBits (current b) (b .outcome) operation r bytes space))
 
 -- "Read, write and check bytes offer EOR when a result came"; the others are completed at once
 unfoldable pub ending : Body → Operation → Store → Reply
@@ -325,9 +330,10 @@ ending b operation store =
 
 unfoldable pub resultDone : Body → Operation → Store → Result → List ℕ → List ℕ → Answer
 resultDone b operation store r space check =
-    let bytes = delivered b operation r check in
+    let bytes = delivered (current b) operation r check in
     record {
       reply = ending (resultBody b operation store r (length bytes) (length space)) operation store;
-      space = handedOver bytes space;
-      check = resultCheck b operation r check;
+      bytes = length (fitting bytes (length space));
+      space = given (fitting bytes (length space)) space;
+      check = resultCheck (current b) operation r check;
     }

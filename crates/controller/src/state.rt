@@ -93,3 +93,9 @@ pub struct Reply {
     pub action: Action,
     pub refusal: u32,
 }
+
+// What a data or result call hands back: the reply, and how many bytes of the lent space it gives (the image's, or those delivered).
+pub struct Transfer {
+    pub reply: Reply,
+    pub bytes: usize,
+}
