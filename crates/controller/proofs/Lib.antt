@@ -1,2 +1,7 @@
 pub mod CompletionLaws
 pub mod BenchCases
+pub mod OneDrive
+pub mod Resting
+pub mod Following
+pub mod EachCall
+pub mod DrivesAreSeparate

@@ -6,3 +6,4 @@ pub mod Stores
 pub mod Records
 pub mod Damaged
 pub mod Machine
+pub mod Separation

@@ -1,0 +1,78 @@
+-- Demand 3 over the definitions: what a drive ends with and was given is a function of its own history alone, so two lists with the same
+-- history of a drive agree on it.
+-- Assumes nothing.
+use mathlib.Core.Path.{_≡_, refl, sym, ap, ap₂, subst, _∙_}
+use Prim.Native.Nat.{ℕ, _≤_}
+use mathlib.Core.Bool.{Bool, true, false, _&&_}
+use mathlib.Core.List.{List, [], _∷_, _++_, append-assoc}
+use Rattle.status.specs.declared.drives.Drive.{Drive}
+use Rattle.controller.specs.declared.state.Store.{Store}
+use Rattle.controller.specs.declared.state.Controller.{Controller}
+use Rattle.controller.specs.State.{startWith, fresh}
+use Rattle.controller.specs.Machine.{Call, Exchange, step, run}
+use Rattle.controller.specs.Separation.{Event, Output, lastStore, noStore, eventsOf, historyFrom, history, outputsOf, outputsFrom, outputs, admits, admittedFrom, admitted, after, left, Agree, Separate}
+use Rattle.controller.proofs.OneDrive.{View, told, gives, toldAll, givesAll}
+use Rattle.controller.proofs.Resting.{seen}
+use Rattle.controller.proofs.Following.{viewOf, InHand}
+use Rattle.controller.proofs.EachCall.{both-true, step-follows}
+
+-- ---- one event after another
+
+told-append : (v : View) (events more : List Event) → toldAll v (events ++ more) ≡ toldAll (toldAll v events) more
+unfolding toldAll
+told-append v [] more = refl
+told-append v (event ∷ events) more = told-append (told v event) events more
+
+gives-append :
+    (d : ℕ) (v : View) (events more : List Event) → givesAll d v (events ++ more) ≡ givesAll d v events ++ givesAll d (toldAll v events) more
+unfolding toldAll givesAll
+gives-append d v [] more = refl
+gives-append d v (event ∷ events) more =
+    ap (λ (l : List Output). gives d v event ++ l) (gives-append d (told v event) events more)
+    ∙ sym (append-assoc (gives d v event) (givesAll d (told v event) events) (givesAll d (toldAll (told v event) events) more))
+
+-- ---- a whole list
+
+-- the machine of one drive, over the drive's history, ends where the controller has the drive, and gives what the controller gave it
+record Determined (d : ℕ) (last : Store) (c : Controller) (xs : List Exchange) : Type 0 where
+  drive : seen d (after c xs .body) ≡ toldAll (viewOf d last c) (historyFrom d last c xs) .drive
+  given : outputsFrom d last c xs ≡ givesAll d (viewOf d last c) (historyFrom d last c xs)
+
+determined :
+    (d : ℕ) → d ≤ 3 → (calls : List Call) (last : Store) (c : Controller) → InHand last (c .body .selected) (c .phase) → admittedFrom c (run c calls) ≡ true → Determined d last c (run c calls)
+unfolding run after historyFrom outputsFrom admittedFrom toldAll givesAll
+determined d low [] last c held admits = record { drive = refl; given = refl }
+determined d low (call ∷ calls) last c held admitted =
+    let x : Exchange = record { call = call; answer = step c call } in
+    let c' = step c call .reply .controller in
+    let last' = lastStore last c x in
+    let (first, others) = both-true (admits c x) (admittedFrom c' (run c' calls)) admitted in
+    let follows = step-follows d low last c held call first in
+    let rest = determined d low calls last' c' (follows .held) others in
+    let v = viewOf d last c in
+    let events = eventsOf d last' c x in
+    let more = historyFrom d last' c' (run c' calls) in
+    record {
+      drive =
+          rest .drive
+          ∙ ap (λ (w : View). toldAll w more .drive) (follows .view)
+          ∙ sym (ap (λ (w : View). w .drive) (told-append v events more));
+      given =
+          ap₂ (λ (l m : List Output). l ++ m) (follows .given) (rest .given ∙ ap (λ (w : View). givesAll d w more) (follows .view))
+          ∙ sym (gives-append d v events more);
+    }
+
+-- ---- the theorem
+
+pub drives-are-separate : (calls others : List Call) → Separate (run fresh calls) (run fresh others)
+unfolding fresh startWith InHand
+drives-are-separate calls others d low admitted admitted' same =
+    let one = determined d low calls noStore fresh tt admitted in
+    let two = determined d low others noStore fresh tt admitted' in
+    let drive = one .drive ∙ ap (λ (events : List Event). toldAll (viewOf d noStore fresh) events .drive) same ∙ sym (two .drive) in
+    record {
+      track = ap (λ (x : Drive). x .track) drive;
+      density = ap (λ (x : Drive). x .density) drive;
+      gap = ap (λ (x : Drive). x .gap) drive;
+      given = one .given ∙ ap (givesAll d (viewOf d noStore fresh)) same ∙ sym (two .given);
+    }

@@ -1,0 +1,217 @@
+-- Separation of the drives: "Demand 3 is one claim about both whole lists, not one for each call." The lists are of calls with their answers:
+-- refused calls stay in, and lent space has any length and holds anything. "They start from Fresh; each call gets the state that the last
+-- one handed back".
+-- Assumes nothing.
+use mathlib.Core.Path.{_≡_}
+use Prim.Native.Nat.{ℕ, _≤_, _/_, _%_}
+use mathlib.Core.Bool.{Bool, true, false, not, _&&_}
+use mathlib.Core.List.{List, [], _∷_, _++_}
+use lib.Dec.{leb, eqb}
+use lib.ListN.{length, take}
+use Rattle.common.specs.Pick.{pick}
+use Rattle.operations.specs.declared.decode.Decoded.{Decoded}
+use Rattle.operations.specs.declared.decode.Decoded.the-variants.{Reset, Code, Track, Enable, Density, Operate}
+use Rattle.operations.specs.declared.operation.Operation.the-variants.{Read}
+use Rattle.operations.specs.Operation.{numberOf}
+use Rattle.status.specs.declared.drives.Drive.{Drive}
+use Rattle.status.specs.declared.strings.Six.{Six}
+use Rattle.status.specs.Drives.{driveOf}
+use Rattle.controller.specs.declared.state.Store.{Store}
+use Rattle.controller.specs.declared.state.Phase.{Phase}
+use Rattle.controller.specs.declared.state.Phase.the-variants.{Collecting, AckOffered, Sending, GoOffered, DataAwaited, ResultAwaited, EndOffered}
+use Rattle.controller.specs.declared.state.Controller.{Controller}
+use Rattle.controller.specs.declared.state.Action.{Action}
+use Rattle.controller.specs.declared.state.Action.the-variants.{Nothing, Byte, Text, Order}
+use Rattle.controller.specs.State.{fresh}
+use Rattle.controller.specs.Stores.{storeOf, namesDrive, named, asked}
+use Rattle.controller.specs.Records.{Result}
+use Rattle.controller.specs.Machine.{Call, Exchange}
+use Rattle.controller.specs.Machine.Call.{byte, taken, broken, report, hostData, result, tick, reset}
+
+-- ---- the stores of a list
+
+unfoldable pub notRefused : Exchange → Bool
+notRefused x = eqb (x .answer .reply .refusal) 0
+
+unfoldable pub isTaken : Call → Bool
+isTaken taken = true
+isTaken (byte b) = false
+isTaken broken = false
+isTaken (report drive r) = false
+isTaken (hostData host space check) = false
+isTaken (result r space check) = false
+isTaken tick = false
+isTaken reset = false
+
+-- the string whose ACK is offered is a store, and not a load
+unfoldable pub holdsStore : Controller → Bool
+holdsStore c = not (eqb (c .body .collected .c0) 0x62)
+
+-- "A store is carried out where a taken not refused meets its ACK"
+unfoldable pub carriesOut : Controller → Exchange → Bool
+carriesOut c x = isTaken (x .call) && (notRefused x && holdsStore c)
+
+-- the last store carried out, this call's included: "GO answers, data calls and results not refused belong to the last such store"
+unfoldable pub lastStore : Store → Controller → Exchange → Store
+lastStore last c x = pick (carriesOut c x) (storeOf (c .body .collected)) last
+
+-- before the first store: one that names no drive
+abbrev pub noStore : Store
+noStore = record { address = 0; first = 0; second = 0; third = 0; fourth = 0 }
+
+-- a store that names this drive, "bit 4 names a drive, 5-7 its number"
+unfoldable pub isOf : ℕ → Store → Bool
+isOf d store = namesDrive store && eqb (named store) d
+
+-- ---- the history of a drive
+
+-- "its history ..: its reports not refused; stores carried out that name it (operation and operand); of these each GO answer (yes or no),
+-- data call (host bytes) and result (code, mark flag, late flags, image, marks, length of host space)"
+pub data Event : Type 0 where
+  reportCame : ℕ → Event
+  storeCame : ℕ → ℕ → ℕ → ℕ → ℕ → Event
+  goAnswered : Bool → Event
+  dataCame : List ℕ → Event
+  resultCame : Result → ℕ → Event
+
+-- "operation and operand": the asking of an interrupt is left out
+unfoldable pub storeEvent : Store → Event
+storeEvent store = storeCame (store .address / 16 % 8) (store .first) (store .second) (store .third) (store .fourth)
+
+unfoldable pub awaitsGo : Phase → Bool
+awaitsGo (GoOffered store) = true
+awaitsGo Collecting = false
+awaitsGo AckOffered = false
+awaitsGo (Sending s) = false
+awaitsGo (DataAwaited store) = false
+awaitsGo (ResultAwaited operation store) = false
+awaitsGo (EndOffered interrupt) = false
+
+-- what a call not refused adds to the history of drive d; `store` is the store that it belongs to
+unfoldable pub eventOf : ℕ → Store → Controller → Call → List Event
+eventOf d store c (report drive r) = pick (eqb drive d) (reportCame r ∷ []) []
+eventOf d store c taken = pick (holdsStore c && isOf d store) (storeEvent store ∷ []) []
+eventOf d store c (byte b) = pick (awaitsGo (c .phase) && isOf d store) (goAnswered (eqb b 0x06) ∷ []) []
+eventOf d store c broken = pick (awaitsGo (c .phase) && isOf d store) (goAnswered false ∷ []) []
+eventOf d store c (hostData host space check) = pick (isOf d store) (dataCame host ∷ []) []
+eventOf d store c (result r space check) = pick (isOf d store) (resultCame r (length space) ∷ []) []
+eventOf d store c tick = []
+eventOf d store c reset = []
+
+unfoldable pub eventsOf : ℕ → Store → Controller → Exchange → List Event
+eventsOf d store c x = pick (notRefused x) (eventOf d store c (x .call)) []
+
+-- "in order"
+unfoldable pub historyFrom : ℕ → Store → Controller → List Exchange → List Event
+historyFrom d last c [] = []
+historyFrom d last c (x ∷ xs) = eventsOf d (lastStore last c x) c x ++ historyFrom d (lastStore last c x) (x .answer .reply .controller) xs
+
+abbrev pub history : ℕ → List Exchange → List Event
+history d = historyFrom d noStore fresh
+
+-- ---- what a drive was given, and what it delivered
+
+pub data Output : Type 0 where
+  motion : Six → Output
+  image : List ℕ → Output
+  delivery : List ℕ → Output
+
+-- "Its orders bear its number"
+unfoldable pub ordersFor : ℕ → Action → List Output
+ordersFor d (Order order) = pick (eqb (order .b1) d) (motion order ∷ []) []
+ordersFor d Nothing = []
+ordersFor d (Byte b) = []
+ordersFor d (Text s) = []
+
+-- "Check bytes .. demand 3 leaves their delivery out": of the operations that deliver, reads alone
+unfoldable pub isRead : Decoded → Bool
+isRead (Operate operation) = eqb (numberOf operation) (numberOf Read)
+isRead Reset = false
+isRead (Code code) = false
+isRead (Track track) = false
+isRead (Enable enable) = false
+isRead (Density density) = false
+
+-- the bytes that a call gives in the space it is lent
+unfoldable pub bytesGiven : Exchange → List ℕ
+bytesGiven x = take (x .answer .bytes) (x .answer .space)
+
+-- "its write images and read bytes come from the data calls and results of its stores"
+unfoldable pub transferOf : ℕ → Store → List ℕ → Call → List Output
+transferOf d store bytes (hostData host space check) = pick (isOf d store) (image bytes ∷ []) []
+transferOf d store bytes (result r space check) = pick (isOf d store && isRead (asked store)) (delivery bytes ∷ []) []
+transferOf d store bytes (byte b) = []
+transferOf d store bytes taken = []
+transferOf d store bytes broken = []
+transferOf d store bytes (report drive r) = []
+transferOf d store bytes tick = []
+transferOf d store bytes reset = []
+
+unfoldable pub outputsOf : ℕ → Store → Exchange → List Output
+outputsOf d store x = pick (notRefused x) (transferOf d store (bytesGiven x) (x .call)) [] ++ ordersFor d (x .answer .reply .action)
+
+unfoldable pub outputsFrom : ℕ → Store → Controller → List Exchange → List Output
+outputsFrom d last c [] = []
+outputsFrom d last c (x ∷ xs) = outputsOf d (lastStore last c x) x ++ outputsFrom d (lastStore last c x) (x .answer .reply .controller) xs
+
+abbrev pub outputs : ℕ → List Exchange → List Output
+outputs d = outputsFrom d noStore fresh
+
+-- ---- the condition on a list
+
+-- a store that resets the controller; one that names drive 4-7 is code 01 and resets nothing
+unfoldable pub asksReset : Decoded → Bool
+asksReset Reset = true
+asksReset (Code code) = false
+asksReset (Track track) = false
+asksReset (Enable enable) = false
+asksReset (Density density) = false
+asksReset (Operate operation) = false
+
+unfoldable pub resets : Store → Bool
+resets store = not (leb 4 (named store)) && asksReset (asked store)
+
+unfoldable pub isReset : Call → Bool
+isReset reset = true
+isReset (byte b) = false
+isReset taken = false
+isReset broken = false
+isReset (report drive r) = false
+isReset (hostData host space check) = false
+isReset (result r space check) = false
+isReset tick = false
+
+-- every store carried out names its drive, and neither a store nor a call resets the controller
+unfoldable pub admits : Controller → Exchange → Bool
+admits c x =
+    pick (carriesOut c x) (namesDrive (storeOf (c .body .collected)) && not (resets (storeOf (c .body .collected))))
+    (not (notRefused x && isReset (x .call)))
+
+unfoldable pub admittedFrom : Controller → List Exchange → Bool
+admittedFrom c [] = true
+admittedFrom c (x ∷ xs) = admits c x && admittedFrom (x .answer .reply .controller) xs
+
+abbrev pub admitted : List Exchange → Bool
+admitted = admittedFrom fresh
+
+-- ---- the claim
+
+-- the state after a list
+unfoldable pub after : Controller → List Exchange → Controller
+after c [] = c
+after c (x ∷ xs) = after (x .answer .reply .controller) xs
+
+abbrev pub left : ℕ → List Exchange → Drive
+left d xs = driveOf (after fresh xs .body .drives) d
+
+-- the drive ends with the same track, density and gap, was given the same motion orders and write images, and delivered the same bytes,
+-- all in the same order and byte for byte
+pub record Agree (d : ℕ) (xs ys : List Exchange) : Type 0 where
+  pub track : left d xs .track ≡ left d ys .track
+  pub density : left d xs .density ≡ left d ys .density
+  pub gap : left d xs .gap ≡ left d ys .gap
+  pub given : outputs d xs ≡ outputs d ys
+
+-- "Two lists are alike for a drive if its history is the same in both": then it ends alike and was given alike
+abbrev pub Separate : List Exchange → List Exchange → Type 0
+Separate xs ys = (d : ℕ) → d ≤ 3 → admitted xs ≡ true → admitted ys ≡ true → history d xs ≡ history d ys → Agree d xs ys
