@@ -16,7 +16,7 @@ use status::drives::reset_drives;
 use status::words::Word;
 use status::words::no_outcome;
 ghost use mathlib.Core.Path.{_≡_};
-ghost use Rattle.controller.specs.State.{current, setCurrent, nothingCollected, zeroWord, startWith, fresh, resetOf, review, collecting, done, refused, idle};
+ghost use Rattle.controller.specs.State.{current, setCurrent, setFlags, nothingCollected, zeroWord, startWith, fresh, resetOf, review, collecting, done, refused, idle};
 ghost use Rattle.controller.specs.Stores.{cleared};
 
 // The selected drive.
@@ -34,6 +34,15 @@ pub fn put_current(mut b: Body, drive: Drive) -> Body
     let drives = b.drives;
     let changed = put(drives, b.selected, drive);
     b.drives = changed;
+    b
+}
+
+// Changed and enable set to these.
+pub fn with_flags(mut b: Body, changed: bool, enable: bool) -> Body
+    ensures { λ r. ⌜ r ≡ setFlags b «changed» «enable» ⌝ }
+{
+    b.changed = changed;
+    b.enable = enable;
     b
 }
 
@@ -58,7 +67,8 @@ pub fn review_drives(mut b: Body) -> Body
     b
 }
 
-fn no_string() -> Collected
+// Nothing collected.
+pub fn no_string() -> Collected
     ensures { λ r. ⌜ r ≡ nothingCollected ⌝ }
 {
     Collected {

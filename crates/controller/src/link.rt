@@ -1,9 +1,36 @@
-// Strings from the host.
+// The link: strings from the host, the answers to what was offered or sent, and a broken link.
+use crate::body::go_idle;
+use crate::body::no_string;
+use crate::body::refuse;
+use crate::body::reply;
+use crate::body::review_drives;
+use crate::body::with_flags;
+use crate::completion::complete;
+use crate::completion::primary_now;
+use crate::completion::send_word;
+use crate::completion::with_code;
+use crate::state::Action;
+use crate::state::Body;
 use crate::state::Collected;
+use crate::state::Controller;
+use crate::state::Kind;
+use crate::state::Phase;
+use crate::state::Reply;
+use crate::state::Send;
 use crate::state::Store;
+use status::strings::INTERRUPT;
 ghost use mathlib.Core.Path.{_≡_};
-ghost use Prim.Native.Nat.{_<_};
-ghost use Rattle.controller.specs.Link.{wholeLength, appended, loadXor, checks, asksInterrupt};
+ghost use mathlib.Core.Bool.{true};
+ghost use Prim.Native.Nat.{_<_, _≤_};
+ghost use Rattle.controller.specs.Damaged.{sound};
+ghost use Rattle.controller.specs.Link.{wholeLength, appended, loadXor, checks, firstByte, lastByte, nextByte, accepted, givenUp, saidNo, asksInterrupt, goRefused, goTaken, byteIn, brokenIn, tickWith, tickIn};
+
+// Bytes of the link.
+const ACK: u8 = 0x06;
+
+const NACK: u8 = 0x15;
+
+const END_OF_RECORD: u8 = 0x45;
 
 // How many bytes a string with this lead has.
 pub fn whole_length(lead: u8) -> u8
@@ -57,4 +84,152 @@ pub fn asks_interrupt(store: Store) -> bool
     ensures { λ r. ⌜ r ≡ asksInterrupt store ⌝ }
 {
     128 <= store.address
+}
+
+// The first byte of a string, or one that begins none.
+pub fn first_byte(mut b: Body, byte: u8) -> Reply
+    ensures { λ r. ⌜ r ≡ firstByte b byte ⌝ }
+{
+    let starts = (byte == 0x62) | (byte == 0x64);
+    if starts {
+        let string = append(no_string(), byte);
+        b.collected = string;
+        let c = Controller {
+            body: b,
+            phase: Phase::Collecting,
+        };
+        return reply(c, Action::Nothing);
+    }
+    let ignored = byte == NACK;
+    if ignored {
+        let c = Controller {
+            body: b,
+            phase: Phase::Collecting,
+        };
+        return reply(c, Action::Nothing);
+    }
+    go_idle(b, Action::Byte(NACK))
+}
+
+// A whole string: ACK is offered, or NACK answers.
+pub fn last_byte(b: Body) -> Reply
+    ensures { λ r. ⌜ r ≡ lastByte b ⌝ }
+{
+    let string = b.collected;
+    let good = string_checks(string);
+    if good {
+        let c = Controller {
+            body: b,
+            phase: Phase::AckOffered,
+        };
+        return reply(c, Action::Byte(ACK));
+    }
+    go_idle(b, Action::Byte(NACK))
+}
+
+// A further byte of a string.
+pub fn next_byte(mut b: Body, byte: u8) -> Reply
+    requires { ⌜ b .collected .length < 8 ⌝ }
+    ensures { λ r. ⌜ r ≡ nextByte b byte ⌝ }
+{
+    let string = b.collected;
+    let whole = whole_length(string.c0);
+    let last = string.length + 1 == whole;
+    let longer = append(string, byte);
+    b.collected = longer;
+    if last {
+        return last_byte(b);
+    }
+    let c = Controller {
+        body: b,
+        phase: Phase::Collecting,
+    };
+    reply(c, Action::Nothing)
+}
+
+// A sent string is accepted.
+pub fn accepted(b: Body, kind: Kind) -> Reply
+    ensures { λ r. ⌜ r ≡ accepted b kind ⌝ }
+{
+    match kind {
+        Kind::Load => go_idle(b, Action::Nothing),
+        Kind::Secondary => send_word(b, Kind::Completion, INTERRUPT, primary_now(b)),
+        Kind::Completion => go_idle(with_flags(b, false, b.enable), Action::Nothing),
+        Kind::Change => go_idle(with_flags(b, false, false), Action::Nothing),
+    }
+}
+
+// A send is given up.
+pub fn given_up(b: Body, kind: Kind) -> Reply
+    ensures { λ r. ⌜ r ≡ givenUp b kind ⌝ }
+{
+    match kind {
+        Kind::Load => go_idle(b, Action::Nothing),
+        Kind::Secondary => go_idle(b, Action::Nothing),
+        Kind::Completion => go_idle(b, Action::Nothing),
+        Kind::Change => go_idle(with_flags(b, b.changed, false), Action::Nothing),
+    }
+}
+
+// A sent string is answered by a no: it goes again, or is given up after the fifth.
+pub fn said_no(b: Body, send: Send) -> Reply
+    requires { ⌜ send .noes ≤ 4 ⌝ }
+    ensures { λ r. ⌜ r ≡ saidNo b send ⌝ }
+{
+    let kind = send.kind;
+    let bytes = send.bytes;
+    let fifth = send.noes == 4;
+    if fifth {
+        return given_up(b, kind);
+    }
+    let again = Send {
+        kind,
+        bytes,
+        noes: send.noes + 1,
+    };
+    let c = Controller {
+        body: b,
+        phase: Phase::Sending(again),
+    };
+    reply(c, Action::Text(bytes))
+}
+
+// GO is answered by a no: EOR is offered.
+pub fn go_refused(b: Body, store: Store) -> Reply
+    ensures { λ r. ⌜ r ≡ goRefused b store ⌝ }
+{
+    let coded = with_code(b, 0x05);
+    let asked = asks_interrupt(store);
+    let c = Controller {
+        body: coded,
+        phase: Phase::EndOffered(asked),
+    };
+    reply(c, Action::Byte(END_OF_RECORD))
+}
+
+// GO is answered by a yes: the data call is awaited.
+pub fn go_taken(b: Body, store: Store) -> Reply
+    ensures { λ r. ⌜ r ≡ goTaken b store ⌝ }
+{
+    let c = Controller {
+        body: b,
+        phase: Phase::DataAwaited(store),
+    };
+    reply(c, Action::Nothing)
+}
+
+// A tick while nothing is collected, after the review.
+pub fn tick_with(b: Body) -> Reply
+    ensures { λ r. ⌜ r ≡ tickWith b ⌝ }
+{
+    let asked = b.changed & b.enable;
+    if asked {
+        let word = primary_now(b);
+        return send_word(b, Kind::Change, INTERRUPT, word);
+    }
+    let c = Controller {
+        body: b,
+        phase: Phase::Collecting,
+    };
+    reply(c, Action::Nothing)
 }

@@ -1,0 +1,35 @@
+-- `controller::link::tick_with` meets its contract: by changed and enable.
+-- Assumes nothing.
+use borrow.Author.Needs.{needs}
+use Rattle.common.specs.Pick.{pick}
+use Rattle.controller.specs.Link.{tickWith}
+use Rattle.controller.proofs.link.tick_with.Statement.{statement}
+use Rattle.controller.proofs.link.tick_with.Tie as tie
+
+primary-now-requires : tie.Need-primary-now-requires
+primary-now-requires c κs = search needs
+
+send-word-requires : tie.Need-send-word-requires
+send-word-requires c κs = search needs
+
+returns : tie.Need-returns
+unfolding tickWith pick
+returns c = simp (
+  c .send-word .ensures,
+  c .before .primary-now .ensures,
+  c .before .before .if1 .taken,
+)
+
+reply-requires : tie.Need-reply-requires
+reply-requires c κs = search needs
+
+returns-2 : tie.Need-returns-2
+unfolding tickWith pick
+returns-2 c = simp (
+  c .reply .ensures,
+  c .before .if1 .left,
+)
+
+pub tick-with-spec : {M : Type 1} → statement M
+tick-with-spec =
+    tie.close (tie.spec primary-now-requires send-word-requires returns reply-requires returns-2)
