@@ -1,3 +1,4 @@
+pub mod SoundLaws
 pub mod CompletionLaws
 pub mod BenchCases
 pub mod OneDrive

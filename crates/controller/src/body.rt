@@ -13,10 +13,12 @@ use status::drives::fresh_drives;
 use status::drives::get;
 use status::drives::put;
 use status::drives::reset_drives;
+use status::drives::with_report;
 use status::words::Word;
 use status::words::no_outcome;
 ghost use mathlib.Core.Path.{_≡_};
-ghost use Rattle.controller.specs.State.{current, setCurrent, setFlags, nothingCollected, zeroWord, startWith, fresh, resetOf, review, collecting, done, refused, idle};
+ghost use Rattle.status.specs.Drives.{driveOf, withDrive, reported};
+ghost use Rattle.controller.specs.State.{current, setCurrent, setDrives, setFlags, nothingCollected, zeroWord, startWith, fresh, resetOf, review, collecting, done, refused, idle};
 ghost use Rattle.controller.specs.Stores.{cleared};
 
 // The selected drive.
@@ -33,6 +35,17 @@ pub fn put_current(mut b: Body, drive: Drive) -> Body
 {
     let drives = b.drives;
     let changed = put(drives, b.selected, drive);
+    b.drives = changed;
+    b
+}
+
+// A new report for one of the drives.
+pub fn put_report(mut b: Body, number: u8, report: u8) -> Body
+    ensures { λ r. ⌜ r ≡ setDrives b (withDrive (b .drives) number (reported (driveOf (b .drives) number) report)) ⌝ }
+{
+    let drives = b.drives;
+    let drive = with_report(get(drives, number), report);
+    let changed = put(drives, number, drive);
     b.drives = changed;
     b
 }

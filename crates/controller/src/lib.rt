@@ -4,5 +4,6 @@ pub mod completion;
 pub mod damaged;
 pub mod link;
 pub mod loads;
+pub mod machine;
 pub mod state;
 pub mod stores;

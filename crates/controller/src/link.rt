@@ -233,3 +233,64 @@ pub fn tick_with(b: Body) -> Reply
     };
     reply(c, Action::Nothing)
 }
+
+// A byte, by the phase.
+pub fn byte_in(c: Controller, byte: u8) -> Reply
+    requires { ⌜ sound c ≡ true ⌝ }
+    ensures { λ r. ⌜ r ≡ byteIn c (c .body) byte (c .phase) ⌝ }
+{
+    let b = c.body;
+    let phase = c.phase;
+    let first = b.collected.length == 0;
+    let yes = byte == ACK;
+    match phase {
+        Phase::Collecting => if first { first_byte(b, byte) } else { next_byte(b, byte) },
+        Phase::AckOffered => go_idle(b, Action::Nothing),
+        Phase::Sending(send) => {
+            let kind = send.kind;
+            if yes { accepted(b, kind) } else { said_no(b, send) }
+        }
+        Phase::GoOffered(store) => if yes { go_taken(b, store) } else { go_refused(b, store) },
+        Phase::DataAwaited(_) => refuse(2, c),
+        Phase::ResultAwaited(_, _) => refuse(2, c),
+        Phase::EndOffered(interrupt) => complete(b, interrupt),
+    }
+}
+
+// A broken link, by the phase.
+pub fn broken_in(c: Controller) -> Reply
+    ensures { λ r. ⌜ r ≡ brokenIn c (c .body) (c .phase) ⌝ }
+{
+    let b = c.body;
+    let phase = c.phase;
+    match phase {
+        Phase::Collecting => go_idle(b, Action::Nothing),
+        Phase::AckOffered => go_idle(b, Action::Nothing),
+        Phase::Sending(send) => {
+            let kind = send.kind;
+            given_up(b, kind)
+        }
+        Phase::GoOffered(store) => go_refused(b, store),
+        Phase::DataAwaited(_) => refuse(2, c),
+        Phase::ResultAwaited(_, _) => refuse(2, c),
+        Phase::EndOffered(interrupt) => complete(b, interrupt),
+    }
+}
+
+// A tick, by the phase.
+pub fn tick_in(c: Controller) -> Reply
+    ensures { λ r. ⌜ r ≡ tickIn c (c .body) (c .phase) ⌝ }
+{
+    let b = c.body;
+    let phase = c.phase;
+    let empty = b.collected.length == 0;
+    match phase {
+        Phase::Collecting => if empty { tick_with(review_drives(b)) } else { refuse(4, c) },
+        Phase::AckOffered => refuse(4, c),
+        Phase::Sending(_) => refuse(4, c),
+        Phase::GoOffered(_) => refuse(4, c),
+        Phase::DataAwaited(_) => refuse(4, c),
+        Phase::ResultAwaited(_, _) => refuse(4, c),
+        Phase::EndOffered(_) => refuse(4, c),
+    }
+}

@@ -1,11 +1,17 @@
-// Loads: which word a load asks for.
+// Loads: which word a load asks for, and its reply.
+use crate::body::go_idle;
 use crate::completion::primary_now;
+use crate::completion::send_word;
+use crate::state::Action;
 use crate::state::Body;
+use crate::state::Kind;
+use crate::state::Reply;
+use status::strings::LOAD_REPLY;
 use status::words::Word;
 use status::words::reports_word;
 use status::words::secondary_word;
 ghost use mathlib.Core.Path.{_≡_};
-ghost use Rattle.controller.specs.Loads.{loadWord};
+ghost use Rattle.controller.specs.Loads.{loadWord, loaded};
 
 // By the operation, address bits 1-3; 6 and 7 are not asked.
 pub fn load_word(b: Body, operation: u8) -> Word
@@ -23,5 +29,17 @@ pub fn load_word(b: Body, operation: u8) -> Word
         3 => b.tertiary,
         4 => reports_word(b.drives),
         _ => b.quintary,
+    }
+}
+
+// A load is carried out: its word is sent, or there is no reply.
+pub fn loaded(b: Body, address: u8) -> Reply
+    ensures { λ r. ⌜ r ≡ loaded b address ⌝ }
+{
+    let operation = address / 16 % 8;
+    match operation {
+        6 => go_idle(b, Action::Nothing),
+        7 => go_idle(b, Action::Nothing),
+        _ => send_word(b, Kind::Load, LOAD_REPLY, load_word(b, operation)),
     }
 }

@@ -1,7 +1,12 @@
-// Stores: what the address and the operand ask for.
+// Stores: what the address and the operand ask for, and how it is carried out.
+use crate::body::clear_outcome;
 use crate::body::current_drive;
+use crate::body::put_current;
 use crate::body::reply;
+use crate::body::reset_controller;
+use crate::body::with_flags;
 use crate::completion::complete;
+use crate::completion::with_code;
 use crate::link::asks_interrupt;
 use crate::state::Action;
 use crate::state::Body;
@@ -14,13 +19,15 @@ use operations::decode::Decoded;
 use operations::decode::decode;
 use operations::operation::Operation;
 use operations::operation::counts_bytes;
+use operations::operation::movement;
 use operations::operation::offers_end;
 use operations::operation::order_byte;
+use operations::test::may_move;
 use status::drives::Drive;
 use status::strings::Six;
 use status::strings::order_of;
 ghost use mathlib.Core.Path.{_≡_};
-ghost use Rattle.controller.specs.Stores.{storeOf, namesDrive, named, asked, tracked, withDensity, motionOrder, pastTest};
+ghost use Rattle.controller.specs.Stores.{storeOf, namesDrive, named, asked, tracked, withDensity, motionOrder, pastTest, endedBy, settled, ordered, begun, operated, decoded, carriedOut};
 ghost use Rattle.controller.specs.Records.{heldCount, ending};
 
 // The store that was collected.
@@ -136,4 +143,131 @@ pub fn end_operation(b: Body, operation: Operation, store: Store) -> Reply
         return reply(c, Action::Byte(0x45));
     }
     complete(b, asked)
+}
+
+// A code ends the store.
+pub fn ended_by(b: Body, store: Store, code: u8) -> Reply
+    ensures { λ r. ⌜ r ≡ endedBy b store code ⌝ }
+{
+    let coded = with_code(b, code);
+    let asked = asks_interrupt(store);
+    complete(coded, asked)
+}
+
+// A setting is made, and the store is done.
+pub fn settled(b: Body, store: Store) -> Reply
+    ensures { λ r. ⌜ r ≡ settled b store ⌝ }
+{
+    let asked = asks_interrupt(store);
+    complete(b, asked)
+}
+
+// The move is ordered, and its result awaited.
+pub fn ordered(b: Body, operation: Operation, store: Store) -> Reply
+    ensures { λ r. ⌜ r ≡ ordered b operation store ⌝ }
+{
+    let order = motion_order(b, operation, store);
+    let c = Controller {
+        body: b,
+        phase: Phase::ResultAwaited(operation, store),
+    };
+    reply(c, Action::Order(order))
+}
+
+// A write offers GO: the host's data comes before the move.
+fn offer_go(b: Body, store: Store) -> Reply
+    ensures { λ r. ⌜ r ≡ begun b Operation.Write store ⌝ }
+{
+    let c = Controller {
+        body: b,
+        phase: Phase::GoOffered(store),
+    };
+    reply(c, Action::Byte(0x47))
+}
+
+// Check bytes await a result with no order.
+fn await_check_bytes(b: Body, store: Store) -> Reply
+    ensures { λ r. ⌜ r ≡ begun b Operation.CheckBytes store ⌝ }
+{
+    let c = Controller {
+        body: b,
+        phase: Phase::ResultAwaited(Operation::CheckBytes, store),
+    };
+    reply(c, Action::Nothing)
+}
+
+// An operation begins.
+pub fn begun(b: Body, operation: Operation, store: Store) -> Reply
+    ensures { λ r. ⌜ r ≡ begun b operation store ⌝ }
+{
+    match operation {
+        Operation::Write => offer_go(b, store),
+        Operation::CheckBytes => await_check_bytes(b, store),
+        _ => ordered(b, operation, store),
+    }
+}
+
+// An operation begins where the drive may carry it out.
+pub fn operated(b: Body, operation: Operation, store: Store) -> Reply
+    ensures { λ r. ⌜ r ≡ operated b operation store ⌝ }
+{
+    let drive = current_drive(b);
+    let tape = movement(operation);
+    let may = may_move(tape, drive.report);
+    if may {
+        let past = past_test(b, operation);
+        return begun(past, operation, store);
+    }
+    ended_by(b, store, 0x04)
+}
+
+// A track is selected for the drive.
+fn select_track(b: Body, store: Store, track: u8) -> Reply
+    ensures { λ r. ⌜ r ≡ decoded b store (Decoded.Track track) ⌝ }
+{
+    let drive = current_drive(b);
+    let tracked = with_track(drive, track);
+    settled(put_current(b, tracked), store)
+}
+
+// A density is selected for the drive.
+fn select_density(b: Body, store: Store, density: u8) -> Reply
+    ensures { λ r. ⌜ r ≡ decoded b store (Decoded.Density density) ⌝ }
+{
+    let drive = current_drive(b);
+    let dense = with_density(drive, density);
+    settled(put_current(b, dense), store)
+}
+
+// What a store asks for is done.
+pub fn decoded(b: Body, store: Store, asked: Decoded) -> Reply
+    ensures { λ r. ⌜ r ≡ decoded b store asked ⌝ }
+{
+    match asked {
+        Decoded::Reset => reply(reset_controller(b), Action::Nothing),
+        Decoded::Code(code) => ended_by(b, store, code),
+        Decoded::Track(track) => select_track(b, store, track),
+        Decoded::Enable(enable) => settled(with_flags(b, b.changed, enable), store),
+        Decoded::Density(density) => select_density(b, store, density),
+        Decoded::Operate(operation) => operated(b, operation, store),
+    }
+}
+
+// A store is carried out: the drive that it names is selected first.
+pub fn carried_out(b: Body, store: Store) -> Reply
+    ensures { λ r. ⌜ r ≡ carriedOut b store ⌝ }
+{
+    let mut cleared = clear_outcome(b);
+    let asked = asked_for(store);
+    let names = names_drive(store);
+    if names {
+        let drive = named_drive(store);
+        let above = 4 <= drive;
+        if above {
+            return ended_by(cleared, store, 0x01);
+        }
+        cleared.selected = drive;
+        return decoded(cleared, store, asked);
+    }
+    decoded(cleared, store, asked)
 }

@@ -1,0 +1,47 @@
+-- `controller::state::Controller::reset` meets its contract: whether the state is sound.
+-- Assumes nothing.
+use borrow.Author.Needs.{needs}
+use Rattle.common.specs.Pick.{pick}
+use Rattle.controller.specs.Machine.{resetCall}
+use Rattle.controller.proofs.state.Controller.reset.Statement.{statement}
+use Rattle.controller.proofs.state.Controller.reset.Tie as tie
+
+is-sound-requires : tie.Need-is-sound-requires
+is-sound-requires c κs = search needs
+
+reset-controller-requires : tie.Need-reset-controller-requires
+reset-controller-requires c κs = search needs
+
+reply-requires : tie.Need-reply-requires
+reply-requires c κs = search needs
+
+returns : tie.Need-returns
+unfolding resetCall pick
+returns c = simp (
+  c .reply .ensures,
+  c .before .reset-controller .ensures,
+  c .before .before .before .if1 .taken,
+  ← c .before .before .before .before .is-sound .ensures,
+)
+
+refuse-requires : tie.Need-refuse-requires
+refuse-requires c κs = search needs
+
+returns-2 : tie.Need-returns-2
+unfolding resetCall pick
+returns-2 c = simp (
+  c .refuse .ensures,
+  c .before .if1 .left,
+  ← c .before .before .is-sound .ensures,
+)
+
+pub reset-spec : {M : Type 1} → statement M
+reset-spec =
+    tie.close
+    (tie.spec
+    is-sound-requires
+    reset-controller-requires
+    reply-requires
+    returns
+    refuse-requires
+    returns-2)

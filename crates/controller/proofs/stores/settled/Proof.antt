@@ -1,0 +1,22 @@
+-- `controller::stores::settled` meets its contract: it is its definition.
+-- Assumes nothing.
+use borrow.Author.Needs.{needs}
+use Rattle.controller.specs.Stores.{settled}
+use Rattle.controller.proofs.stores.settled.Statement.{statement}
+use Rattle.controller.proofs.stores.settled.Tie as tie
+
+asks-interrupt-requires : tie.Need-asks-interrupt-requires
+asks-interrupt-requires c κs = search needs
+
+complete-requires : tie.Need-complete-requires
+complete-requires c κs = search needs
+
+returns : tie.Need-returns
+unfolding settled
+returns c = simp (
+  c .complete .ensures,
+  c .before .asks-interrupt .ensures,
+)
+
+pub settled-spec : {M : Type 1} → statement M
+settled-spec = tie.close (tie.spec asks-interrupt-requires complete-requires returns)
