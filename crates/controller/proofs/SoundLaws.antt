@@ -9,7 +9,6 @@ use borrow.Author.Tests.{ltb-true, leb-true, eqb-true}
 use Rattle.common.proofs.PickLaws.{pick-by}
 use Rattle.controller.specs.declared.state.Collected.{Collected}
 use Rattle.controller.specs.declared.state.Send.{Send}
-use Rattle.controller.specs.declared.state.Phase.{Phase}
 use Rattle.controller.specs.declared.state.Phase.the-variants.{Collecting, Sending}
 use Rattle.controller.specs.declared.state.Controller.{Controller}
 use Rattle.controller.specs.Link.{wholeLength}

@@ -25,12 +25,14 @@ ghost use Prim.Native.Nat.{_<_, _≤_};
 ghost use Rattle.controller.specs.Damaged.{sound};
 ghost use Rattle.controller.specs.Link.{wholeLength, appended, loadXor, checks, firstByte, lastByte, nextByte, accepted, givenUp, saidNo, asksInterrupt, goRefused, goTaken, byteIn, brokenIn, tickWith, tickIn};
 
-// Bytes of the link.
+// Bytes of the link: the answers to a string, and what is offered before and after a transfer.
 const ACK: u8 = 0x06;
 
 const NACK: u8 = 0x15;
 
-const END_OF_RECORD: u8 = 0x45;
+pub const GO: u8 = 0x47;
+
+pub const END_OF_RECORD: u8 = 0x45;
 
 // How many bytes a string with this lead has.
 pub fn whole_length(lead: u8) -> u8
@@ -87,7 +89,7 @@ pub fn asks_interrupt(store: Store) -> bool
 }
 
 // The first byte of a string, or one that begins none.
-pub fn first_byte(mut b: Body, byte: u8) -> Reply
+fn first_byte(mut b: Body, byte: u8) -> Reply
     ensures { λ r. ⌜ r ≡ firstByte b byte ⌝ }
 {
     let starts = (byte == 0x62) | (byte == 0x64);
@@ -112,7 +114,7 @@ pub fn first_byte(mut b: Body, byte: u8) -> Reply
 }
 
 // A whole string: ACK is offered, or NACK answers.
-pub fn last_byte(b: Body) -> Reply
+fn last_byte(b: Body) -> Reply
     ensures { λ r. ⌜ r ≡ lastByte b ⌝ }
 {
     let string = b.collected;
@@ -128,7 +130,7 @@ pub fn last_byte(b: Body) -> Reply
 }
 
 // A further byte of a string.
-pub fn next_byte(mut b: Body, byte: u8) -> Reply
+fn next_byte(mut b: Body, byte: u8) -> Reply
     requires { ⌜ b .collected .length < 8 ⌝ }
     ensures { λ r. ⌜ r ≡ nextByte b byte ⌝ }
 {
@@ -148,7 +150,7 @@ pub fn next_byte(mut b: Body, byte: u8) -> Reply
 }
 
 // A sent string is accepted.
-pub fn accepted(b: Body, kind: Kind) -> Reply
+fn accepted(b: Body, kind: Kind) -> Reply
     ensures { λ r. ⌜ r ≡ accepted b kind ⌝ }
 {
     match kind {
@@ -160,7 +162,7 @@ pub fn accepted(b: Body, kind: Kind) -> Reply
 }
 
 // A send is given up.
-pub fn given_up(b: Body, kind: Kind) -> Reply
+fn given_up(b: Body, kind: Kind) -> Reply
     ensures { λ r. ⌜ r ≡ givenUp b kind ⌝ }
 {
     match kind {
@@ -172,7 +174,7 @@ pub fn given_up(b: Body, kind: Kind) -> Reply
 }
 
 // A sent string is answered by a no: it goes again, or is given up after the fifth.
-pub fn said_no(b: Body, send: Send) -> Reply
+fn said_no(b: Body, send: Send) -> Reply
     requires { ⌜ send .noes ≤ 4 ⌝ }
     ensures { λ r. ⌜ r ≡ saidNo b send ⌝ }
 {
@@ -195,7 +197,7 @@ pub fn said_no(b: Body, send: Send) -> Reply
 }
 
 // GO is answered by a no: EOR is offered.
-pub fn go_refused(b: Body, store: Store) -> Reply
+fn go_refused(b: Body, store: Store) -> Reply
     ensures { λ r. ⌜ r ≡ goRefused b store ⌝ }
 {
     let coded = with_code(b, 0x05);
@@ -208,7 +210,7 @@ pub fn go_refused(b: Body, store: Store) -> Reply
 }
 
 // GO is answered by a yes: the data call is awaited.
-pub fn go_taken(b: Body, store: Store) -> Reply
+fn go_taken(b: Body, store: Store) -> Reply
     ensures { λ r. ⌜ r ≡ goTaken b store ⌝ }
 {
     let c = Controller {
@@ -219,7 +221,7 @@ pub fn go_taken(b: Body, store: Store) -> Reply
 }
 
 // A tick while nothing is collected, after the review.
-pub fn tick_with(b: Body) -> Reply
+fn tick_with(b: Body) -> Reply
     ensures { λ r. ⌜ r ≡ tickWith b ⌝ }
 {
     let asked = b.changed & b.enable;
@@ -244,13 +246,25 @@ pub fn byte_in(c: Controller, byte: u8) -> Reply
     let first = b.collected.length == 0;
     let yes = byte == ACK;
     match phase {
-        Phase::Collecting => if first { first_byte(b, byte) } else { next_byte(b, byte) },
+        Phase::Collecting => if first {
+            first_byte(b, byte)
+        } else {
+            next_byte(b, byte)
+        },
         Phase::AckOffered => go_idle(b, Action::Nothing),
         Phase::Sending(send) => {
             let kind = send.kind;
-            if yes { accepted(b, kind) } else { said_no(b, send) }
+            if yes {
+                accepted(b, kind)
+            } else {
+                said_no(b, send)
+            }
         }
-        Phase::GoOffered(store) => if yes { go_taken(b, store) } else { go_refused(b, store) },
+        Phase::GoOffered(store) => if yes {
+            go_taken(b, store)
+        } else {
+            go_refused(b, store)
+        },
         Phase::DataAwaited(_) => refuse(2, c),
         Phase::ResultAwaited(_, _) => refuse(2, c),
         Phase::EndOffered(interrupt) => complete(b, interrupt),
@@ -285,7 +299,11 @@ pub fn tick_in(c: Controller) -> Reply
     let phase = c.phase;
     let empty = b.collected.length == 0;
     match phase {
-        Phase::Collecting => if empty { tick_with(review_drives(b)) } else { refuse(4, c) },
+        Phase::Collecting => if empty {
+            tick_with(review_drives(b))
+        } else {
+            refuse(4, c)
+        },
         Phase::AckOffered => refuse(4, c),
         Phase::Sending(_) => refuse(4, c),
         Phase::GoOffered(_) => refuse(4, c),

@@ -19,7 +19,7 @@ ghost use mathlib.Core.Path.{_≡_};
 ghost use Rattle.controller.specs.Machine.{takenBody, takenIn, byteCall, brokenCall, tickCall, takenCall, reportCall, resetCall};
 
 // The string that was collected is carried out: a load or a store, by its lead.
-pub fn taken_body(b: Body) -> Reply
+fn taken_body(b: Body) -> Reply
     ensures { λ r. ⌜ r ≡ takenBody b ⌝ }
 {
     let string = b.collected;
@@ -32,7 +32,7 @@ pub fn taken_body(b: Body) -> Reply
 }
 
 // ACK is taken, by the phase.
-pub fn taken_in(c: Controller) -> Reply
+fn taken_in(c: Controller) -> Reply
     ensures { λ r. ⌜ r ≡ takenIn c (c .body) (c .phase) ⌝ }
 {
     let b = c.body;

@@ -7,6 +7,8 @@ use crate::body::reset_controller;
 use crate::body::with_flags;
 use crate::completion::complete;
 use crate::completion::with_code;
+use crate::link::END_OF_RECORD;
+use crate::link::GO;
 use crate::link::asks_interrupt;
 use crate::state::Action;
 use crate::state::Body;
@@ -140,13 +142,13 @@ pub fn end_operation(b: Body, operation: Operation, store: Store) -> Reply
             body: b,
             phase: Phase::EndOffered(asked),
         };
-        return reply(c, Action::Byte(0x45));
+        return reply(c, Action::Byte(END_OF_RECORD));
     }
     complete(b, asked)
 }
 
 // A code ends the store.
-pub fn ended_by(b: Body, store: Store, code: u8) -> Reply
+fn ended_by(b: Body, store: Store, code: u8) -> Reply
     ensures { λ r. ⌜ r ≡ endedBy b store code ⌝ }
 {
     let coded = with_code(b, code);
@@ -155,7 +157,7 @@ pub fn ended_by(b: Body, store: Store, code: u8) -> Reply
 }
 
 // A setting is made, and the store is done.
-pub fn settled(b: Body, store: Store) -> Reply
+fn settled(b: Body, store: Store) -> Reply
     ensures { λ r. ⌜ r ≡ settled b store ⌝ }
 {
     let asked = asks_interrupt(store);
@@ -182,7 +184,7 @@ fn offer_go(b: Body, store: Store) -> Reply
         body: b,
         phase: Phase::GoOffered(store),
     };
-    reply(c, Action::Byte(0x47))
+    reply(c, Action::Byte(GO))
 }
 
 // Check bytes await a result with no order.
@@ -197,7 +199,7 @@ fn await_check_bytes(b: Body, store: Store) -> Reply
 }
 
 // An operation begins.
-pub fn begun(b: Body, operation: Operation, store: Store) -> Reply
+fn begun(b: Body, operation: Operation, store: Store) -> Reply
     ensures { λ r. ⌜ r ≡ begun b operation store ⌝ }
 {
     match operation {
@@ -208,7 +210,7 @@ pub fn begun(b: Body, operation: Operation, store: Store) -> Reply
 }
 
 // An operation begins where the drive may carry it out.
-pub fn operated(b: Body, operation: Operation, store: Store) -> Reply
+fn operated(b: Body, operation: Operation, store: Store) -> Reply
     ensures { λ r. ⌜ r ≡ operated b operation store ⌝ }
 {
     let drive = current_drive(b);
@@ -240,7 +242,7 @@ fn select_density(b: Body, store: Store, density: u8) -> Reply
 }
 
 // What a store asks for is done.
-pub fn decoded(b: Body, store: Store, asked: Decoded) -> Reply
+fn decoded(b: Body, store: Store, asked: Decoded) -> Reply
     ensures { λ r. ⌜ r ≡ decoded b store asked ⌝ }
 {
     match asked {

@@ -29,7 +29,6 @@ returns c = simp (
   ← c .before .before .named-drive .ensures,
   c .before .before .before .if1 .taken,
   ← c .before .before .before .before .names-drive .ensures,
-  c .before .before .before .before .before .asked-for .ensures,
   c .before .before .before .before .before .before .clear-outcome .ensures,
 )
 

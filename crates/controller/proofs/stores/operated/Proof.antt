@@ -28,7 +28,7 @@ returns c = simp (
   c .before .past-test .ensures,
   c .before .before .if1 .taken,
   ← c .before .before .before .may-move .ensures,
- ← c .before .before .before .before .movement .ensures,
+  ← c .before .before .before .before .movement .ensures,
   ← c .before .before .before .before .before .current-drive .ensures,
 )
 
@@ -41,7 +41,7 @@ returns-2 c = simp (
   c .ended-by .ensures,
   c .before .if1 .left,
   ← c .before .before .may-move .ensures,
- ← c .before .before .before .movement .ensures,
+  ← c .before .before .before .movement .ensures,
   ← c .before .before .before .before .current-drive .ensures,
 )
 
