@@ -1,16 +1,16 @@
 -- Demand 3 over the definitions: what a drive ends with and was given is a function of its own history alone, so two lists with the same
 -- history of a drive agree on it.
 -- Assumes nothing.
-use mathlib.Core.Path.{_≡_, refl, sym, ap, ap₂, subst, _∙_}
+use mathlib.Core.Path.{_≡_, refl, sym, ap, ap₂, _∙_}
 use Prim.Native.Nat.{ℕ, _≤_}
-use mathlib.Core.Bool.{Bool, true, false, _&&_}
+use mathlib.Core.Bool.{true}
 use mathlib.Core.List.{List, [], _∷_, _++_, append-assoc}
 use Rattle.status.specs.declared.drives.Drive.{Drive}
 use Rattle.controller.specs.declared.state.Store.{Store}
 use Rattle.controller.specs.declared.state.Controller.{Controller}
 use Rattle.controller.specs.State.{startWith, fresh}
 use Rattle.controller.specs.Machine.{Call, Exchange, step, run}
-use Rattle.controller.specs.Separation.{Event, Output, lastStore, noStore, eventsOf, historyFrom, history, outputsOf, outputsFrom, outputs, admits, admittedFrom, admitted, after, left, Agree, Separate}
+use Rattle.controller.specs.Separation.{Event, Output, lastStore, noStore, eventsOf, historyFrom, history, outputsFrom, admits, admittedFrom, admitted, after, Separate}
 use Rattle.controller.proofs.OneDrive.{View, told, gives, toldAll, givesAll}
 use Rattle.controller.proofs.Resting.{seen}
 use Rattle.controller.proofs.Following.{viewOf, InHand}

@@ -3,7 +3,7 @@
 use mathlib.Core.Path.{_≡_, refl, sym, ap, ap₂, subst, _∙_}
 use Prim.Native.Nat.{ℕ, _≤_}
 use native.Mathlib.Omega.{arith}
-use mathlib.Core.Bool.{Bool, true, false, not, _&&_, true≢false, false≢true, and-false}
+use mathlib.Core.Bool.{Bool, true, false, not, _&&_, false≢true, and-false}
 use mathlib.Core.List.{List, [], _∷_}
 use lib.Dec.{leb, eqb}
 use lib.ListN.{length}
@@ -23,7 +23,7 @@ use Rattle.controller.specs.declared.state.Body.{Body}
 use Rattle.controller.specs.declared.state.Controller.{Controller}
 use Rattle.controller.specs.declared.state.Action.the-variants.{Nothing}
 use Rattle.controller.specs.declared.state.Reply.{Reply}
-use Rattle.controller.specs.State.{setSelected, setCurrent, setFlags, current, resetOf, done}
+use Rattle.controller.specs.State.{setSelected, setCurrent, setFlags, current, done}
 use Rattle.controller.specs.Link.{byteIn, brokenIn, tickIn}
 use Rattle.controller.specs.Loads.{loaded}
 use Rattle.controller.specs.Stores.{storeOf, namesDrive, named, asked, tracked, withDensity, pastTest, ordered, begun, operated, decoded, cleared, carriedOut}
@@ -32,8 +32,8 @@ use Rattle.controller.specs.Damaged.{sound}
 use Rattle.controller.specs.Machine.{unchanged, byteCall, brokenCall, tickCall, takenBody, takenIn, takenCall, reportCall, resetCall, dataIn, dataCall, resultIn, resultCall, Call, Exchange, plain, step}
 use Rattle.controller.specs.Machine.Call.{byte, taken, broken, report, hostData, result, tick, reset}
 use Rattle.controller.specs.Separation.{notRefused, isTaken, isOf, storeEvent, holdsStore, carriesOut, lastStore, awaitsGo, eventOf, bytesGiven, ordersFor, transferOf, isReset, resets, admits}
-use Rattle.controller.proofs.Resting.{seen, Free, Rests, idle-rests, given-up-rests, accepted-rests, said-no-rests, first-byte-rests, next-byte-rests, completed-rests, tick-rests, loaded-rests, ended-rests, settled-rests}
-use Rattle.controller.proofs.Following.{viewOf, InHand, free-held, free-view, rests-view, Follows, by-test, refused-follows, passes-follows, carried-follows, report-follows, go-taken-follows, go-refused-follows, data-follows, result-follows}
+use Rattle.controller.proofs.Resting.{Free, Rests, idle-rests, given-up-rests, accepted-rests, said-no-rests, first-byte-rests, next-byte-rests, completed-rests, tick-rests, loaded-rests, ended-rests, settled-rests}
+use Rattle.controller.proofs.Following.{viewOf, InHand, free-held, free-view, rests-view, Follows, refused-follows, passes-follows, carried-follows, report-follows, go-taken-follows, go-refused-follows, data-follows, result-follows}
 
 module _ (d : ℕ) (low : d ≤ 3) (last : Store) where
   -- with nothing in hand before and after, a call is no event of the drive

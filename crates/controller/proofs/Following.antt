@@ -8,7 +8,7 @@ use mathlib.Core.List.{List, [], _∷_, _++_, append-nil}
 use lib.Dec.{leb, eqb}
 use lib.ListN.{length, take}
 use lib.Seq.{take-append-seam}
-use borrow.Author.Tests.{eqb-true, eqb-false, eq-eqb, ne-eqb, leb-false, leb-true, not-true}
+use borrow.Author.Tests.{eqb-true, eqb-false, eq-eqb, ne-eqb, leb-false, leb-true}
 use Rattle.common.specs.Pick.{pick}
 use Rattle.common.specs.Given.{given}
 use Rattle.common.proofs.PickLaws.{pick-by, pick-yes, pick-no}
@@ -29,17 +29,16 @@ use Rattle.controller.specs.declared.state.Phase.{Phase}
 use Rattle.controller.specs.declared.state.Phase.the-variants.{Collecting, AckOffered, Sending, GoOffered, DataAwaited, ResultAwaited, EndOffered}
 use Rattle.controller.specs.declared.state.Body.{Body}
 use Rattle.controller.specs.declared.state.Controller.{Controller}
-use Rattle.controller.specs.declared.state.Action.{Action}
 use Rattle.controller.specs.declared.state.Action.the-variants.{Nothing, Order}
 use Rattle.controller.specs.declared.state.Reply.{Reply}
 use Rattle.controller.specs.State.{setDrives, setSelected, setFlags, setOutcome, setCurrent, current, done, refused}
 use Rattle.controller.specs.Link.{goTaken, goRefused}
-use Rattle.controller.specs.Stores.{storeOf, namesDrive, named, asked, endedBy, tracked, withDensity, motionOrder, pastTest, ordered, begun, operated, decoded, cleared, carriedOut}
-use Rattle.controller.specs.Records.{Answer, Result, thrownAway, heldCount, recordBytes, runsShort, withUnderflow, zeroedWords, isGcr, dataDone, withGap, resultDrive, resultBody, finalCode, isGone, usesImage, delivered, fitting, resultDone}
+use Rattle.controller.specs.Stores.{namesDrive, named, asked, endedBy, tracked, withDensity, motionOrder, pastTest, ordered, begun, operated, decoded, cleared, carriedOut}
+use Rattle.controller.specs.Records.{Result, thrownAway, heldCount, recordBytes, runsShort, withUnderflow, zeroedWords, isGcr, dataDone, withGap, resultDrive, resultBody, finalCode, isGone, usesImage, delivered, fitting, resultDone}
 use Rattle.controller.specs.Machine.{Call, Exchange, plain}
-use Rattle.controller.specs.Machine.Call.{byte, taken, broken, report, hostData, result, tick, reset}
+use Rattle.controller.specs.Machine.Call.{byte, taken, broken, report, hostData, result}
 use Rattle.controller.specs.Separation.{Event, Output, notRefused, isOf, isRead, holdsStore, storeEvent, awaitsGo, eventOf, eventsOf, ordersFor, bytesGiven, transferOf, outputsOf, asksReset, resets}
-use Rattle.controller.specs.Separation.Event.{reportCame, storeCame, goAnswered, dataCame, resultCame}
+use Rattle.controller.specs.Separation.Event.{reportCame, goAnswered, dataCame, resultCame}
 use Rattle.controller.specs.Separation.Output.{motion, image, delivery}
 use Rattle.controller.proofs.OneDrive.{Hand, View, resting, operand, handFor, begins, firstOrder, givenAtStore, handAfterGo, handAfterData, givenAtData, driveAfterResult, givenAtResult, told, gives, toldAll, givesAll}
 use Rattle.controller.proofs.OneDrive.Hand.{empty, goOffered, dataAwaited, resultAwaited}

@@ -6,3 +6,4 @@ pub mod Resting
 pub mod Following
 pub mod EachCall
 pub mod DrivesAreSeparate
+pub mod TheCalls

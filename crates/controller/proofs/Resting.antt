@@ -1,15 +1,14 @@
 -- Replies that leave nothing in hand and leave a drive as it was, but for the reviewed copy: whatever is sent, answered or completed.
 -- Assumes nothing.
-use mathlib.Core.Path.{_≡_, refl, ap, ap₂, _∙_}
+use mathlib.Core.Path.{_≡_, refl, ap, _∙_}
 use Prim.Native.Nat.{ℕ, _≤_, _+_, _/_, _%_}
-use mathlib.Core.Bool.{Bool, true, false, _&&_, _||_}
-use mathlib.Core.List.{List, []}
+use mathlib.Core.Bool.{Bool, false, _&&_, _||_}
+use mathlib.Core.List.{[]}
 use lib.Dec.{eqb}
-use Rattle.common.specs.Pick.{pick}
 use Rattle.common.proofs.PickLaws.{pick-by}
 use Rattle.status.specs.declared.drives.Drive.{Drive}
 use Rattle.status.specs.declared.words.Word.{Word}
-use Rattle.status.specs.Drives.{driveOf, copied, reviewedAll}
+use Rattle.status.specs.Drives.{driveOf, copied}
 use Rattle.status.proofs.DriveLaws.{reviewed-drive}
 use Rattle.operations.specs.declared.operation.Operation.{Operation}
 use Rattle.operations.specs.Operation.{offersEnd}
@@ -23,12 +22,12 @@ use Rattle.controller.specs.declared.state.Body.{Body}
 use Rattle.controller.specs.declared.state.Action.{Action}
 use Rattle.controller.specs.declared.state.Reply.{Reply}
 use Rattle.controller.specs.State.{setFlags, setCollected, review, idle}
-use Rattle.controller.specs.Completion.{primaryNow, sent, interrupts, completed, coded}
+use Rattle.controller.specs.Completion.{sent, interrupts, completed, coded}
 use Rattle.controller.specs.Link.{wholeLength, appended, checks, firstByte, lastByte, nextByte, accepted, givenUp, saidNo, asksInterrupt, goRefused, tickWith}
-use Rattle.controller.specs.Loads.{loadWord, loaded}
+use Rattle.controller.specs.Loads.{loaded}
 use Rattle.controller.specs.Stores.{endedBy, settled}
 use Rattle.controller.specs.Records.{ending}
-use Rattle.controller.specs.Separation.{Output, ordersFor}
+use Rattle.controller.specs.Separation.{ordersFor}
 
 -- what counts of a drive: all but the reviewed copy
 abbrev pub seen : ℕ → Body → Drive

@@ -26,7 +26,6 @@ use Rattle.status.specs.declared.words.Word.{Word}
 use Rattle.status.specs.Drives.{reports}
 use Rattle.status.specs.Words.{anyBit, tertiaryOf, quintaryOf}
 use Rattle.controller.specs.declared.state.Store.{Store}
-use Rattle.controller.specs.declared.state.Phase.{Phase}
 use Rattle.controller.specs.declared.state.Phase.the-variants.{EndOffered}
 use Rattle.controller.specs.declared.state.Body.{Body}
 use Rattle.controller.specs.declared.state.Action.the-variants.{Byte}
