@@ -1,5 +1,4 @@
 pub mod SoundLaws
-pub mod CompletionLaws
 pub mod BenchCases
 pub mod OneDrive
 pub mod Resting
