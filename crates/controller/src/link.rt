@@ -23,6 +23,7 @@ ghost use mathlib.Core.Path.{_≡_};
 ghost use mathlib.Core.Bool.{true};
 ghost use Prim.Native.Nat.{_<_, _≤_};
 ghost use Rattle.controller.specs.Damaged.{sound};
+ghost use Rattle.controller.specs.State.{done};
 ghost use Rattle.controller.specs.Link.{wholeLength, appended, loadXor, checks, firstByte, lastByte, nextByte, accepted, givenUp, saidNo, asksInterrupt, goRefused, goTaken, byteIn, brokenIn, tickWith, tickIn};
 
 // Bytes of the link: the answers to a string, and what is offered before and after a transfer.
@@ -88,6 +89,17 @@ pub fn asks_interrupt(store: Store) -> bool
     128 <= store.address
 }
 
+// Collecting, with what is collected kept, and no action.
+fn keep_collecting(b: Body) -> Reply
+    ensures { λ r. ⌜ r ≡ done (record { body = b; phase = Phase.Collecting }) Action.Nothing ⌝ }
+{
+    let c = Controller {
+        body: b,
+        phase: Phase::Collecting,
+    };
+    reply(c, Action::Nothing)
+}
+
 // The first byte of a string, or one that begins none.
 fn first_byte(mut b: Body, byte: u8) -> Reply
     ensures { λ r. ⌜ r ≡ firstByte b byte ⌝ }
@@ -96,19 +108,11 @@ fn first_byte(mut b: Body, byte: u8) -> Reply
     if starts {
         let string = append(no_string(), byte);
         b.collected = string;
-        let c = Controller {
-            body: b,
-            phase: Phase::Collecting,
-        };
-        return reply(c, Action::Nothing);
+        return keep_collecting(b);
     }
     let ignored = byte == NACK;
     if ignored {
-        let c = Controller {
-            body: b,
-            phase: Phase::Collecting,
-        };
-        return reply(c, Action::Nothing);
+        return keep_collecting(b);
     }
     go_idle(b, Action::Byte(NACK))
 }
@@ -142,11 +146,7 @@ fn next_byte(mut b: Body, byte: u8) -> Reply
     if last {
         return last_byte(b);
     }
-    let c = Controller {
-        body: b,
-        phase: Phase::Collecting,
-    };
-    reply(c, Action::Nothing)
+    keep_collecting(b)
 }
 
 // A sent string is accepted.
@@ -229,11 +229,7 @@ fn tick_with(b: Body) -> Reply
         let word = primary_now(b);
         return send_word(b, Kind::Change, INTERRUPT, word);
     }
-    let c = Controller {
-        body: b,
-        phase: Phase::Collecting,
-    };
-    reply(c, Action::Nothing)
+    keep_collecting(b)
 }
 
 // A byte, by the phase.
@@ -304,11 +300,6 @@ pub fn tick_in(c: Controller) -> Reply
         } else {
             refuse(4, c)
         },
-        Phase::AckOffered => refuse(4, c),
-        Phase::Sending(_) => refuse(4, c),
-        Phase::GoOffered(_) => refuse(4, c),
-        Phase::DataAwaited(_) => refuse(4, c),
-        Phase::ResultAwaited(_, _) => refuse(4, c),
-        Phase::EndOffered(_) => refuse(4, c),
+        _ => refuse(4, c),
     }
 }

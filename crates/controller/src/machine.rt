@@ -39,12 +39,7 @@ fn taken_in(c: Controller) -> Reply
     let phase = c.phase;
     match phase {
         Phase::AckOffered => taken_body(b),
-        Phase::Collecting => refuse(2, c),
-        Phase::Sending(_) => refuse(2, c),
-        Phase::GoOffered(_) => refuse(2, c),
-        Phase::DataAwaited(_) => refuse(2, c),
-        Phase::ResultAwaited(_, _) => refuse(2, c),
-        Phase::EndOffered(_) => refuse(2, c),
+        _ => refuse(2, c),
     }
 }
 

@@ -12,25 +12,25 @@ no-string-requires c κs = search needs
 append-requires : tie.Need-append-requires
 append-requires c κs = rw (c .no-string .ensures) (search needs)
 
-reply-requires : tie.Need-reply-requires
-reply-requires c κs = search needs
+keep-collecting-requires : tie.Need-keep-collecting-requires
+keep-collecting-requires c κs = search needs
 
 returns : tie.Need-returns
 unfolding firstByte pick
 returns c = simp (
-  c .reply .ensures,
+  c .keep-collecting .ensures,
   c .before .append .ensures,
   c .before .before .no-string .ensures,
   c .before .before .before .if1 .taken,
 )
 
-reply-requires-2 : tie.Need-reply-requires-2
-reply-requires-2 c κs = search needs
+keep-collecting-requires-2 : tie.Need-keep-collecting-requires-2
+keep-collecting-requires-2 c κs = search needs
 
 returns-2 : tie.Need-returns-2
 unfolding firstByte pick
 returns-2 c = simp (
-  c .reply2 .ensures,
+  c .keep-collecting2 .ensures,
   c .before .if2 .taken,
   c .before .before .if1 .left,
 )
@@ -52,9 +52,9 @@ first-byte-spec =
     (tie.spec
     no-string-requires
     append-requires
-    reply-requires
+    keep-collecting-requires
     returns
-    reply-requires-2
+    keep-collecting-requires-2
     returns-2
     go-idle-requires
     returns-3)

@@ -27,13 +27,13 @@ returns c = simp (
   ← c .before .before .before .before .whole-length .ensures,
 )
 
-reply-requires : tie.Need-reply-requires
-reply-requires c κs = search needs
+keep-collecting-requires : tie.Need-keep-collecting-requires
+keep-collecting-requires c κs = search needs
 
 returns-2 : tie.Need-returns-2
 unfolding nextByte pick
 returns-2 c = simp (
-  c .reply .ensures,
+  c .keep-collecting .ensures,
   c .before .if1 .left,
   c .before .before .append .ensures,
   ← c .before .before .before .before .whole-length .ensures,
@@ -48,5 +48,5 @@ next-byte-spec =
     append-requires
     last-byte-requires
     returns
-    reply-requires
+    keep-collecting-requires
     returns-2)

@@ -20,16 +20,17 @@ returns c = simp (
   c .before .before .if1 .taken,
 )
 
-reply-requires : tie.Need-reply-requires
-reply-requires c κs = search needs
+keep-collecting-requires : tie.Need-keep-collecting-requires
+keep-collecting-requires c κs = search needs
 
 returns-2 : tie.Need-returns-2
 unfolding tickWith pick
 returns-2 c = simp (
-  c .reply .ensures,
+  c .keep-collecting .ensures,
   c .before .if1 .left,
 )
 
 pub tick-with-spec : {M : Type 1} → statement M
 tick-with-spec =
-    tie.close (tie.spec primary-now-requires send-word-requires returns reply-requires returns-2)
+    tie.close
+    (tie.spec primary-now-requires send-word-requires returns keep-collecting-requires returns-2)
