@@ -22,6 +22,8 @@ use status::strings::INTERRUPT;
 ghost use mathlib.Core.Path.{_≡_};
 ghost use mathlib.Core.Bool.{true};
 ghost use Prim.Native.Nat.{_<_, _≤_};
+ghost use lib.Dec.{eqb};
+ghost use Rattle.common.specs.Pick.{pick};
 ghost use Rattle.controller.specs.Damaged.{sound};
 ghost use Rattle.controller.specs.State.{done};
 ghost use Rattle.controller.specs.Link.{wholeLength, appended, loadXor, checks, firstByte, lastByte, nextByte, accepted, givenUp, saidNo, asksInterrupt, goRefused, goTaken, byteIn, brokenIn, tickWith, tickIn};
@@ -232,6 +234,42 @@ fn tick_with(b: Body) -> Reply
     keep_collecting(b)
 }
 
+// A byte while a string is collected.
+fn collected_byte(b: Body, byte: u8) -> Reply
+    requires { ⌜ b .collected .length < 8 ⌝ }
+    ensures { λ r. ⌜ r ≡ pick (eqb (b .collected .length) 0) (firstByte b byte) (nextByte b byte) ⌝ }
+{
+    let first = b.collected.length == 0;
+    if first {
+        return first_byte(b, byte);
+    }
+    next_byte(b, byte)
+}
+
+// A byte that answers a sent string.
+fn send_answered(b: Body, byte: u8, send: Send) -> Reply
+    requires { ⌜ send .noes ≤ 4 ⌝ }
+    ensures { λ r. ⌜ r ≡ pick (eqb byte 0x06) (accepted b (send .kind)) (saidNo b send) ⌝ }
+{
+    let kind = send.kind;
+    let yes = byte == ACK;
+    if yes {
+        return accepted(b, kind);
+    }
+    said_no(b, send)
+}
+
+// A byte that answers GO.
+fn go_answered(b: Body, byte: u8, store: Store) -> Reply
+    ensures { λ r. ⌜ r ≡ pick (eqb byte 0x06) (goTaken b store) (goRefused b store) ⌝ }
+{
+    let yes = byte == ACK;
+    if yes {
+        return go_taken(b, store);
+    }
+    go_refused(b, store)
+}
+
 // A byte, by the phase.
 pub fn byte_in(c: Controller, byte: u8) -> Reply
     requires { ⌜ sound c ≡ true ⌝ }
@@ -239,28 +277,11 @@ pub fn byte_in(c: Controller, byte: u8) -> Reply
 {
     let b = c.body;
     let phase = c.phase;
-    let first = b.collected.length == 0;
-    let yes = byte == ACK;
     match phase {
-        Phase::Collecting => if first {
-            first_byte(b, byte)
-        } else {
-            next_byte(b, byte)
-        },
+        Phase::Collecting => collected_byte(b, byte),
         Phase::AckOffered => go_idle(b, Action::Nothing),
-        Phase::Sending(send) => {
-            let kind = send.kind;
-            if yes {
-                accepted(b, kind)
-            } else {
-                said_no(b, send)
-            }
-        }
-        Phase::GoOffered(store) => if yes {
-            go_taken(b, store)
-        } else {
-            go_refused(b, store)
-        },
+        Phase::Sending(send) => send_answered(b, byte, send),
+        Phase::GoOffered(store) => go_answered(b, byte, store),
         Phase::DataAwaited(_) => refuse(2, c),
         Phase::ResultAwaited(_, _) => refuse(2, c),
         Phase::EndOffered(interrupt) => complete(b, interrupt),

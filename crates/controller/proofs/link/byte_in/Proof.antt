@@ -1,7 +1,6 @@
 -- `controller::link::byte_in` meets its contract: by the phase; a sound state keeps the string and the noes within their bounds.
 -- Assumes nothing.
 use borrow.Author.Needs.{needs}
-use Rattle.common.specs.Pick.{pick}
 use Rattle.controller.specs.Link.{byteIn}
 use Rattle.controller.proofs.SoundLaws.{collecting-short, noes-few}
 use Rattle.controller.proofs.link.byte_in.Statement.{statement}
@@ -10,13 +9,10 @@ use Rattle.controller.proofs.link.byte_in.Tie as tie
 enum-told : tie.Need-enum-told
 enum-told c = search needs
 
-first-byte-requires : tie.Need-first-byte-requires
-first-byte-requires c κs = search needs
-
-next-byte-requires : tie.Need-next-byte-requires
-next-byte-requires c κs =
-    let start = c .before .before .before .before .before in
-    collecting-short (start .args .c) (start .pre) (c .before .enum-told .given .1)
+collected-byte-requires : tie.Need-collected-byte-requires
+collected-byte-requires c κs =
+    let start = c .before .before .before in
+    collecting-short (start .args .c) (start .pre) (c .enum-told .given .1)
 
 enum-told-2 : tie.Need-enum-told-2
 enum-told-2 c = search needs
@@ -27,22 +23,16 @@ go-idle-requires c κs = search needs
 enum-known-phase : tie.Need-enum-known-phase
 enum-known-phase c = search needs
 
-accepted-requires : tie.Need-accepted-requires
-accepted-requires c κs = search needs
-
-said-no-requires : tie.Need-said-no-requires
-said-no-requires c κs =
-    let start = c .before .before .before .before .before .before in
-    noes-few (start .args .c) _ (start .pre) (c .before .before .phase .given .1)
+send-answered-requires : tie.Need-send-answered-requires
+send-answered-requires c κs =
+    let start = c .before .before .before .before in
+    noes-few (start .args .c) _ (start .pre) (c .before .phase .given .1)
 
 enum-known-phase-2 : tie.Need-enum-known-phase-2
 enum-known-phase-2 c = search needs
 
-go-taken-requires : tie.Need-go-taken-requires
-go-taken-requires c κs = search needs
-
-go-refused-requires : tie.Need-go-refused-requires
-go-refused-requires c κs = search needs
+go-answered-requires : tie.Need-go-answered-requires
+go-answered-requires c κs = search needs
 
 enum-told-3 : tie.Need-enum-told-3
 enum-told-3 c = search needs
@@ -63,77 +53,50 @@ complete-requires : tie.Need-complete-requires
 complete-requires c κs = search needs
 
 returns : tie.Need-returns
-unfolding byteIn pick
+unfolding byteIn
 returns c = simp (
-  c .first-byte .ensures,
-  c .before .if1 .taken,
-  c .before .before .enum-told .given .1,
+  c .collected-byte .ensures,
+  c .before .enum-told .given .1,
 )
 
 returns-2 : tie.Need-returns-2
-unfolding byteIn pick
+unfolding byteIn
 returns-2 c = simp (
-  c .next-byte .ensures,
-  c .before .if1 .left,
-  c .before .before .enum-told .given .1,
+  c .go-idle .ensures,
+  c .before .enum-told2 .given .1,
 )
 
 returns-3 : tie.Need-returns-3
 unfolding byteIn
 returns-3 c = simp (
-  c .go-idle .ensures,
-  c .before .enum-told2 .given .1,
+  c .send-answered .ensures,
+  c .before .before .phase .given .1,
 )
 
 returns-4 : tie.Need-returns-4
-unfolding byteIn pick
+unfolding byteIn
 returns-4 c = simp (
-  c .accepted .ensures,
-  c .before .if2 .taken,
-  c .before .before .before .phase .given .1,
+  c .go-answered .ensures,
+  c .before .before .phase2 .given .1,
 )
 
 returns-5 : tie.Need-returns-5
-unfolding byteIn pick
-returns-5 c = simp (
-  c .said-no .ensures,
-  c .before .if2 .left,
-  c .before .before .before .phase .given .1,
-)
-
-returns-6 : tie.Need-returns-6
-unfolding byteIn pick
-returns-6 c = simp (
-  c .go-taken .ensures,
-  c .before .if3 .taken,
-  c .before .before .before .phase2 .given .1,
-)
-
-returns-7 : tie.Need-returns-7
-unfolding byteIn pick
-returns-7 c = simp (
-  c .go-refused .ensures,
-  c .before .if3 .left,
-  c .before .before .before .phase2 .given .1,
-)
-
-returns-8 : tie.Need-returns-8
 unfolding byteIn
-returns-8 c = simp (
+returns-5 c = simp (
   c .refuse .ensures,
   c .before .enum-told3 .given .1,
 )
 
-returns-9 : tie.Need-returns-9
+returns-6 : tie.Need-returns-6
 unfolding byteIn
-returns-9 c = simp (
+returns-6 c = simp (
   c .refuse2 .ensures,
   c .before .enum-told4 .given .1,
 )
 
-returns-10 : tie.Need-returns-10
+returns-7 : tie.Need-returns-7
 unfolding byteIn
-returns-10 c = simp (
+returns-7 c = simp (
   c .complete .ensures,
   c .before .before .phase3 .given .1,
 )
@@ -143,16 +106,13 @@ byte-in-spec =
     tie.close
     (tie.spec
     enum-told
-    first-byte-requires
-    next-byte-requires
+    collected-byte-requires
     enum-told-2
     go-idle-requires
     enum-known-phase
-    accepted-requires
-    said-no-requires
+    send-answered-requires
     enum-known-phase-2
-    go-taken-requires
-    go-refused-requires
+    go-answered-requires
     enum-told-3
     refuse-requires
     enum-told-4
@@ -165,7 +125,4 @@ byte-in-spec =
     returns-4
     returns-5
     returns-6
-    returns-7
-    returns-8
-    returns-9
-    returns-10)
+    returns-7)
