@@ -188,3 +188,11 @@ pub fn go_idle(b: Body, action: Action) -> Reply
     let c = collect(reviewed);
     reply(c, action)
 }
+
+// Reset, then collecting.
+pub fn go_reset(b: Body) -> Reply
+    ensures { λ r. ⌜ r ≡ done (resetOf b) Action.Nothing ⌝ }
+{
+    let c = reset_controller(b);
+    reply(c, Action::Nothing)
+}

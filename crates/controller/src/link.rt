@@ -308,19 +308,26 @@ pub fn broken_in(c: Controller) -> Reply
     }
 }
 
+// A tick while collecting, which is idle where nothing is collected.
+fn collecting_tick(c: Controller) -> Reply
+    ensures { λ r. ⌜ r ≡ tickIn c (c .body) Phase.Collecting ⌝ }
+{
+    let b = c.body;
+    let empty = b.collected.length == 0;
+    if empty {
+        let reviewed = review_drives(b);
+        return tick_with(reviewed);
+    }
+    refuse(4, c)
+}
+
 // A tick, by the phase.
 pub fn tick_in(c: Controller) -> Reply
     ensures { λ r. ⌜ r ≡ tickIn c (c .body) (c .phase) ⌝ }
 {
-    let b = c.body;
     let phase = c.phase;
-    let empty = b.collected.length == 0;
     match phase {
-        Phase::Collecting => if empty {
-            tick_with(review_drives(b))
-        } else {
-            refuse(4, c)
-        },
+        Phase::Collecting => collecting_tick(c),
         _ => refuse(4, c),
     }
 }

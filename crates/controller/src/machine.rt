@@ -1,8 +1,8 @@
 // The calls of the machine that are lent nothing. Each refuses a damaged state, else goes by the phase.
+use crate::body::go_reset;
 use crate::body::put_report;
 use crate::body::refuse;
 use crate::body::reply;
-use crate::body::reset_controller;
 use crate::damaged::is_sound;
 use crate::link::broken_in;
 use crate::link::byte_in;
@@ -113,7 +113,7 @@ impl Controller {
         let in_range = is_sound(self);
         if in_range {
             let b = self.body;
-            return reply(reset_controller(b), Action::Nothing);
+            return go_reset(b);
         }
         refuse(1, self)
     }

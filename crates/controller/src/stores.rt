@@ -1,9 +1,9 @@
 // Stores: what the address and the operand ask for, and how it is carried out.
 use crate::body::clear_outcome;
 use crate::body::current_drive;
+use crate::body::go_reset;
 use crate::body::put_current;
 use crate::body::reply;
-use crate::body::reset_controller;
 use crate::body::with_flags;
 use crate::completion::complete;
 use crate::completion::with_code;
@@ -232,6 +232,14 @@ fn select_track(b: Body, store: Store, track: u8) -> Reply
     settled(put_current(b, tracked), store)
 }
 
+// Enable is cleared or set.
+fn select_enable(b: Body, store: Store, enable: bool) -> Reply
+    ensures { λ r. ⌜ r ≡ decoded b store (Decoded.Enable «enable») ⌝ }
+{
+    let enabled = with_flags(b, b.changed, enable);
+    settled(enabled, store)
+}
+
 // A density is selected for the drive.
 fn select_density(b: Body, store: Store, density: u8) -> Reply
     ensures { λ r. ⌜ r ≡ decoded b store (Decoded.Density density) ⌝ }
@@ -246,10 +254,10 @@ fn decoded(b: Body, store: Store, asked: Decoded) -> Reply
     ensures { λ r. ⌜ r ≡ decoded b store asked ⌝ }
 {
     match asked {
-        Decoded::Reset => reply(reset_controller(b), Action::Nothing),
+        Decoded::Reset => go_reset(b),
         Decoded::Code(code) => ended_by(b, store, code),
         Decoded::Track(track) => select_track(b, store, track),
-        Decoded::Enable(enable) => settled(with_flags(b, b.changed, enable), store),
+        Decoded::Enable(enable) => select_enable(b, store, enable),
         Decoded::Density(density) => select_density(b, store, density),
         Decoded::Operate(operation) => operated(b, operation, store),
     }

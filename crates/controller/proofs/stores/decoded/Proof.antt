@@ -8,11 +8,8 @@ use Rattle.controller.proofs.stores.decoded.Tie as tie
 enum-told : tie.Need-enum-told
 enum-told c = search needs
 
-reset-controller-requires : tie.Need-reset-controller-requires
-reset-controller-requires c κs = search needs
-
-reply-requires : tie.Need-reply-requires
-reply-requires c κs = search needs
+go-reset-requires : tie.Need-go-reset-requires
+go-reset-requires c κs = search needs
 
 enum-known-asked : tie.Need-enum-known-asked
 enum-known-asked c = search needs
@@ -29,11 +26,8 @@ select-track-requires c κs = search needs
 enum-known-asked-3 : tie.Need-enum-known-asked-3
 enum-known-asked-3 c = search needs
 
-with-flags-requires : tie.Need-with-flags-requires
-with-flags-requires c κs = search needs
-
-settled-requires : tie.Need-settled-requires
-settled-requires c κs = search needs
+select-enable-requires : tie.Need-select-enable-requires
+select-enable-requires c κs = search needs
 
 enum-known-asked-4 : tie.Need-enum-known-asked-4
 enum-known-asked-4 c = search needs
@@ -50,9 +44,8 @@ operated-requires c κs = search needs
 returns : tie.Need-returns
 unfolding decoded
 returns c = simp (
-  c .reply .ensures,
-  c .before .reset-controller .ensures,
-  c .before .before .enum-told .given .1,
+  c .go-reset .ensures,
+  c .before .enum-told .given .1,
 )
 
 returns-2 : tie.Need-returns-2
@@ -72,9 +65,8 @@ returns-3 c = simp (
 returns-4 : tie.Need-returns-4
 unfolding decoded
 returns-4 c = simp (
-  c .settled .ensures,
-  c .before .with-flags .ensures,
-  c .before .before .before .asked3 .given .1,
+  c .select-enable .ensures,
+  c .before .before .asked3 .given .1,
 )
 
 returns-5 : tie.Need-returns-5
@@ -96,15 +88,13 @@ decoded-spec =
     tie.close
     (tie.spec
     enum-told
-    reset-controller-requires
-    reply-requires
+    go-reset-requires
     enum-known-asked
     ended-by-requires
     enum-known-asked-2
     select-track-requires
     enum-known-asked-3
-    with-flags-requires
-    settled-requires
+    select-enable-requires
     enum-known-asked-4
     select-density-requires
     enum-known-asked-5

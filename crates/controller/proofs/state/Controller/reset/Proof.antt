@@ -9,19 +9,15 @@ use Rattle.controller.proofs.state.Controller.reset.Tie as tie
 is-sound-requires : tie.Need-is-sound-requires
 is-sound-requires c κs = search needs
 
-reset-controller-requires : tie.Need-reset-controller-requires
-reset-controller-requires c κs = search needs
-
-reply-requires : tie.Need-reply-requires
-reply-requires c κs = search needs
+go-reset-requires : tie.Need-go-reset-requires
+go-reset-requires c κs = search needs
 
 returns : tie.Need-returns
 unfolding resetCall pick
 returns c = simp (
-  c .reply .ensures,
-  c .before .reset-controller .ensures,
-  c .before .before .before .if1 .taken,
-  ← c .before .before .before .before .is-sound .ensures,
+  c .go-reset .ensures,
+  c .before .before .if1 .taken,
+  ← c .before .before .before .is-sound .ensures,
 )
 
 refuse-requires : tie.Need-refuse-requires
@@ -37,11 +33,4 @@ returns-2 c = simp (
 
 pub reset-spec : {M : Type 1} → statement M
 reset-spec =
-    tie.close
-    (tie.spec
-    is-sound-requires
-    reset-controller-requires
-    reply-requires
-    returns
-    refuse-requires
-    returns-2)
+    tie.close (tie.spec is-sound-requires go-reset-requires returns refuse-requires returns-2)
