@@ -233,7 +233,7 @@ fn select_track(b: Body, store: Store, track: u8) -> Reply
 }
 
 // Enable is cleared or set.
-fn select_enable(b: Body, store: Store, enable: bool) -> Reply
+fn set_enable(b: Body, store: Store, enable: bool) -> Reply
     ensures { λ r. ⌜ r ≡ decoded b store (Decoded.Enable «enable») ⌝ }
 {
     let enabled = with_flags(b, b.changed, enable);
@@ -257,7 +257,7 @@ fn decoded(b: Body, store: Store, asked: Decoded) -> Reply
         Decoded::Reset => go_reset(b),
         Decoded::Code(code) => ended_by(b, store, code),
         Decoded::Track(track) => select_track(b, store, track),
-        Decoded::Enable(enable) => select_enable(b, store, enable),
+        Decoded::Enable(enable) => set_enable(b, store, enable),
         Decoded::Density(density) => select_density(b, store, density),
         Decoded::Operate(operation) => operated(b, operation, store),
     }

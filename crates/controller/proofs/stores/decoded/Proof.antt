@@ -26,8 +26,8 @@ select-track-requires c κs = search needs
 enum-known-asked-3 : tie.Need-enum-known-asked-3
 enum-known-asked-3 c = search needs
 
-select-enable-requires : tie.Need-select-enable-requires
-select-enable-requires c κs = search needs
+set-enable-requires : tie.Need-set-enable-requires
+set-enable-requires c κs = search needs
 
 enum-known-asked-4 : tie.Need-enum-known-asked-4
 enum-known-asked-4 c = search needs
@@ -65,7 +65,7 @@ returns-3 c = simp (
 returns-4 : tie.Need-returns-4
 unfolding decoded
 returns-4 c = simp (
-  c .select-enable .ensures,
+  c .set-enable .ensures,
   c .before .before .asked3 .given .1,
 )
 
@@ -94,7 +94,7 @@ decoded-spec =
     enum-known-asked-2
     select-track-requires
     enum-known-asked-3
-    select-enable-requires
+    set-enable-requires
     enum-known-asked-4
     select-density-requires
     enum-known-asked-5

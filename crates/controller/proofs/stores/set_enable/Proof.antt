@@ -1,9 +1,9 @@
--- `controller::stores::select_enable` meets its contract: it is its definition.
+-- `controller::stores::set_enable` meets its contract: it is its definition.
 -- Assumes nothing.
 use borrow.Author.Needs.{needs}
 use Rattle.controller.specs.Stores.{decoded}
-use Rattle.controller.proofs.stores.select_enable.Statement.{statement}
-use Rattle.controller.proofs.stores.select_enable.Tie as tie
+use Rattle.controller.proofs.stores.set_enable.Statement.{statement}
+use Rattle.controller.proofs.stores.set_enable.Tie as tie
 
 with-flags-requires : tie.Need-with-flags-requires
 with-flags-requires c κs = search needs
@@ -18,5 +18,5 @@ returns c = simp (
   c .before .with-flags .ensures,
 )
 
-pub select-enable-spec : {M : Type 1} → statement M
-select-enable-spec = tie.close (tie.spec with-flags-requires settled-requires returns)
+pub set-enable-spec : {M : Type 1} → statement M
+set-enable-spec = tie.close (tie.spec with-flags-requires settled-requires returns)
