@@ -28,10 +28,11 @@ use Rattle.controller.specs.declared.state.Action.{Action}
 use Rattle.controller.specs.declared.state.Action.the-variants.{Nothing, Byte}
 use Rattle.controller.specs.State.{startWith, fresh, resetOf, review, idle}
 use Rattle.controller.specs.Completion.{primaryNow, sent, interrupts, completed, coded}
-use Rattle.controller.specs.Link.{wholeLength, appended, loadXor, checks, firstByte, lastByte, nextByte, accepted, givenUp, saidNo, asksInterrupt, goRefused, goTaken, byteIn, brokenIn, tickWith, tickIn}
+use Rattle.operations.specs.Store.{asksInterrupt, namesDrive, named, asked, thrownAway, heldCount}
+use Rattle.controller.specs.Link.{wholeLength, appended, loadXor, checks, firstByte, lastByte, nextByte, accepted, givenUp, saidNo, goRefused, goTaken, byteIn, brokenIn, tickWith, tickIn}
 use Rattle.controller.specs.Loads.{loadWord, loaded}
-use Rattle.controller.specs.Stores.{storeOf, namesDrive, named, asked, endedBy, settled, tracked, withDensity, motionOrder, pastTest, ordered, begun, operated, decoded, cleared, carriedOut}
-use Rattle.controller.specs.Records.{Result, Answer, isGcr, checkBytes, thrownAway, heldCount, recordBytes, runsShort, withUnderflow, zeroedWords, dataRefusal, dataDone, takesMark, isSearch, markAgainst, wholeCode, expectedWhole, expectedOf, resultRefusal, movesTape, isGone, usesImage, scanCode, finalCode, readsGcr, resultTertiary, resultQuintary, resultCheck, readBytes, delivered, fitting, wroteWell, resultSecondary, resultBits, withRetry, withGap, resultDrive, resultBody, ending, resultDone}
+use Rattle.controller.specs.Stores.{storeOf, endedBy, settled, tracked, withDensity, motionOrder, pastTest, ordered, begun, operated, decoded, cleared, carriedOut}
+use Rattle.controller.specs.Records.{Result, Answer, isGcr, checkBytes, recordBytes, runsShort, withUnderflow, zeroedWords, dataRefusal, dataDone, takesMark, isSearch, markAgainst, wholeCode, expectedWhole, expectedOf, resultRefusal, movesTape, isGone, usesImage, scanCode, finalCode, readsGcr, resultTertiary, resultQuintary, resultCheck, readBytes, delivered, fitting, wroteWell, resultSecondary, resultBits, withRetry, withGap, resultDrive, resultBody, ending, resultDone}
 use Rattle.controller.specs.Damaged.{soundDrive, soundDrives, soundBody, soundLead, soundPart, soundString, soundCount, soundHeld, soundPhase, sound}
 use Rattle.controller.specs.Machine.{byteCall, brokenCall, tickCall, takenBody, takenIn, takenCall, reportCall, resetCall, dataIn, dataCall, resultIn, resultCall, Call, step}
 use Rattle.controller.specs.Machine.Call.{byte, taken, report, hostData, result}

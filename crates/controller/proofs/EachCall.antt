@@ -16,7 +16,7 @@ use Rattle.operations.specs.declared.decode.Decoded.{Decoded}
 use Rattle.operations.specs.declared.decode.Decoded.the-variants.{Reset, Code, Track, Enable, Density, Operate}
 use Rattle.operations.specs.Operation.{moveOf}
 use Rattle.operations.specs.Test.{mayMove}
-use Rattle.controller.specs.declared.state.Store.{Store}
+use Rattle.operations.specs.declared.store.Store.{Store}
 use Rattle.controller.specs.declared.state.Phase.{Phase}
 use Rattle.controller.specs.declared.state.Phase.the-variants.{Collecting, AckOffered, Sending, GoOffered, DataAwaited, ResultAwaited, EndOffered}
 use Rattle.controller.specs.declared.state.Body.{Body}
@@ -24,9 +24,10 @@ use Rattle.controller.specs.declared.state.Controller.{Controller}
 use Rattle.controller.specs.declared.state.Action.the-variants.{Nothing}
 use Rattle.controller.specs.declared.state.Reply.{Reply}
 use Rattle.controller.specs.State.{setSelected, setCurrent, setFlags, current, done}
+use Rattle.operations.specs.Store.{namesDrive, named, asked}
 use Rattle.controller.specs.Link.{byteIn, brokenIn, tickIn}
 use Rattle.controller.specs.Loads.{loaded}
-use Rattle.controller.specs.Stores.{storeOf, namesDrive, named, asked, tracked, withDensity, pastTest, ordered, begun, operated, decoded, cleared, carriedOut}
+use Rattle.controller.specs.Stores.{storeOf, tracked, withDensity, pastTest, ordered, begun, operated, decoded, cleared, carriedOut}
 use Rattle.controller.specs.Records.{Answer, Result, dataRefusal, resultRefusal}
 use Rattle.controller.specs.Damaged.{sound}
 use Rattle.controller.specs.Machine.{unchanged, byteCall, brokenCall, tickCall, takenBody, takenIn, takenCall, reportCall, resetCall, dataIn, dataCall, resultIn, resultCall, Call, Exchange, plain, step}
@@ -211,9 +212,9 @@ module _ (d : ℕ) (low : d ≤ 3) (last : Store) where
     unfolding takenIn takenBody InHand lastStore carriesOut isTaken notRefused pick
     taken-in-takes AckOffered held = by-load (eqb (b .collected .c0) 0x62) refl
       where
-      by-load : (t : Bool) → eqb (b .collected .c0) 0x62 ≡ t → takes acked (pick t (loaded b (b .collected .c1)) (carriedOut b (storeOf (b .collected))))
-      by-load true e = load-takes e
-      by-load false e = store-takes e
+        by-load : (t : Bool) → eqb (b .collected .c0) 0x62 ≡ t → takes acked (pick t (loaded b (b .collected .c1)) (carriedOut b (storeOf (b .collected))))
+        by-load true e = load-takes e
+        by-load false e = store-takes e
     taken-in-takes Collecting held = λ admitted. refused-follows d last (record { body = b; phase = Collecting }) _ 2 0 [] [] refl held
     taken-in-takes (Sending s) held = λ admitted. refused-follows d last (record { body = b; phase = Sending s }) _ 2 0 [] [] refl held
     taken-in-takes (GoOffered store) held = λ admitted. refused-follows d last (record { body = b; phase = GoOffered store }) _ 2 0 [] [] refl held

@@ -24,7 +24,7 @@ use Rattle.status.specs.declared.drives.Drives.{Drives}
 use Rattle.status.specs.Drives.{reports, driveOf, withDrive, reported, copied}
 use Rattle.status.specs.Strings.{orderOf}
 use Rattle.status.proofs.DriveLaws.{put-same, put-other}
-use Rattle.controller.specs.declared.state.Store.{Store}
+use Rattle.operations.specs.declared.store.Store.{Store}
 use Rattle.controller.specs.declared.state.Phase.{Phase}
 use Rattle.controller.specs.declared.state.Phase.the-variants.{Collecting, AckOffered, Sending, GoOffered, DataAwaited, ResultAwaited, EndOffered}
 use Rattle.controller.specs.declared.state.Body.{Body}
@@ -32,9 +32,10 @@ use Rattle.controller.specs.declared.state.Controller.{Controller}
 use Rattle.controller.specs.declared.state.Action.the-variants.{Nothing, Order}
 use Rattle.controller.specs.declared.state.Reply.{Reply}
 use Rattle.controller.specs.State.{setDrives, setSelected, setFlags, setOutcome, setCurrent, current, done, refused}
+use Rattle.operations.specs.Store.{namesDrive, named, asked, thrownAway, heldCount}
 use Rattle.controller.specs.Link.{goTaken, goRefused}
-use Rattle.controller.specs.Stores.{namesDrive, named, asked, endedBy, tracked, withDensity, motionOrder, pastTest, ordered, begun, operated, decoded, cleared, carriedOut}
-use Rattle.controller.specs.Records.{Result, thrownAway, heldCount, recordBytes, runsShort, withUnderflow, zeroedWords, isGcr, dataDone, withGap, resultDrive, resultBody, finalCode, isGone, usesImage, delivered, fitting, resultDone}
+use Rattle.controller.specs.Stores.{endedBy, tracked, withDensity, motionOrder, pastTest, ordered, begun, operated, decoded, cleared, carriedOut}
+use Rattle.controller.specs.Records.{Result, recordBytes, runsShort, withUnderflow, zeroedWords, isGcr, dataDone, withGap, resultDrive, resultBody, finalCode, isGone, usesImage, delivered, fitting, resultDone}
 use Rattle.controller.specs.Machine.{Call, Exchange, plain}
 use Rattle.controller.specs.Machine.Call.{byte, taken, broken, report, hostData, result}
 use Rattle.controller.specs.Separation.{Event, Output, notRefused, isOf, isRead, holdsStore, storeEvent, awaitsGo, eventOf, eventsOf, ordersFor, bytesGiven, transferOf, outputsOf, asksReset, resets}
@@ -289,10 +290,10 @@ tracked-seen : (drive : Drive) (track : ℕ) → copied (tracked drive track) �
 unfolding tracked pick
 tracked-seen drive track = same (eqb (drive .track) track)
   where
-  same :
-      (t : Bool) → copied (pick t drive (record { report = drive .report; reviewed = drive .reviewed; track = track; density = drive .density; gap = pick (reports (drive .report) 1) 0 3 })) ≡ copied (pick t (copied drive) (record { report = drive .report; reviewed = drive .report; track = track; density = drive .density; gap = pick (reports (drive .report) 1) 0 3 }))
-  same true = refl
-  same false = refl
+    same :
+        (t : Bool) → copied (pick t drive (record { report = drive .report; reviewed = drive .reviewed; track = track; density = drive .density; gap = pick (reports (drive .report) 1) 0 3 })) ≡ copied (pick t (copied drive) (record { report = drive .report; reviewed = drive .report; track = track; density = drive .density; gap = pick (reports (drive .report) 1) 0 3 }))
+    same true = refl
+    same false = refl
 
 -- the record that is set is the selected drive's
 set-own : (d : ℕ) → d ≤ 3 → (b : Body) (n : ℕ) (set : Drive → Drive) → n ≡ d → seen d (setCurrent (setSelected b n) (set (driveOf (b .drives) n))) ≡ copied (set (driveOf (b .drives) d))

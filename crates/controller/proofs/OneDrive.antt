@@ -17,7 +17,7 @@ use Rattle.records.specs.Image.{imageOf}
 use Rattle.status.specs.declared.drives.Drive.{Drive}
 use Rattle.status.specs.Drives.{reported, copied}
 use Rattle.status.specs.Strings.{orderOf}
-use Rattle.controller.specs.declared.state.Store.{Store}
+use Rattle.operations.specs.declared.store.Store.{Store}
 use Rattle.controller.specs.Stores.{tracked, withDensity}
 use Rattle.controller.specs.Records.{Result, recordBytes, resultDrive, delivered, fitting}
 use Rattle.controller.specs.Separation.{Event, Output}

@@ -12,7 +12,7 @@ use Rattle.status.specs.Drives.{driveOf, copied}
 use Rattle.status.proofs.DriveLaws.{reviewed-drive}
 use Rattle.operations.specs.declared.operation.Operation.{Operation}
 use Rattle.operations.specs.Operation.{offersEnd}
-use Rattle.controller.specs.declared.state.Store.{Store}
+use Rattle.operations.specs.declared.store.Store.{Store}
 use Rattle.controller.specs.declared.state.Kind.{Kind}
 use Rattle.controller.specs.declared.state.Kind.the-variants.{Load, Secondary, Completion, Change}
 use Rattle.controller.specs.declared.state.Send.{Send}
@@ -23,7 +23,8 @@ use Rattle.controller.specs.declared.state.Action.{Action}
 use Rattle.controller.specs.declared.state.Reply.{Reply}
 use Rattle.controller.specs.State.{setFlags, setCollected, review, idle}
 use Rattle.controller.specs.Completion.{sent, interrupts, completed, coded}
-use Rattle.controller.specs.Link.{wholeLength, appended, checks, firstByte, lastByte, nextByte, accepted, givenUp, saidNo, asksInterrupt, goRefused, tickWith}
+use Rattle.operations.specs.Store.{asksInterrupt}
+use Rattle.controller.specs.Link.{wholeLength, appended, checks, firstByte, lastByte, nextByte, accepted, givenUp, saidNo, goRefused, tickWith}
 use Rattle.controller.specs.Loads.{loaded}
 use Rattle.controller.specs.Stores.{endedBy, settled}
 use Rattle.controller.specs.Records.{ending}

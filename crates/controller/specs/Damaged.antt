@@ -11,13 +11,13 @@ use Rattle.operations.specs.declared.operation.Operation.the-variants.{Read, Ch
 use Rattle.status.specs.declared.drives.Drive.{Drive}
 use Rattle.status.specs.declared.drives.Drives.{Drives}
 use Rattle.controller.specs.declared.state.Collected.{Collected}
-use Rattle.controller.specs.declared.state.Store.{Store}
+use Rattle.operations.specs.declared.store.Store.{Store}
 use Rattle.controller.specs.declared.state.Phase.{Phase}
 use Rattle.controller.specs.declared.state.Phase.the-variants.{Collecting, AckOffered, Sending, GoOffered, DataAwaited, ResultAwaited, EndOffered}
 use Rattle.controller.specs.declared.state.Body.{Body}
 use Rattle.controller.specs.declared.state.Controller.{Controller}
 use Rattle.controller.specs.Link.{wholeLength}
-use Rattle.controller.specs.Records.{heldCount}
+use Rattle.operations.specs.Store.{heldCount}
 
 -- "track, gap .. 0-3; density 0-1"
 unfoldable pub soundDrive : Drive → Bool

@@ -11,7 +11,8 @@ use Rattle.controller.specs.declared.state.Collected.{Collected}
 use Rattle.controller.specs.declared.state.Kind.{Kind}
 use Rattle.controller.specs.declared.state.Kind.the-variants.{Load, Secondary, Completion, Change}
 use Rattle.controller.specs.declared.state.Send.{Send}
-use Rattle.controller.specs.declared.state.Store.{Store}
+use Rattle.operations.specs.declared.store.Store.{Store}
+use Rattle.operations.specs.Store.{asksInterrupt}
 use Rattle.controller.specs.declared.state.Phase.{Phase}
 use Rattle.controller.specs.declared.state.Phase.the-variants.{Collecting, AckOffered, Sending, GoOffered, DataAwaited, ResultAwaited, EndOffered}
 use Rattle.controller.specs.declared.state.Body.{Body}
@@ -87,10 +88,6 @@ unfoldable pub saidNo : Body → Send → Reply
 saidNo b s =
     pick (eqb (s .noes) 4) (givenUp b (s .kind))
     (done (record { body = b; phase = Sending (record { kind = s .kind; bytes = s .bytes; noes = s .noes + 1 }) }) (Text (s .bytes)))
-
--- "bit 0 asks an interrupt"
-unfoldable pub asksInterrupt : Store → Bool
-asksInterrupt store = leb 128 (store .address)
 
 -- "A write offers GO; a no is code 05, motion 00, then EOR."
 unfoldable pub goRefused : Body → Store → Reply

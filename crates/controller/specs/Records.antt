@@ -25,14 +25,14 @@ use Rattle.status.specs.declared.words.Outcome.{Outcome}
 use Rattle.status.specs.declared.words.Word.{Word}
 use Rattle.status.specs.Drives.{reports}
 use Rattle.status.specs.Words.{anyBit, tertiaryOf, quintaryOf}
-use Rattle.controller.specs.declared.state.Store.{Store}
+use Rattle.operations.specs.declared.store.Store.{Store}
 use Rattle.controller.specs.declared.state.Phase.the-variants.{EndOffered}
 use Rattle.controller.specs.declared.state.Body.{Body}
 use Rattle.controller.specs.declared.state.Action.the-variants.{Byte}
 use Rattle.controller.specs.declared.state.Reply.{Reply}
 use Rattle.controller.specs.State.{setOutcome, setWords, setCurrent, current, zeroWord, done}
 use Rattle.controller.specs.Completion.{completed}
-use Rattle.controller.specs.Link.{asksInterrupt}
+use Rattle.operations.specs.Store.{asksInterrupt, thrownAway, heldCount}
 use Rattle.controller.specs.Stores.{ordered}
 
 -- a call's answer: its reply, how many bytes of the lent space it gives, and what it leaves in that space and in the check store
@@ -51,13 +51,6 @@ unfoldable pub checkBytes : List ℕ → ℕ → List ℕ
 checkBytes image c = pick (eqb c 0) (replicate 512 0) (take 512 (drop (2 + 256 * blocketteCount c) image))
 
 -- ---- the data call
-
--- "second operand byte: host bytes thrown away; last two: count"
-unfoldable pub thrownAway : Store → ℕ
-thrownAway store = store .second
-
-unfoldable pub heldCount : Store → ℕ
-heldCount store = store .third * 256 + store .fourth
 
 -- "fewer host bytes than thrown away plus count: zeros fill, bit 18; more are not looked at"
 unfoldable pub recordBytes : Store → List ℕ → List ℕ

@@ -16,14 +16,15 @@ use Rattle.operations.specs.Operation.{numberOf}
 use Rattle.status.specs.declared.drives.Drive.{Drive}
 use Rattle.status.specs.declared.strings.Six.{Six}
 use Rattle.status.specs.Drives.{driveOf}
-use Rattle.controller.specs.declared.state.Store.{Store}
+use Rattle.operations.specs.declared.store.Store.{Store}
 use Rattle.controller.specs.declared.state.Phase.{Phase}
 use Rattle.controller.specs.declared.state.Phase.the-variants.{Collecting, AckOffered, Sending, GoOffered, DataAwaited, ResultAwaited, EndOffered}
 use Rattle.controller.specs.declared.state.Controller.{Controller}
 use Rattle.controller.specs.declared.state.Action.{Action}
 use Rattle.controller.specs.declared.state.Action.the-variants.{Nothing, Byte, Text, Order}
 use Rattle.controller.specs.State.{fresh}
-use Rattle.controller.specs.Stores.{storeOf, namesDrive, named, asked}
+use Rattle.operations.specs.Store.{namesDrive, named, asked}
+use Rattle.controller.specs.Stores.{storeOf}
 use Rattle.controller.specs.Records.{Result}
 use Rattle.controller.specs.Machine.{Call, Exchange}
 use Rattle.controller.specs.Machine.Call.{byte, taken, broken, report, hostData, result, tick, reset}

@@ -17,7 +17,7 @@ use Rattle.status.specs.declared.strings.Six.{Six}
 use Rattle.status.specs.Drives.{reports}
 use Rattle.status.specs.Words.{noOutcome}
 use Rattle.status.specs.Strings.{orderOf}
-use Rattle.controller.specs.declared.state.Store.{Store}
+use Rattle.operations.specs.declared.store.Store.{Store}
 use Rattle.controller.specs.declared.state.Collected.{Collected}
 use Rattle.controller.specs.declared.state.Phase.the-variants.{GoOffered, ResultAwaited}
 use Rattle.controller.specs.declared.state.Body.{Body}
@@ -25,22 +25,11 @@ use Rattle.controller.specs.declared.state.Action.the-variants.{Nothing,
 use Rattle.controller.specs.declared.state.Reply.{Reply}
 use Rattle.controller.specs.State.{setSelected, setFlags, setOutcome, setWords, setCurrent, current, resetOf, done}
 use Rattle.controller.specs.Completion.{completed, coded}
-use Rattle.controller.specs.Link.{asksInterrupt}
+use Rattle.operations.specs.Store.{asksInterrupt, namesDrive, named, asked}
 
 -- the store that was collected
 unfoldable pub storeOf : Collected → Store
 storeOf s = record { address = s .c1; first = s .c2; second = s .c3; third = s .c4; fourth = s .c5 }
-
--- "bit 4 names a drive, 5-7 its number"
-unfoldable pub namesDrive : Store → Bool
-namesDrive store = eqb (store .address / 8 % 2) 1
-
-unfoldable pub named : Store → ℕ
-named store = store .address % 8
-
--- "1-3 are the operation"
-unfoldable pub asked : Store → Decoded
-asked store = decodeOf (store .address / 16 % 8) (store .first) (store .third) (store .fourth)
 
 -- a code ends the store
 unfoldable pub endedBy : Body → Store → ℕ → Reply

@@ -17,7 +17,8 @@ use crate::state::Kind;
 use crate::state::Phase;
 use crate::state::Reply;
 use crate::state::Send;
-use crate::state::Store;
+use operations::store::Store;
+use operations::store::asks_interrupt;
 use status::strings::INTERRUPT;
 ghost use mathlib.Core.Path.{_≡_};
 ghost use mathlib.Core.Bool.{true};
@@ -26,7 +27,7 @@ ghost use lib.Dec.{eqb};
 ghost use Rattle.common.specs.Pick.{pick};
 ghost use Rattle.controller.specs.Damaged.{sound};
 ghost use Rattle.controller.specs.State.{done};
-ghost use Rattle.controller.specs.Link.{wholeLength, appended, loadXor, checks, firstByte, lastByte, nextByte, accepted, givenUp, saidNo, asksInterrupt, goRefused, goTaken, byteIn, brokenIn, tickWith, tickIn};
+ghost use Rattle.controller.specs.Link.{wholeLength, appended, loadXor, checks, firstByte, lastByte, nextByte, accepted, givenUp, saidNo, goRefused, goTaken, byteIn, brokenIn, tickWith, tickIn};
 
 // Bytes of the link: the answers to a string, and what is offered before and after a transfer.
 const ACK: u8 = 0x06;
@@ -82,13 +83,6 @@ pub fn string_checks(s: Collected) -> bool
         return four == 0;
     }
     four ^ s.c4 ^ s.c5 ^ s.c6 ^ s.c7 == 0
-}
-
-// Whether a store asks an interrupt.
-pub fn asks_interrupt(store: Store) -> bool
-    ensures { λ r. ⌜ r ≡ asksInterrupt store ⌝ }
-{
-    128 <= store.address
 }
 
 // Collecting, with what is collected kept, and no action.

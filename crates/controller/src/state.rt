@@ -1,18 +1,10 @@
 // The state. It goes into a call by value and comes back.
 use operations::operation::Operation;
+use operations::store::Store;
 use status::drives::Drives;
 use status::strings::Six;
 use status::words::Outcome;
 use status::words::Word;
-
-// A store: its address and its four operand bytes.
-pub struct Store {
-    pub address: u8,
-    pub first: u8,
-    pub second: u8,
-    pub third: u8,
-    pub fourth: u8,
-}
 
 // A string from the host as far as it has come: how many bytes, and the bytes.
 pub struct Collected {

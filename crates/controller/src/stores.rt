@@ -9,28 +9,30 @@ use crate::completion::complete;
 use crate::completion::with_code;
 use crate::link::END_OF_RECORD;
 use crate::link::GO;
-use crate::link::asks_interrupt;
 use crate::state::Action;
 use crate::state::Body;
 use crate::state::Collected;
 use crate::state::Controller;
 use crate::state::Phase;
 use crate::state::Reply;
-use crate::state::Store;
 use operations::decode::Decoded;
-use operations::decode::decode;
 use operations::operation::Operation;
 use operations::operation::counts_bytes;
 use operations::operation::movement;
 use operations::operation::offers_end;
 use operations::operation::order_byte;
+use operations::store::Store;
+use operations::store::asked_for;
+use operations::store::asks_interrupt;
+use operations::store::named_drive;
+use operations::store::names_drive;
 use operations::test::may_move;
 use status::drives::Drive;
 use status::strings::Six;
 use status::strings::order_of;
 ghost use mathlib.Core.Path.{_≡_};
-ghost use Rattle.controller.specs.Stores.{storeOf, namesDrive, named, asked, tracked, withDensity, motionOrder, pastTest, endedBy, settled, ordered, begun, operated, decoded, carriedOut};
-ghost use Rattle.controller.specs.Records.{heldCount, ending};
+ghost use Rattle.controller.specs.Stores.{storeOf, tracked, withDensity, motionOrder, pastTest, endedBy, settled, ordered, begun, operated, decoded, carriedOut};
+ghost use Rattle.controller.specs.Records.{ending};
 
 // The store that was collected.
 pub fn store_of(s: Collected) -> Store
@@ -43,39 +45,6 @@ pub fn store_of(s: Collected) -> Store
         third: s.c4,
         fourth: s.c5,
     }
-}
-
-// Whether it names a drive.
-pub fn names_drive(store: Store) -> bool
-    ensures { λ r. ⌜ r ≡ namesDrive store ⌝ }
-{
-    store.address / 8 % 2 == 1
-}
-
-// The drive that it names.
-pub fn named_drive(store: Store) -> u8
-    ensures { λ r. ⌜ r ≡ named store ⌝ }
-{
-    store.address % 8
-}
-
-// What it asks for.
-pub fn asked_for(store: Store) -> Decoded
-    ensures { λ r. ⌜ r ≡ asked store ⌝ }
-{
-    decode(
-        store.address / 16 % 8,
-        store.first,
-        store.third,
-        store.fourth,
-    )
-}
-
-// The count of a write.
-pub fn held_count(store: Store) -> usize
-    ensures { λ r. ⌜ r ≡ heldCount store ⌝ }
-{
-    store.third as usize * 256 + store.fourth as usize
 }
 
 // A drive with a track selected. The gap of a new track is proper at the beginning of tape, else lost.

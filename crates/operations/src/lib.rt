@@ -17,4 +17,5 @@ pub mod after;
 pub mod answers;
 pub mod decode;
 pub mod operation;
+pub mod store;
 pub mod test;

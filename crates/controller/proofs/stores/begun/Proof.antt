@@ -9,7 +9,7 @@ use denote.Enum.Declared.{tagOf}
 use Rattle.operations.specs.declared.operation.Operation.{Operation}
 use Rattle.operations.specs.declared.operation.Operation.the-variants.{Read, CheckBytes, Write, Erase, Rewind, FastForward, SkipForward, SkipReverse, SearchForward, SearchReverse, WriteMark}
 use Rattle.operations.proofs.operation.Operation.{the-type}
-use Rattle.controller.specs.declared.state.Store.{Store}
+use Rattle.operations.specs.declared.store.Store.{Store}
 use Rattle.controller.specs.declared.state.Body.{Body}
 use Rattle.controller.specs.Stores.{ordered, begun}
 use Rattle.controller.proofs.stores.begun.Statement.{statement}

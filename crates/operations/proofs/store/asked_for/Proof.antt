@@ -1,9 +1,9 @@
--- `controller::stores::asked_for` meets its contract: it is its definition.
+-- `operations::store::asked_for` meets its contract: it is its definition.
 -- Assumes nothing.
 use borrow.Author.Needs.{needs}
-use Rattle.controller.specs.Stores.{asked}
-use Rattle.controller.proofs.stores.asked_for.Statement.{statement}
-use Rattle.controller.proofs.stores.asked_for.Tie as tie
+use Rattle.operations.specs.Store.{asked}
+use Rattle.operations.proofs.store.asked_for.Statement.{statement}
+use Rattle.operations.proofs.store.asked_for.Tie as tie
 
 decode-requires : tie.Need-decode-requires
 decode-requires c κs = search needs

@@ -1,10 +1,10 @@
--- `controller::stores::held_count` meets its contract: it is its definition.
+-- `operations::store::held_count` meets its contract: it is its definition.
 -- Assumes nothing.
 use mathlib.Core.Path.{refl}
 use borrow.Author.Needs.{needs}
-use Rattle.controller.specs.Records.{heldCount}
-use Rattle.controller.proofs.stores.held_count.Statement.{statement}
-use Rattle.controller.proofs.stores.held_count.Tie as tie
+use Rattle.operations.specs.Store.{heldCount}
+use Rattle.operations.proofs.store.held_count.Statement.{statement}
+use Rattle.operations.proofs.store.held_count.Tie as tie
 
 cast-result : tie.Need-cast-result
 cast-result c = search needs

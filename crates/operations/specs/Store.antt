@@ -1,0 +1,31 @@
+-- A store: its address and its operand (document 01, Stores). "Address: bit 0 asks an interrupt, 1-3 are the operation, bit 4 names a drive,
+-- 5-7 its number."
+-- Assumes nothing.
+use Prim.Native.Nat.{ℕ, _+_, _*_, _/_, _%_}
+use mathlib.Core.Bool.{Bool}
+use lib.Dec.{leb, eqb}
+use Rattle.operations.specs.declared.store.Store.{Store}
+use Rattle.operations.specs.declared.decode.Decoded.{Decoded}
+use Rattle.operations.specs.Decode.{decodeOf}
+
+-- "bit 0 asks an interrupt"
+unfoldable pub asksInterrupt : Store → Bool
+asksInterrupt store = leb 128 (store .address)
+
+-- "bit 4 names a drive, 5-7 its number"
+unfoldable pub namesDrive : Store → Bool
+namesDrive store = eqb (store .address / 8 % 2) 1
+
+unfoldable pub named : Store → ℕ
+named store = store .address % 8
+
+-- "1-3 are the operation"
+unfoldable pub asked : Store → Decoded
+asked store = decodeOf (store .address / 16 % 8) (store .first) (store .third) (store .fourth)
+
+-- of a write, "second operand byte: host bytes thrown away; last two: count"
+unfoldable pub thrownAway : Store → ℕ
+thrownAway store = store .second
+
+unfoldable pub heldCount : Store → ℕ
+heldCount store = store .third * 256 + store .fourth

@@ -1,0 +1,54 @@
+// A store: which drive it names, what it asks for, and what a write holds.
+use crate::decode::Decoded;
+use crate::decode::decode;
+ghost use mathlib.Core.Path.{_≡_};
+ghost use Rattle.operations.specs.Store.{asksInterrupt, namesDrive, named, asked, heldCount};
+
+// Its address and its four operand bytes.
+pub struct Store {
+    pub address: u8,
+    pub first: u8,
+    pub second: u8,
+    pub third: u8,
+    pub fourth: u8,
+}
+
+// Whether it asks an interrupt.
+pub fn asks_interrupt(store: Store) -> bool
+    ensures { λ r. ⌜ r ≡ asksInterrupt store ⌝ }
+{
+    128 <= store.address
+}
+
+// Whether it names a drive.
+pub fn names_drive(store: Store) -> bool
+    ensures { λ r. ⌜ r ≡ namesDrive store ⌝ }
+{
+    store.address / 8 % 2 == 1
+}
+
+// The drive that it names.
+pub fn named_drive(store: Store) -> u8
+    ensures { λ r. ⌜ r ≡ named store ⌝ }
+{
+    store.address % 8
+}
+
+// What it asks for.
+pub fn asked_for(store: Store) -> Decoded
+    ensures { λ r. ⌜ r ≡ asked store ⌝ }
+{
+    decode(
+        store.address / 16 % 8,
+        store.first,
+        store.third,
+        store.fourth,
+    )
+}
+
+// The count of a write.
+pub fn held_count(store: Store) -> usize
+    ensures { λ r. ⌜ r ≡ heldCount store ⌝ }
+{
+    store.third as usize * 256 + store.fourth as usize
+}
