@@ -32,7 +32,9 @@ use Rattle.operations.specs.Store.{asksInterrupt, namesDrive, named, asked, thr
 use Rattle.controller.specs.Link.{wholeLength, appended, loadXor, checks, firstByte, lastByte, nextByte, accepted, givenUp, saidNo, goRefused, goTaken, byteIn, brokenIn, tickWith, tickIn}
 use Rattle.controller.specs.Loads.{loadWord, loaded}
 use Rattle.controller.specs.Stores.{storeOf, endedBy, settled, tracked, withDensity, motionOrder, pastTest, ordered, begun, operated, decoded, cleared, carriedOut}
-use Rattle.controller.specs.Records.{Result, Answer, isGcr, checkBytes, recordBytes, runsShort, withUnderflow, zeroedWords, dataRefusal, dataDone, takesMark, isSearch, markAgainst, wholeCode, expectedWhole, expectedOf, resultRefusal, movesTape, isGone, usesImage, scanCode, finalCode, readsGcr, resultTertiary, resultQuintary, resultCheck, readBytes, delivered, fitting, wroteWell, resultSecondary, resultBits, withRetry, withGap, resultDrive, resultBody, ending, resultDone}
+use Rattle.transfers.specs.Data.{isGcr, checkBytes, recordBytes, runsShort, withUnderflow, dataRefusal}
+use Rattle.transfers.specs.Results.{Result, takesMark, isSearch, markAgainst, wholeCode, expectedWhole, expectedOf, resultRefusal, movesTape, isGone, usesImage, scanCode, finalCode, readsGcr, resultTertiary, resultQuintary, resultCheck, readBytes, delivered, fitting, wroteWell, resultSecondary, resultBits, withRetry, withGap, resultDrive}
+use Rattle.controller.specs.Records.{Answer, zeroedWords, dataDone, resultBody, ending, resultDone}
 use Rattle.controller.specs.Damaged.{soundDrive, soundDrives, soundBody, soundLead, soundPart, soundString, soundCount, soundHeld, soundPhase, sound}
 use Rattle.controller.specs.Machine.{byteCall, brokenCall, tickCall, takenBody, takenIn, takenCall, reportCall, resetCall, dataIn, dataCall, resultIn, resultCall, Call, step}
 use Rattle.controller.specs.Machine.Call.{byte, taken, report, hostData, result}

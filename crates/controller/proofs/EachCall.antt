@@ -28,7 +28,9 @@ use Rattle.operations.specs.Store.{namesDrive, named, asked}
 use Rattle.controller.specs.Link.{byteIn, brokenIn, tickIn}
 use Rattle.controller.specs.Loads.{loaded}
 use Rattle.controller.specs.Stores.{storeOf, tracked, withDensity, pastTest, ordered, begun, operated, decoded, cleared, carriedOut}
-use Rattle.controller.specs.Records.{Answer, Result, dataRefusal, resultRefusal}
+use Rattle.transfers.specs.Data.{dataRefusal}
+use Rattle.transfers.specs.Results.{Result, resultRefusal}
+use Rattle.controller.specs.Records.{Answer}
 use Rattle.controller.specs.Damaged.{sound}
 use Rattle.controller.specs.Machine.{unchanged, byteCall, brokenCall, tickCall, takenBody, takenIn, takenCall, reportCall, resetCall, dataIn, dataCall, resultIn, resultCall, Call, Exchange, plain, step}
 use Rattle.controller.specs.Machine.Call.{byte, taken, broken, report, hostData, result, tick, reset}

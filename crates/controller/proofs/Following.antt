@@ -35,7 +35,9 @@ use Rattle.controller.specs.State.{setDrives, setSelected, setFlags, set
 use Rattle.operations.specs.Store.{namesDrive, named, asked, thrownAway, heldCount}
 use Rattle.controller.specs.Link.{goTaken, goRefused}
 use Rattle.controller.specs.Stores.{endedBy, tracked, withDensity, motionOrder, pastTest, ordered, begun, operated, decoded, cleared, carriedOut}
-use Rattle.controller.specs.Records.{Result, recordBytes, runsShort, withUnderflow, zeroedWords, isGcr, dataDone, withGap, resultDrive, resultBody, finalCode, isGone, usesImage, delivered, fitting, resultDone}
+use Rattle.transfers.specs.Data.{recordBytes, runsShort, withUnderflow, isGcr}
+use Rattle.transfers.specs.Results.{Result, withGap, resultDrive, finalCode, isGone, usesImage, delivered, fitting}
+use Rattle.controller.specs.Records.{zeroedWords, dataDone, resultBody, resultDone}
 use Rattle.controller.specs.Machine.{Call, Exchange, plain}
 use Rattle.controller.specs.Machine.Call.{byte, taken, broken, report, hostData, result}
 use Rattle.controller.specs.Separation.{Event, Output, notRefused, isOf, isRead, holdsStore, storeEvent, awaitsGo, eventOf, eventsOf, ordersFor, bytesGiven, transferOf, outputsOf, asksReset, resets}

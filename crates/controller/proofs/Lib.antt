@@ -1,4 +1,5 @@
 pub mod SoundLaws
+pub mod TransferLaws
 pub mod BenchCases
 pub mod OneDrive
 pub mod Resting

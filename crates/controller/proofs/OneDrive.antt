@@ -19,7 +19,8 @@ use Rattle.status.specs.Drives.{reported, copied}
 use Rattle.status.specs.Strings.{orderOf}
 use Rattle.operations.specs.declared.store.Store.{Store}
 use Rattle.controller.specs.Stores.{tracked, withDensity}
-use Rattle.controller.specs.Records.{Result, recordBytes, resultDrive, delivered, fitting}
+use Rattle.transfers.specs.Data.{recordBytes}
+use Rattle.transfers.specs.Results.{Result, resultDrive, delivered, fitting}
 use Rattle.controller.specs.Separation.{Event, Output}
 use Rattle.controller.specs.Separation.Event.{reportCame, storeCame, goAnswered, dataCame, resultCame}
 use Rattle.controller.specs.Separation.Output.{motion, image, delivery}

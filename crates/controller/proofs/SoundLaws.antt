@@ -7,12 +7,15 @@ use mathlib.Core.Bool.{Bool, true, false, _&&_, _||_}
 use lib.Dec.{ltb, eqb}
 use borrow.Author.Tests.{ltb-true, leb-true, eqb-true}
 use Rattle.common.proofs.PickLaws.{pick-by}
+use Rattle.records.specs.Count.{limit}
+use Rattle.operations.specs.declared.store.Store.{Store}
+use Rattle.operations.specs.Store.{heldCount}
 use Rattle.controller.specs.declared.state.Collected.{Collected}
 use Rattle.controller.specs.declared.state.Send.{Send}
-use Rattle.controller.specs.declared.state.Phase.the-variants.{Collecting, Sending}
+use Rattle.controller.specs.declared.state.Phase.the-variants.{Collecting, Sending, DataAwaited}
 use Rattle.controller.specs.declared.state.Controller.{Controller}
 use Rattle.controller.specs.Link.{wholeLength}
-use Rattle.controller.specs.Damaged.{soundBody, soundLead, soundPart, soundPhase, sound}
+use Rattle.controller.specs.Damaged.{soundBody, soundLead, soundPart, soundCount, soundPhase, sound}
 
 -- the second of two tests that both hold
 second-holds : (a b : Bool) → (a && b) ≡ true → b ≡ true
@@ -48,3 +51,8 @@ collecting-short c whole phase = part-short (c .body .collected) (rw phase at (p
 pub noes-few : (c : Controller) (send : Send) → sound c ≡ true → c .phase ≡ Sending send → send .noes ≤ 4
 unfolding soundPhase
 noes-few c send whole phase = leb-true _ _ (rw phase at (phase-holds c whole))
+
+-- a count that is held for a data call is within the limit
+pub data-count : (c : Controller) (store : Store) → sound c ≡ true → c .phase ≡ DataAwaited store → heldCount store ≤ limit
+unfolding soundPhase soundCount
+data-count c store whole phase = leb-true _ _ (rw phase at (phase-holds c whole))

@@ -3,11 +3,16 @@
 -- Assumes nothing.
 use mathlib.Core.Path.{_≡_, refl, sym, ap, ap₂, subst₂, _∙_}
 use mathlib.Core.List.{List, [], _∷_}
+use contract.Lifetimes.{Lfts}
+use denote.Ref.{RefT, now, at-last}
+use Prim.Native.Nat.{ℕ}
+use Rattle.transfers.specs.Results.{Result, resultOf}
 use Rattle.controller.specs.declared.state.Controller.{Controller}
 use Rattle.controller.specs.declared.state.Reply.{Reply}
+use Rattle.controller.specs.declared.state.Transfer.{Transfer}
 use Rattle.controller.specs.State.{fresh}
-use Rattle.controller.specs.Records.{Answer}
-use Rattle.controller.specs.Machine.{Call, Exchange, plain, step, run}
+use Rattle.controller.specs.Records.{Answer, answered}
+use Rattle.controller.specs.Machine.{dataCall, resultCall, Call, Exchange, plain, step, run}
 use Rattle.controller.specs.Machine.Call.{byte, taken, broken, report, hostData, result, tick, reset}
 use Rattle.controller.specs.Separation.{Separate}
 use Rattle.controller.proofs.DrivesAreSeparate.{drives-are-separate}
@@ -16,8 +21,28 @@ use Rattle.controller.proofs.state.Controller.byte.Reads as byte-reads
 use Rattle.controller.proofs.state.Controller.taken.Reads as taken-reads
 use Rattle.controller.proofs.state.Controller.broken.Reads as broken-reads
 use Rattle.controller.proofs.state.Controller.report.Reads as report-reads
+use Rattle.controller.proofs.state.Controller.data.Reads as data-reads
+use Rattle.controller.proofs.state.Controller.result.Reads as result-reads
 use Rattle.controller.proofs.state.Controller.tick.Reads as tick-reads
 use Rattle.controller.proofs.state.Controller.reset.Reads as reset-reads
+use Rattle.controller.proofs.state.Controller.byte.Met as byte-met
+use Rattle.controller.proofs.state.Controller.byte.Statement as byte-statement
+use Rattle.controller.proofs.state.Controller.taken.Met as taken-met
+use Rattle.controller.proofs.state.Controller.taken.Statement as taken-statement
+use Rattle.controller.proofs.state.Controller.broken.Met as broken-met
+use Rattle.controller.proofs.state.Controller.broken.Statement as broken-statement
+use Rattle.controller.proofs.state.Controller.report.Met as report-met
+use Rattle.controller.proofs.state.Controller.report.Statement as report-statement
+use Rattle.controller.proofs.state.Controller.data.Met as data-met
+use Rattle.controller.proofs.state.Controller.data.Statement as data-statement
+use Rattle.controller.proofs.state.Controller.result.Met as result-met
+use Rattle.controller.proofs.state.Controller.result.Statement as result-statement
+use Rattle.controller.proofs.state.Controller.tick.Met as tick-met
+use Rattle.controller.proofs.state.Controller.tick.Statement as tick-statement
+use Rattle.controller.proofs.state.Controller.reset.Met as reset-met
+use Rattle.controller.proofs.state.Controller.reset.Statement as reset-statement
+use Rattle.controller.proofs.body.fresh_controller.Met as fresh-met
+use Rattle.controller.proofs.body.fresh_controller.Statement as fresh-statement
 
 -- ---- what the contracts promise
 
@@ -27,6 +52,33 @@ pub record Plainly (Promise : Reply → Type 0) (answer : Answer) : Type 0 where
   pub promise : Promise reply
   pub same : answer ≡ plain reply
 
+-- the answer of a call that is lent space: three slices of the data call, four of the result, wherever they lie
+pub record DataLent (c : Controller) (host space check : List ℕ) (answer : Answer) : Type 0 where
+  pub lifetimes : Lfts 3
+  pub host-slice : RefT (List ℕ)
+  pub space-slice : RefT (List ℕ)
+  pub check-slice : RefT (List ℕ)
+  pub transfer : Transfer
+  pub holds-host : now host-slice ≡ host
+  pub holds-space : now space-slice ≡ space
+  pub holds-check : now check-slice ≡ check
+  pub promise : data-reads.Post lifetimes (c, (host-slice, (space-slice, (check-slice, tt)))) transfer (c, (host-slice, (at-last space-slice (answer .space), (at-last check-slice (answer .check), tt))))
+  pub same : answer ≡ answered transfer (answer .space) (answer .check)
+
+pub record ResultLent (c : Controller) (r : Result) (space check : List ℕ) (answer : Answer) : Type 0 where
+  pub lifetimes : Lfts 4
+  pub image-slice : RefT (List ℕ)
+  pub marks-slice : RefT (List ℕ)
+  pub space-slice : RefT (List ℕ)
+  pub check-slice : RefT (List ℕ)
+  pub transfer : Transfer
+  pub holds-image : now image-slice ≡ r .image
+  pub holds-marks : now marks-slice ≡ r .marks
+  pub holds-space : now space-slice ≡ space
+  pub holds-check : now check-slice ≡ check
+  pub promise : result-reads.Post lifetimes (c, (r .code, (r .mark, (r .late, (image-slice, (marks-slice, (space-slice, (check-slice, tt)))))))) transfer (c, (r .code, (r .mark, (r .late, (image-slice, (marks-slice, (at-last space-slice (answer .space), (at-last check-slice (answer .check), tt))))))))
+  pub same : answer ≡ answered transfer (answer .space) (answer .check)
+
 -- what the contract of a call's own function allows as its answer
 unfoldable pub Allows : Controller → Call → Answer → Type 0
 Allows c (byte b) = Plainly (λ (r : Reply). byte-reads.Post tt (c, (b, tt)) r (c, (b, tt)))
@@ -34,8 +86,8 @@ Allows c taken = Plainly (λ (r : Reply). taken-reads.Post tt (c, tt) r (c, tt))
 Allows c broken = Plainly (λ (r : Reply). broken-reads.Post tt (c, tt) r (c, tt))
 Allows c (report drive bits) = Plainly (λ (r : Reply). report-reads.Post tt (c, (drive, (bits, tt))) r (c, (drive, (bits, tt))))
 Allows c tick = Plainly (λ (r : Reply). tick-reads.Post tt (c, tt) r (c, tt))
-Allows c (hostData host space check) = λ (answer : Answer). ⊥
-Allows c (result r space check) = λ (answer : Answer). ⊥
+Allows c (hostData host space check) = DataLent c host space check
+Allows c (result r space check) = ResultLent c r space check
 Allows c reset = Plainly (λ (r : Reply). reset-reads.Post tt (c, tt) r (c, tt))
 
 -- an allowed answer is the machine's
@@ -46,8 +98,16 @@ answers-are-steps c taken answer allowed = allowed .same ∙ ap plain (allowed .
 answers-are-steps c broken answer allowed = allowed .same ∙ ap plain (allowed .promise)
 answers-are-steps c (report drive r) answer allowed = allowed .same ∙ ap plain (allowed .promise)
 answers-are-steps c tick answer allowed = allowed .same ∙ ap plain (allowed .promise)
-answers-are-steps c (hostData host space check) answer allowed = absurd allowed
-answers-are-steps c (result r space check) answer allowed = absurd allowed
+answers-are-steps c (hostData host space check) answer allowed =
+    allowed .same
+    ∙ allowed .promise
+    ∙ ap (λ (h : List ℕ). dataCall c h (now (allowed .space-slice)) (now (allowed .check-slice))) (allowed .holds-host)
+    ∙ ap₂ (λ (s k : List ℕ). dataCall c host s k) (allowed .holds-space) (allowed .holds-check)
+answers-are-steps c (result r space check) answer allowed =
+    allowed .same
+    ∙ allowed .promise
+    ∙ ap₂ (λ (i m : List ℕ). resultCall c (resultOf (r .code) (r .mark) (r .late) i m) (now (allowed .space-slice)) (now (allowed .check-slice))) (allowed .holds-image) (allowed .holds-marks)
+    ∙ ap₂ (λ (s k : List ℕ). resultCall c r s k) (allowed .holds-space) (allowed .holds-check)
 answers-are-steps c reset answer allowed = allowed .same ∙ ap plain (allowed .promise)
 
 -- ---- whole lists
@@ -84,3 +144,21 @@ calls-run-the-machine xs made =
 pub calls-keep-drives-separate : (xs ys : List Exchange) → FromFresh xs → FromFresh ys → Separate xs ys
 calls-keep-drives-separate xs ys one two =
     subst₂ Separate (sym (calls-run-the-machine xs one)) (sym (calls-run-the-machine ys two)) (drives-are-separate (callsOf xs) (callsOf ys))
+
+-- ---- the functions
+
+-- Demand 1, and what the two above rest on: each call's own function, and the one that makes a fresh controller, meets its contract, which
+-- has no `requires`; so it returns and does nothing undefined, whatever it is handed.
+pub record Meet (M : Type 1) : Type 2 where
+  pub fresh : fresh-statement.statement M
+  pub byte : byte-statement.statement M
+  pub taken : taken-statement.statement M
+  pub broken : broken-statement.statement M
+  pub report : report-statement.statement M
+  pub hostData : data-statement.statement M
+  pub result : result-statement.statement M
+  pub tick : tick-statement.statement M
+  pub reset : reset-statement.statement M
+
+pub calls-meet-their-contracts : {M : Type 1} → Meet M
+calls-meet-their-contracts = record { fresh = fresh-met.met; byte = byte-met.met; taken = taken-met.met; broken = broken-met.met; report = report-met.met; hostData = data-met.met; result = result-met.met; tick = tick-met.met; reset = reset-met.met }

@@ -17,7 +17,9 @@ use Rattle.controller.specs.State.{setDrives, current, resetOf, done, re
 use Rattle.controller.specs.Link.{byteIn, brokenIn, tickIn}
 use Rattle.controller.specs.Loads.{loaded}
 use Rattle.controller.specs.Stores.{storeOf, carriedOut}
-use Rattle.controller.specs.Records.{Answer, Result, dataRefusal, dataDone, resultRefusal, resultDone}
+use Rattle.transfers.specs.Data.{dataRefusal}
+use Rattle.transfers.specs.Results.{Result, resultRefusal}
+use Rattle.controller.specs.Records.{Answer, dataDone, resultDone}
 use Rattle.controller.specs.Damaged.{sound}
 
 -- ---- the eight calls

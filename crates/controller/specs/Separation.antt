@@ -25,7 +25,7 @@ use Rattle.controller.specs.declared.state.Action.the-variants.{Nothing,
 use Rattle.controller.specs.State.{fresh}
 use Rattle.operations.specs.Store.{namesDrive, named, asked}
 use Rattle.controller.specs.Stores.{storeOf}
-use Rattle.controller.specs.Records.{Result}
+use Rattle.transfers.specs.Results.{Result}
 use Rattle.controller.specs.Machine.{Call, Exchange}
 use Rattle.controller.specs.Machine.Call.{byte, taken, broken, report, hostData, result, tick, reset}
 

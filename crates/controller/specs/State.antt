@@ -10,7 +10,7 @@ use Rattle.status.specs.declared.words.Outcome.{Outcome}
 use Rattle.status.specs.declared.strings.Six.{Six}
 use Rattle.status.specs.declared.words.Word.{Word}
 use Rattle.status.specs.Drives.{driveOf, withDrive, differs, reviewedAll, freshDrives, resetDrives}
-use Rattle.status.specs.Words.{noOutcome}
+use Rattle.status.specs.Words.{noOutcome, zeroWord}
 use Rattle.controller.specs.declared.state.Collected.{Collected}
 use Rattle.controller.specs.declared.state.Phase.{Phase}
 use Rattle.controller.specs.declared.state.Phase.the-variants.{Collecting}
@@ -58,9 +58,6 @@ setCurrent b drive = setDrives b (withDrive (b .drives) (b .selected) drive)
 
 abbrev pub nothingCollected : Collected
 nothingCollected = record { length = 0; c0 = 0; c1 = 0; c2 = 0; c3 = 0; c4 = 0; c5 = 0; c6 = 0; c7 = 0 }
-
-abbrev pub zeroWord : Word
-zeroWord = record { b0 = 0; b1 = 0; b2 = 0; b3 = 0 }
 
 -- "drive 0 selected, changed set, enable clear, all else 0"
 unfoldable pub startWith : Drives → Controller

@@ -14,11 +14,11 @@ use status::drives::get;
 use status::drives::put;
 use status::drives::reset_drives;
 use status::drives::with_report;
-use status::words::Word;
 use status::words::no_outcome;
+use status::words::zero_word;
 ghost use mathlib.Core.Path.{_≡_};
 ghost use Rattle.status.specs.Drives.{driveOf, withDrive, reported};
-ghost use Rattle.controller.specs.State.{current, setCurrent, setDrives, setFlags, nothingCollected, zeroWord, startWith, fresh, resetOf, review, collecting, done, refused, idle};
+ghost use Rattle.controller.specs.State.{current, setCurrent, setDrives, setFlags, nothingCollected, startWith, fresh, resetOf, review, collecting, done, refused, idle};
 ghost use Rattle.controller.specs.Stores.{cleared};
 
 // The selected drive.
@@ -94,17 +94,6 @@ pub fn no_string() -> Collected
         c5: 0,
         c6: 0,
         c7: 0,
-    }
-}
-
-fn zero_word() -> Word
-    ensures { λ r. ⌜ r ≡ zeroWord ⌝ }
-{
-    Word {
-        b0: 0,
-        b1: 0,
-        b2: 0,
-        b3: 0,
     }
 }
 

@@ -57,6 +57,9 @@ secondaryWord count = record { b0 = 0; b1 = 0; b2 = count / 256 % 256; b3 = coun
 unfoldable pub digits : Defect → ℕ
 digits defect = defect .mark % 16 * 16 + defect .kind % 16
 
+abbrev pub zeroWord : Word
+zeroWord = record { b0 = 0; b1 = 0; b2 = 0; b3 = 0 }
+
 -- "Tertiary: first odd error's mark and kind (1 data, 2 check) as two digits, its number, then the same for even; zero where none."
 unfoldable pub tertiaryOf : Defect → Defect → Word
 tertiaryOf odd even = record { b0 = digits odd; b1 = odd .number; b2 = digits even; b3 = even .number }

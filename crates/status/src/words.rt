@@ -9,7 +9,7 @@ use crate::drives::Drives;
 use marks::Defect;
 ghost use mathlib.Core.Path.{_≡_};
 ghost use Prim.Native.Nat.{_≤_};
-ghost use Rattle.status.specs.Words.{bit, noOutcome, anyBit, primaryOf, secondaryWord, digits, tertiaryOf, quintaryOf, reportsWord};
+ghost use Rattle.status.specs.Words.{zeroWord, bit, noOutcome, anyBit, primaryOf, secondaryWord, digits, tertiaryOf, quintaryOf, reportsWord};
 
 pub struct Word {
     pub b0: u8,
@@ -118,6 +118,18 @@ pub fn tertiary(odd: Defect, even: Defect) -> Word
         b1: odd.number,
         b2: digits_of(even),
         b3: even.number,
+    }
+}
+
+// A word of zeros.
+pub fn zero_word() -> Word
+    ensures { λ r. ⌜ r ≡ zeroWord ⌝ }
+{
+    Word {
+        b0: 0,
+        b1: 0,
+        b2: 0,
+        b3: 0,
     }
 }
 

@@ -1,0 +1,100 @@
+-- `controller::lent::data_done` meets its contract: the image stands at the start of the space, and the check store takes its check bytes.
+-- Assumes nothing.
+use borrow.Author.Needs.{needs}
+use mathlib.Core.List.{List}
+use mathlib.Core.Path.{sym, ap, _∙_, _≡_}
+use Prim.Native.Nat.{ℕ, _≤_}
+use lib.ListN.{take, length}
+use Rattle.records.specs.Image.{imageOf, imageLength}
+use Rattle.operations.specs.declared.operation.Operation.the-variants.{Write}
+use Rattle.operations.specs.Store.{heldCount}
+use Rattle.transfers.specs.Data.{recordBytes}
+use Rattle.controller.specs.State.{current}
+use Rattle.controller.specs.Stores.{ordered}
+use Rattle.controller.specs.declared.state.Body.{Body}
+use Rattle.transfers.proofs.DataLaws.{given-prefix, given-room, record-image-length, data-ready}
+use Rattle.controller.proofs.TransferLaws.{data-answer}
+use Rattle.controller.proofs.lent.data_done.Statement.{statement}
+use Rattle.controller.proofs.lent.data_done.Tie as tie
+
+-- the image stands at the start of the space
+given-image : (c : tie.After-put-record) → let e = c .before .before .before .before .before .before in (c .put-record .result ≤ length (c .put-record .last .1 .1 .1 .0)) × (take (c .put-record .result) (c .put-record .last .1 .1 .1 .0) ≡ imageOf (recordBytes (e .args .store) (e .args .host .now)) (c .before .before .current-drive .result .density))
+given-image c =
+    let e = c .before .before .before .before .before .before in (
+      rw (c .put-record .ensures .0, c .put-record .ensures .1) (given-room _ (e .args .space .now)),
+      rw (c .put-record .ensures .0, c .put-record .ensures .1) (given-prefix _ (e .args .space .now)),
+    )
+
+-- the lent spaces are long enough
+ready : (c : tie.After-current-drive) → let e = c .before .before .before .before in (length (e .args .check .now) ≡ 512) × (imageLength (heldCount (e .args .store)) (current (e .args .b) .density) ≤ length (e .args .space .now))
+ready c =
+    let e = c .before .before .before .before in
+    data-ready (current (e .args .b)) (e .args .store) _ _ (e .pre .1)
+
+current-drive-requires : tie.Need-current-drive-requires
+current-drive-requires c κs = search needs
+
+put-record-requires : tie.Need-put-record-requires
+put-record-requires c κs =
+    let d = c .before in
+    let e = d .before .before .before .before in
+    (e .pre .0, rw (d .current-drive .ensures) (ready d .1))
+
+slice-reshare-prefix-put-data-check : tie.Need-slice-reshare-prefix-put-data-check
+slice-reshare-prefix-put-data-check c = given-image (c .before .before) .0
+
+slice-aggregate-put-data-check : tie.Need-slice-aggregate-put-data-check
+slice-aggregate-put-data-check c =
+    let p = c .before .before .before in
+    p .put-record .ensures .0 ∙ sym (ap (λ (x : List ℕ). length x) (given-image p .1))
+
+put-data-check-requires : tie.Need-put-data-check-requires
+put-data-check-requires c κs =
+    let p = c .before .before .before .before in
+    let d = p .before .before in
+    let e = d .before .before .before .before in
+    let store = e .args .store in (
+      e .pre .0,
+      (
+        ap (λ (x : List ℕ). length x) (given-image p .1) ∙ record-image-length store (e .args .host .now) (d .current-drive .result .density),
+        ready d .0,
+      ),
+    )
+
+data-body-requires : tie.Need-data-body-requires
+data-body-requires c κs = search needs
+
+ordered-requires : tie.Need-ordered-requires
+ordered-requires c κs = search needs
+
+same-length : tie.Need-same-length
+same-length c = search needs
+
+same-length-2 : tie.Need-same-length-2
+same-length-2 c = search needs
+
+returns : tie.Need-returns
+returns c =
+    let m = c .before in
+    let k = m .before .before .before in
+    let p = k .before .before .before .before .before in
+    let d = p .before .before in
+    let e = d .before .before .before .before in
+    data-answer (e .args .b) (e .args .store) (e .args .host .now) (e .args .space .now) (e .args .check .now) (d .current-drive .result) (d .current-drive .ensures)
+    _ _ _ _ (c .ordered .ensures ∙ ap (λ (x : Body). ordered x Write (e .args .store)) (m .data-body .ensures))
+    (p .put-record .ensures .0) (p .put-record .ensures .1) (k .put-data-check .ensures)
+
+pub data-done-spec : {M : Type 1} → statement M
+data-done-spec =
+    tie.close
+    (tie.spec
+    current-drive-requires
+    put-record-requires
+    slice-reshare-prefix-put-data-check
+    slice-aggregate-put-data-check
+    put-data-check-requires
+    data-body-requires
+    ordered-requires
+    same-length
+    same-length-2
+    returns)

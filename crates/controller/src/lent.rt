@@ -1,0 +1,326 @@
+// The two calls that are lent space, data and result, as far as they concern the state.
+use crate::body::current_drive;
+use crate::body::put_current;
+use crate::body::refuse;
+use crate::damaged::is_sound;
+use crate::state::Body;
+use crate::state::Controller;
+use crate::state::Phase;
+use crate::state::Transfer;
+use crate::stores::end_operation;
+use crate::stores::ordered;
+use operations::operation::Operation;
+use operations::store::Store;
+use status::words::zero_word;
+use transfers::data::data_refusal;
+use transfers::data::is_gcr;
+use transfers::data::put_data_check;
+use transfers::data::put_record;
+use transfers::data::runs_short;
+use transfers::data::with_underflow;
+use transfers::results::delivered_bytes;
+use transfers::results::give_fitting;
+use transfers::results::put_result_check;
+use transfers::results::result_bits;
+use transfers::results::result_drive;
+use transfers::results::result_quintary;
+use transfers::results::result_refusal;
+use transfers::results::result_secondary;
+use transfers::results::result_tertiary;
+use transfers::results::with_retry;
+ghost use mathlib.Core.Path.{_≡_};
+ghost use Prim.Native.Nat.{_≤_};
+ghost use mathlib.Core.Bool.{true};
+ghost use lib.ListN.{length};
+ghost use Rattle.records.specs.Count.{limit, countOf};
+ghost use Rattle.operations.specs.Store.{heldCount};
+ghost use Rattle.transfers.specs.Data.{isGcr, runsShort, withUnderflow, dataRefusal};
+ghost use Rattle.transfers.specs.Results.{resultOf, resultRefusal};
+ghost use Rattle.controller.specs.State.{current, setOutcome, refused};
+ghost use Rattle.controller.specs.Records.{answered, zeroedWords, dataDone, resultBody, resultDone};
+ghost use Rattle.controller.specs.Damaged.{sound};
+ghost use Rattle.controller.specs.Machine.{dataIn, dataCall, resultIn, resultCall};
+
+// Tertiary and quintary zeroed, where the data call zeroes them.
+pub fn zeroed_words(mut b: Body, zeroes: bool) -> Body
+    ensures { λ r. ⌜ r ≡ zeroedWords b zeroes ⌝ }
+{
+    if zeroes {
+        let zero = zero_word();
+        b.tertiary = zero;
+        b.quintary = zero;
+    }
+    b
+}
+
+// The body after a data call.
+pub fn data_body(mut b: Body, store: Store, host: &[u8]) -> Body
+    ensures { λ r. ⌜ r ≡ zeroedWords (setOutcome b (withUnderflow (b .outcome) (runsShort store (now (host .entry))))) (isGcr (current b)) ⌝ }
+{
+    let drive = current_drive(b);
+    let gcr = is_gcr(drive);
+    let short = runs_short(store, host);
+    let before = b.outcome;
+    let outcome = with_underflow(before, short);
+    b.outcome = outcome;
+    zeroed_words(b, gcr)
+}
+
+// The data call, carried out.
+pub fn data_done(b: Body, store: Store, host: &[u8], space: &mut [u8], check: &mut [u8]) -> Transfer
+    requires { ⌜ heldCount store ≤ limit ⌝ }
+    requires { ⌜ dataRefusal (current b) store (length (now space)) (length (now check)) ≡ 0 ⌝ }
+    ensures { λ r. ⌜ answered r (now (space .exit)) (now (check .exit)) ≡ dataDone b store (now (host .entry)) (now (space .entry)) (now (check .entry)) ⌝ }
+{
+    let drive = current_drive(b);
+    let bytes = put_record(store, host, drive.density, space);
+    put_data_check(drive, store, &space[..bytes], check);
+    let body = data_body(b, store, host);
+    let reply = ordered(body, Operation::Write, store);
+    Transfer { reply, bytes }
+}
+
+// The body after a result.
+pub fn result_body(
+    mut b: Body,
+    operation: Operation,
+    store: Store,
+    code: u8,
+    mark: bool,
+    late: u8,
+    image: &[u8],
+    marks: &[u8],
+    bytes: usize,
+    space: usize,
+) -> Body
+    requires { ⌜ countOf (now image) ≤ limit ⌝ }
+    requires { ⌜ ((length (now image) ≡ 0 → ⊥) → 2 ≤ length (now image)) ⌝ }
+    ensures { λ r. ⌜ r ≡ resultBody b operation store (resultOf code mark late (now (image .entry)) (now (marks .entry))) bytes space ⌝ }
+{
+    let drive = current_drive(b);
+    let before = b.outcome;
+    let odd_even = b.tertiary;
+    let stop = b.quintary;
+    let bits = result_bits(
+        drive,
+        before,
+        operation,
+        code,
+        mark,
+        late,
+        image,
+        marks,
+        bytes,
+        space,
+    );
+    let outcome = with_retry(bits);
+    let secondary = result_secondary(drive, operation, store, code, image, marks, b.secondary);
+    let tertiary = result_tertiary(drive, operation, marks, odd_even);
+    let quintary = result_quintary(drive, operation, marks, stop);
+    let left = result_drive(drive, operation, code, marks);
+    b.outcome = outcome;
+    b.secondary = secondary;
+    b.tertiary = tertiary;
+    b.quintary = quintary;
+    put_current(b, left)
+}
+
+// ---- what it leaves in the lent spaces
+
+// The result, carried out.
+pub fn result_done(
+    b: Body,
+    operation: Operation,
+    store: Store,
+    code: u8,
+    mark: bool,
+    late: u8,
+    image: &[u8],
+    marks: &[u8],
+    space: &mut [u8],
+    check: &mut [u8],
+) -> Transfer
+    requires { ⌜ resultRefusal (current b) operation (resultOf code mark late (now image) (now marks)) (length (now check)) ≡ 0 ⌝ }
+    ensures { λ r. ⌜ answered r (now (space .exit)) (now (check .exit)) ≡ resultDone b operation store (resultOf code mark late (now (image .entry)) (now (marks .entry))) (now (space .entry)) (now (check .entry)) ⌝ }
+{
+    let drive = current_drive(b);
+    let room = space.len();
+    let bytes = delivered_bytes(drive, operation, image, marks, check);
+    let wanted = bytes.len();
+    let fit = give_fitting(bytes, space);
+    put_result_check(drive, operation, image, check);
+    let body = result_body(
+        b,
+        operation,
+        store,
+        code,
+        mark,
+        late,
+        image,
+        marks,
+        wanted,
+        room,
+    );
+    let reply = end_operation(body, operation, store);
+    Transfer { reply, bytes: fit }
+}
+
+// A call that is refused gives nothing.
+pub fn refuse_transfer(number: u32, c: Controller) -> Transfer
+    ensures { λ r. ⌜ r ≡ record { reply = refused number c; bytes = 0 } ⌝ }
+{
+    let reply = refuse(number, c);
+    Transfer { reply, bytes: 0 }
+}
+
+// The data call of a write.
+pub fn take_data(
+    c: Controller,
+    store: Store,
+    host: &[u8],
+    space: &mut [u8],
+    check: &mut [u8],
+) -> Transfer
+    requires { ⌜ heldCount store ≤ limit ⌝ }
+    ensures { λ r. ⌜ answered r (now (space .exit)) (now (check .exit)) ≡ dataIn c (c .body) (now (host .entry)) (now (space .entry)) (now (check .entry)) (Phase.DataAwaited store) ⌝ }
+{
+    let b = c.body;
+    let drive = current_drive(b);
+    let refusal = data_refusal(drive, store, space.len(), check.len());
+    if refusal != 0 {
+        return refuse_transfer(refusal, c);
+    }
+    data_done(b, store, host, space, check)
+}
+
+// The result of an operation.
+pub fn take_result(
+    c: Controller,
+    operation: Operation,
+    store: Store,
+    code: u8,
+    mark: bool,
+    late: u8,
+    image: &[u8],
+    marks: &[u8],
+    space: &mut [u8],
+    check: &mut [u8],
+) -> Transfer
+    ensures { λ r. ⌜ answered r (now (space .exit)) (now (check .exit)) ≡ resultIn c (c .body) (resultOf code mark late (now (image .entry)) (now (marks .entry))) (now (space .entry)) (now (check .entry)) (Phase.ResultAwaited operation store) ⌝ }
+{
+    let b = c.body;
+    let drive = current_drive(b);
+    let refusal = result_refusal(
+        drive,
+        operation,
+        code,
+        mark,
+        late,
+        image,
+        marks,
+        check.len(),
+    );
+    if refusal != 0 {
+        return refuse_transfer(refusal, c);
+    }
+    result_done(
+        b,
+        operation,
+        store,
+        code,
+        mark,
+        late,
+        image,
+        marks,
+        space,
+        check,
+    )
+}
+
+// The data call, where no field is out of range.
+pub fn data_in(c: Controller, host: &[u8], space: &mut [u8], check: &mut [u8]) -> Transfer
+    requires { ⌜ sound c ≡ true ⌝ }
+    ensures { λ r. ⌜ answered r (now (space .exit)) (now (check .exit)) ≡ dataIn c (c .body) (now (host .entry)) (now (space .entry)) (now (check .entry)) (c .phase) ⌝ }
+{
+    let phase = c.phase;
+    match phase {
+        Phase::DataAwaited(store) => take_data(c, store, host, space, check),
+        Phase::Collecting => refuse_transfer(3, c),
+        Phase::AckOffered => refuse_transfer(3, c),
+        Phase::Sending(_) => refuse_transfer(3, c),
+        Phase::GoOffered(_) => refuse_transfer(3, c),
+        Phase::ResultAwaited(_, _) => refuse_transfer(3, c),
+        Phase::EndOffered(_) => refuse_transfer(3, c),
+    }
+}
+
+// The result, where no field is out of range.
+pub fn result_in(
+    c: Controller,
+    code: u8,
+    mark: bool,
+    late: u8,
+    image: &[u8],
+    marks: &[u8],
+    space: &mut [u8],
+    check: &mut [u8],
+) -> Transfer
+    ensures { λ r. ⌜ answered r (now (space .exit)) (now (check .exit)) ≡ resultIn c (c .body) (resultOf code mark late (now (image .entry)) (now (marks .entry))) (now (space .entry)) (now (check .entry)) (c .phase) ⌝ }
+{
+    let phase = c.phase;
+    match phase {
+        Phase::ResultAwaited(operation, store) => {
+            take_result(
+                c,
+                operation,
+                store,
+                code,
+                mark,
+                late,
+                image,
+                marks,
+                space,
+                check,
+            )
+        }
+        Phase::Collecting => refuse_transfer(3, c),
+        Phase::AckOffered => refuse_transfer(3, c),
+        Phase::Sending(_) => refuse_transfer(3, c),
+        Phase::GoOffered(_) => refuse_transfer(3, c),
+        Phase::DataAwaited(_) => refuse_transfer(3, c),
+        Phase::EndOffered(_) => refuse_transfer(3, c),
+    }
+}
+
+impl Controller {
+    // The host's bytes for a write. The image stands at the start of the space afterwards.
+    pub fn data(self, host: &[u8], space: &mut [u8], check: &mut [u8]) -> Transfer
+        ensures { λ r. ⌜ answered r (now (space .exit)) (now (check .exit)) ≡ dataCall self (now (host .entry)) (now (space .entry)) (now (check .entry)) ⌝ }
+    {
+        let sound = is_sound(self);
+        if sound {
+            return data_in(self, host, space, check);
+        }
+        refuse_transfer(1, self)
+    }
+
+    // What came of an operation. The bytes that are delivered stand at the start of the host space afterwards.
+    pub fn result(
+        self,
+        code: u8,
+        mark: bool,
+        late: u8,
+        image: &[u8],
+        marks: &[u8],
+        space: &mut [u8],
+        check: &mut [u8],
+    ) -> Transfer
+        ensures { λ r. ⌜ answered r (now (space .exit)) (now (check .exit)) ≡ resultCall self (resultOf code mark late (now (image .entry)) (now (marks .entry))) (now (space .entry)) (now (check .entry)) ⌝ }
+    {
+        let sound = is_sound(self);
+        if sound {
+            return result_in(self, code, mark, late, image, marks, space, check);
+        }
+        refuse_transfer(1, self)
+    }
+}

@@ -1,0 +1,101 @@
+-- Laws of the data call: the part of an image that its check bytes are, the record that a write makes, and the answer that its parts
+-- make.
+-- Assumes nothing.
+use mathlib.Core.Path.{_≡_, refl, sym, subst, ap, ap₂, _∙_}
+use Prim.Native.Nat.{ℕ, _+_, _-_, _*_, _≤_, min}
+use native.Mathlib.Omega.{arith}
+use mathlib.Core.Bool.{Bool, true, false, _&&_}
+use mathlib.Core.List.{List, _++_}
+use lib.Dec.{T}
+use lib.ListN.{length, take, drop, length-take, length-drop, length-append}
+use lib.Seq.{take-at}
+use borrow.Author.Tests.{ne-eqb, eqb-true, ltb-false, not-false}
+use Rattle.common.specs.Given.{given, filled}
+use Rattle.common.proofs.GivenLaws.{given-all, filled-length}
+use Rattle.common.proofs.Parts.{part-within}
+use Rattle.common.proofs.PickLaws.{pick-no, not-refused}
+use Rattle.records.specs.Image.{blocketteCount, hasBlockettes, imageLength, imageOf}
+use Rattle.records.proofs.ImageLaws.{length-gcr, image-length}
+use Rattle.status.specs.declared.drives.Drive.{Drive}
+use Rattle.operations.specs.declared.store.Store.{Store}
+use Rattle.operations.specs.Store.{thrownAway, heldCount}
+use Rattle.transfers.specs.Data.{isGcr, checkBytes, recordBytes, dataRefusal}
+
+-- ---- check bytes
+
+-- how long a GCR image with blockettes is
+checked-length : (count density : ℕ) → (count ≡ 0 → ⊥) → (density ≡ 0 → ⊥) → imageLength count density ≡ 2 + 256 * (blocketteCount count + 2)
+unfolding hasBlockettes
+checked-length count density some gcr =
+    let has : hasBlockettes count density ≡ true = simp (ne-eqb count 0 some, ne-eqb density 0 gcr) in
+    length-gcr count density has
+
+-- its check bytes are its last 512
+module _ (image : List ℕ) (count n : ℕ) (some : count ≡ 0 → ⊥) (many : n ≡ blocketteCount count) (whole : length image ≡ imageLength count 1) where
+  pub checks-left : length image ≡ 2 + 256 * n + 512
+  checks-left = let long : imageLength count 1 ≡ 2 + 256 * (blocketteCount count + 2) = checked-length count 1 some (λ z. omega arith) in omega arith
+
+  checks-length : length (take (length image - (2 + 256 * n)) (drop (2 + 256 * n) image)) ≡ 512
+  checks-length = let left = checks-left in simp (length-take, length-drop) (omega arith)
+
+  pub check-part : (check : List ℕ) → length check ≡ 512 → given (take (length image - (2 + 256 * n)) (drop (2 + 256 * n) image)) check ≡ checkBytes image count
+  unfolding checkBytes
+  check-part check e =
+      let left = checks-left in
+      let last : length image - (2 + 256 * n) ≡ 512 = omega arith in
+      given-all _ check (omega (arith, checks-length))
+      ∙ ap₂ (λ (k m : ℕ). take k (drop (2 + 256 * m) image)) last many
+      ∙ sym (pick-no _ _ (ne-eqb count 0 some))
+
+-- every density but 0 is GCR
+pub gcr-alike : (drive : Drive) (count : ℕ) → isGcr drive ≡ true → imageLength count (drive .density) ≡ imageLength count 1
+unfolding isGcr imageLength hasBlockettes
+gcr-alike drive count e = simp e
+
+-- ---- a data call that is not refused
+
+pub data-ready : (drive : Drive) (store : Store) (space check : ℕ) → dataRefusal drive store space check ≡ 0 → (check ≡ 512) × (imageLength (heldCount store) (drive .density) ≤ space)
+unfolding dataRefusal
+data-ready drive store space check e =
+    let a = not-refused _ _ _ (λ r. omega arith) e in
+    let b = not-refused _ _ _ (λ r. omega arith) (a .1) in
+    (eqb-true _ _ (not-false _ (a .0)), ltb-false _ _ (b .0))
+
+-- the second of two that hold
+pub and-right : (a b : Bool) → a && b ≡ true → b ≡ true
+and-right true b e = e
+and-right false b e = absurd (subst T (sym e) tt)
+
+-- ---- the record of a write
+
+module _ (store : Store) (host : List ℕ) where
+  record-length : length (recordBytes store host) ≡ heldCount store
+  unfolding recordBytes
+  record-length = filled-length _ (heldCount store) (simp length-take (omega arith))
+
+  pub record-image-length : (density : ℕ) → length (imageOf (recordBytes store host) density) ≡ imageLength (heldCount store) density
+  record-image-length density = image-length (recordBytes store host) density ∙ ap (λ (k : ℕ). imageLength k density) record-length
+
+  -- the host bytes from where they are not thrown away, as many as are counted or there are
+  pub record-part : (from end count : ℕ) → count ≡ heldCount store → from ≡ min (length host) (store .second) → end ≡ min (length host) (from + count)
+      → filled (take (end - from) (drop from host)) count ≡ recordBytes store host
+  unfolding recordBytes thrownAway
+  record-part from end count is f e =
+      ap (λ (x : List ℕ). filled x count) (part-within host (store .second) count from end f e)
+      ∙ ap (λ (k : ℕ). filled (take k (drop (store .second) host)) k) is
+
+-- ---- what is given
+
+-- bytes that are given stand at the start of the space
+pub given-prefix : (bytes space : List ℕ) → take (length bytes) (given bytes space) ≡ bytes
+unfolding given
+given-prefix bytes space = take-at bytes (drop (length bytes) space) (length bytes) refl
+
+pub given-room : (bytes space : List ℕ) → length bytes ≤ length (given bytes space)
+unfolding given
+given-room bytes space = simp length-append (omega arith)
+
+-- an image given at the start of a space
+pub image-given : (space image last : List ℕ) (needed : ℕ) → last ≡ image → needed ≡ length image → last ++ drop needed space ≡ given image space
+unfolding given
+image-given space image last needed e long = ap₂ (λ (x : List ℕ) (k : ℕ). x ++ drop k space) e long
