@@ -12,7 +12,7 @@ use Rattle.controller.specs.declared.state.Reply.{Reply}
 use Rattle.controller.specs.declared.state.Transfer.{Transfer}
 use Rattle.controller.specs.State.{fresh}
 use Rattle.controller.specs.Records.{Answer, answered}
-use Rattle.controller.specs.Machine.{dataCall, resultCall, Call, Exchange, plain, step, run}
+use Rattle.controller.specs.Machine.{byteCall, takenCall, brokenCall, reportCall, dataCall, resultCall, tickCall, resetCall, Call, Exchange, plain, step, run}
 use Rattle.controller.specs.Machine.Call.{byte, taken, broken, report, hostData, result, tick, reset}
 use Rattle.controller.specs.Separation.{Separate}
 use Rattle.controller.proofs.DrivesAreSeparate.{drives-are-separate}
@@ -79,6 +79,12 @@ pub record ResultLent (c : Controller) (r : Result) (space check : List ℕ) (an
   pub promise : result-reads.Post lifetimes (c, (r .code, (r .mark, (r .late, (image-slice, (marks-slice, (space-slice, (check-slice, tt)))))))) transfer (c, (r .code, (r .mark, (r .late, (image-slice, (marks-slice, (at-last space-slice (answer .space), (at-last check-slice (answer .check), tt))))))))
   pub same : answer ≡ answered transfer (answer .space) (answer .check)
 
+abbrev somewhere : List ℕ → RefT (List ℕ)
+somewhere bytes = record { ptr = (0, 0); name = 0; now = bytes }
+
+abbrev handedBack : Answer → Transfer
+handedBack answer = record { reply = answer .reply; bytes = answer .bytes }
+
 -- what the contract of a call's own function allows as its answer
 unfoldable pub Allows : Controller → Call → Answer → Type 0
 Allows c (byte b) = Plainly (λ (r : Reply). byte-reads.Post tt (c, (b, tt)) r (c, (b, tt)))
@@ -139,6 +145,52 @@ made-runs c (x ∷ xs) (allowed, others) =
 pub calls-run-the-machine : (xs : List Exchange) → FromFresh xs → xs ≡ run fresh (callsOf xs)
 calls-run-the-machine xs made =
     made-runs (made .start) xs (made .goes) ∙ ap (λ (c : Controller). run c (callsOf xs)) (made .begins)
+
+-- and the machine's run is such a list, so the two demands speak of something
+steps-are-allowed : (c : Controller) (call : Call) → Allows c call (step c call)
+unfolding Allows step
+steps-are-allowed c (byte b) = record { reply = byteCall c b; promise = refl; same = refl }
+steps-are-allowed c taken = record { reply = takenCall c; promise = refl; same = refl }
+steps-are-allowed c broken = record { reply = brokenCall c; promise = refl; same = refl }
+steps-are-allowed c (report drive bits) = record { reply = reportCall c drive bits; promise = refl; same = refl }
+steps-are-allowed c (hostData host space check) =
+    record {
+      lifetimes = ([], ([], ([], tt)));
+      host-slice = somewhere host;
+      space-slice = somewhere space;
+      check-slice = somewhere check;
+      transfer = handedBack (dataCall c host space check);
+      holds-host = refl;
+      holds-space = refl;
+      holds-check = refl;
+      promise = refl;
+      same = refl;
+    }
+steps-are-allowed c (result r space check) =
+    record {
+      lifetimes = ([], ([], ([], ([], tt))));
+      image-slice = somewhere (r .image);
+      marks-slice = somewhere (r .marks);
+      space-slice = somewhere space;
+      check-slice = somewhere check;
+      transfer = handedBack (resultCall c r space check);
+      holds-image = refl;
+      holds-marks = refl;
+      holds-space = refl;
+      holds-check = refl;
+      promise = refl;
+      same = refl;
+    }
+steps-are-allowed c tick = record { reply = tickCall c; promise = refl; same = refl }
+steps-are-allowed c reset = record { reply = resetCall c; promise = refl; same = refl }
+
+runs-are-made : (c : Controller) (calls : List Call) → Made c (run c calls)
+unfolding Made run
+runs-are-made c [] = tt
+runs-are-made c (call ∷ calls) = (steps-are-allowed c call, runs-are-made (step c call .reply .controller) calls)
+
+pub runs-are-from-fresh : (calls : List Call) → FromFresh (run fresh calls)
+runs-are-from-fresh calls = record { start = fresh; begins = refl; goes = runs-are-made fresh calls }
 
 -- Demand 3: the drives are separate.
 pub calls-keep-drives-separate : (xs ys : List Exchange) → FromFresh xs → FromFresh ys → Separate xs ys
