@@ -32,7 +32,7 @@ use Rattle.transfers.specs.Data.{dataRefusal}
 use Rattle.transfers.specs.Results.{Result, resultRefusal}
 use Rattle.controller.specs.Records.{Answer}
 use Rattle.controller.specs.Damaged.{sound}
-use Rattle.controller.specs.Machine.{unchanged, byteCall, brokenCall, tickCall, takenBody, takenIn, takenCall, reportCall, resetCall, dataIn, dataCall, resultIn, resultCall, Call, Exchange, plain, step}
+use Rattle.controller.specs.Machine.{unchanged, byteCall, brokenCall, tickCall, takenBody, takenIn, takenCall, reportCall, resetCall, dataFor, dataIn, dataCall, resultFor, resultIn, resultCall, Call, Exchange, plain, step}
 use Rattle.controller.specs.Machine.Call.{byte, taken, broken, report, hostData, result, tick, reset}
 use Rattle.controller.specs.Separation.{notRefused, isTaken, isOf, storeEvent, holdsStore, carriesOut, lastStore, awaitsGo, eventOf, bytesGiven, ordersFor, transferOf, isReset, resets, admits}
 use Rattle.controller.proofs.Resting.{Free, Rests, idle-rests, given-up-rests, accepted-rests, said-no-rests, first-byte-rests, next-byte-rests, completed-rests, tick-rests, loaded-rests, ended-rests, settled-rests}
@@ -107,7 +107,7 @@ module _ (d : ℕ) (low : d ≤ 3) (last : Store) where
     module _ (host space check : List ℕ) where
       data-in-follows :
           (phase : Phase) → InHand last (b .selected) phase → following (hostData host space check) phase (dataIn (at phase) b host space check phase)
-      unfolding dataIn InHand
+      unfolding dataIn dataFor InHand
       data-in-follows (DataAwaited store) held =
           pick-by (following (hostData host space check) (DataAwaited store)) (eqb (dataRefusal (current b) store (length space) (length check)) 0)
           (λ carried. data-follows d last b store host space check held)
@@ -122,7 +122,7 @@ module _ (d : ℕ) (low : d ≤ 3) (last : Store) where
     module _ (r : Result) (space check : List ℕ) where
       result-in-follows :
           (phase : Phase) → InHand last (b .selected) phase → following (result r space check) phase (resultIn (at phase) b r space check phase)
-      unfolding resultIn InHand
+      unfolding resultIn resultFor InHand
       result-in-follows (ResultAwaited operation store) held =
           pick-by (following (result r space check) (ResultAwaited operation store)) (eqb (resultRefusal (current b) operation r (length check)) 0)
           (λ carried. result-follows d low last b operation store r space check held)

@@ -37,7 +37,7 @@ use Rattle.controller.specs.Link.{goTaken, goRefused}
 use Rattle.controller.specs.Stores.{endedBy, tracked, withDensity, motionOrder, pastTest, ordered, begun, operated, decoded, cleared, carriedOut}
 use Rattle.transfers.specs.Data.{recordBytes, runsShort, withUnderflow, isGcr}
 use Rattle.transfers.specs.Results.{Result, withGap, resultDrive, finalCode, isGone, usesImage, delivered, fitting}
-use Rattle.controller.specs.Records.{zeroedWords, dataDone, resultBody, resultDone}
+use Rattle.controller.specs.Records.{resultGiven, zeroedWords, dataDone, resultBody, resultDone}
 use Rattle.controller.specs.Machine.{Call, Exchange, plain}
 use Rattle.controller.specs.Machine.Call.{byte, taken, broken, report, hostData, result}
 use Rattle.controller.specs.Separation.{Event, Output, notRefused, isOf, isRead, holdsStore, storeEvent, awaitsGo, eventOf, eventsOf, ordersFor, bytesGiven, transferOf, outputsOf, asksReset, resets}
@@ -529,7 +529,7 @@ module _ (d : ℕ) (last : Store) (b : Body) (store : Store) (host space check :
   awaiting = record { body = b; phase = DataAwaited store }
 
   pub data-follows :
-      Held last (b .selected) Write store → Follows d (viewOf d last awaiting) last awaiting (record { call = hostData host space check; answer = dataDone b store host space check })
+      Held last (b .selected) Write store → Follows d (viewOf d last awaiting) last awaiting (record { call = hostData host space check; answer = dataDone b (current b) store host space check })
   unfolding eventOf transferOf bytesGiven told gives dataDone handIn handAfterData givenAtData recordBytes thrownAway heldCount InHand ordered
   data-follows held =
       let body = setOutcome b (withUnderflow (b .outcome) (runsShort store host)) in
@@ -583,11 +583,11 @@ module _ (d : ℕ) (low : d ≤ 3) (last : Store) (b : Body) (operation : Operat
   moving = record { body = b; phase = ResultAwaited operation store }
 
   pub result-follows :
-      Held last (b .selected) operation store → Follows d (viewOf d last moving) last moving (record { call = result r space check; answer = resultDone b operation store r space check })
-  unfolding eventOf transferOf bytesGiven told gives resultDone resultBody resultDrive withGap finalCode isGone handIn driveAfterResult givenAtResult isRead
+      Held last (b .selected) operation store → Follows d (viewOf d last moving) last moving (record { call = result r space check; answer = resultDone b (current b) operation store r space check })
+  unfolding eventOf transferOf bytesGiven told gives resultDone resultGiven resultBody resultDrive withGap finalCode isGone handIn driveAfterResult givenAtResult isRead
   result-follows held =
       let bytes = delivered (current b) operation r check in
-      let body = resultBody b operation store r (length bytes) (length space) in
+      let body = resultBody b (current b) operation store r (length bytes) (length space) in
       let rests = ending-rests d low body operation store in
       let fits = fitting bytes (length space) in
       owned-follows d last moving _ _ (resultCame r (length space)) refl

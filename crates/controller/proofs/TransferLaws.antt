@@ -16,12 +16,11 @@ use Rattle.operations.specs.Store.{heldCount}
 use Rattle.transfers.specs.Data.{isGcr, checkBytes, recordBytes, runsShort, withUnderflow}
 use Rattle.transfers.specs.Results.{resultOf, usesImage, resultCheck, delivered, fitting}
 use Rattle.transfers.proofs.DataLaws.{given-prefix}
-use Rattle.transfers.proofs.ResultLaws.{delivered-parts}
 use Rattle.controller.specs.declared.state.Body.{Body}
 use Rattle.controller.specs.declared.state.Reply.{Reply}
-use Rattle.controller.specs.State.{current, setOutcome}
+use Rattle.controller.specs.State.{setOutcome}
 use Rattle.controller.specs.Stores.{ordered}
-use Rattle.controller.specs.Records.{Answer, zeroedWords, dataDone, resultBody, ending, resultDone}
+use Rattle.controller.specs.Records.{Answer, zeroedWords, dataDone, resultBody, ending, resultGiven}
 
 -- answers of equal parts
 pub answer-alike : (r r′ : Reply) (n n′ : ℕ) (s s′ k k′ : List ℕ) → r ≡ r′ → n ≡ n′ → s ≡ s′ → k ≡ k′
@@ -29,40 +28,27 @@ pub answer-alike : (r r′ : Reply) (n n′ : ℕ) (s s′ k k′ : List ℕ) �
 answer-alike r r′ n n′ s s′ k k′ p q t u = cc
 
 -- what a data call does, from what its parts do
-module _ (b : Body) (store : Store) (host space check : List ℕ) (drive : Drive) (selected : drive ≡ current b) where
-  data-image : imageOf (recordBytes store host) (drive .density) ≡ imageOf (recordBytes store host) (current b .density)
-  data-image = ap (λ (d : Drive). imageOf (recordBytes store host) (d .density)) selected
-
+module _ (b : Body) (drive : Drive) (store : Store) (host space check : List ℕ) where
   pub data-answer : (r : Reply) (n : ℕ) (s k : List ℕ)
-      → r ≡ ordered (zeroedWords (setOutcome b (withUnderflow (b .outcome) (runsShort store host))) (isGcr (current b))) Write store
+      → r ≡ ordered (zeroedWords (setOutcome b (withUnderflow (b .outcome) (runsShort store host))) (isGcr drive)) Write store
       → n ≡ length (imageOf (recordBytes store host) (drive .density))
       → s ≡ given (imageOf (recordBytes store host) (drive .density)) space
       → k ≡ pick (isGcr drive) (checkBytes (take n s) (heldCount store)) check
-      → _≡_ {A = Answer} (record { reply = r; bytes = n; space = s; check = k }) (dataDone b store host space check)
+      → _≡_ {A = Answer} (record { reply = r; bytes = n; space = s; check = k }) (dataDone b drive store host space check)
   unfolding dataDone
   data-answer r n s k p q t u =
       let part : take n s ≡ imageOf (recordBytes store host) (drive .density) = rw (q, t) (given-prefix _ space) in
-      answer-alike _ _ _ _ _ _ _ _ p (q ∙ ap (λ (x : List ℕ). length x) data-image) (t ∙ ap (λ (x : List ℕ). given x space) data-image)
-      (u
-      ∙ ap₂ (λ (d : Drive) (x : List ℕ). pick (isGcr d) (checkBytes x (heldCount store)) check) selected (part ∙ data-image))
+      answer-alike _ _ _ _ _ _ _ _ p q t (u ∙ ap (λ (x : List ℕ). pick (isGcr drive) (checkBytes x (heldCount store)) check) part)
 
 -- what a result does, from what its parts do
-module _ (b : Body) (operation : Operation) (store : Store) (code : ℕ) (mark : Bool) (late : ℕ) (image marks space check : List ℕ) (drive : Drive) (selected : drive ≡ current b) where
+module _ (b : Body) (drive : Drive) (operation : Operation) (store : Store) (code : ℕ) (mark : Bool) (late : ℕ) (image marks space check : List ℕ) where
   pub result-answer : (r : Reply) (n : ℕ) (s k bytes : List ℕ) (body : Body)
-      → bytes ≡ delivered drive operation (resultOf 0 false 0 image marks) check
-      → body ≡ resultBody b operation store (resultOf code mark late image marks) (length bytes) (length space)
+      → body ≡ resultBody b drive operation store (resultOf code mark late image marks) (length bytes) (length space)
       → r ≡ ending body operation store
       → n ≡ length (fitting bytes (length space))
       → s ≡ given (fitting bytes (length space)) space
       → k ≡ resultCheck drive operation (resultOf 0 false 0 image []) check
-      → _≡_ {A = Answer} (record { reply = r; bytes = n; space = s; check = k }) (resultDone b operation store (resultOf code mark late image marks) space check)
-  unfolding resultDone resultCheck usesImage
-  result-answer r n s k bytes body gives leaves p q t u =
-      let is : bytes ≡ delivered (current b) operation (resultOf code mark late image marks) check =
-      gives ∙ delivered-parts drive operation code mark late image marks check ∙ ap (λ (d : Drive). delivered d operation (resultOf code mark late image marks) check) selected
-      in
-      answer-alike _ _ _ _ _ _ _ _
-      (p ∙ ap (λ (x : Body). ending x operation store) (leaves ∙ ap (λ (x : List ℕ). resultBody b operation store (resultOf code mark late image marks) (length x) (length space)) is))
-      (q ∙ ap (λ (x : List ℕ). length (fitting x (length space))) is)
-      (t ∙ ap (λ (x : List ℕ). given (fitting x (length space)) space) is)
-      (u ∙ ap (λ (d : Drive). resultCheck d operation (resultOf code mark late image marks) check) selected)
+      → _≡_ {A = Answer} (record { reply = r; bytes = n; space = s; check = k }) (resultGiven b drive operation store (resultOf code mark late image marks) bytes space check)
+  unfolding resultGiven resultCheck usesImage
+  result-answer r n s k bytes body leaves p q t u =
+      answer-alike _ _ _ _ _ _ _ _ (p ∙ ap (λ (x : Body). ending x operation store) leaves) q t u

@@ -6,6 +6,9 @@ use mathlib.Core.List.{List, [], _∷_}
 use lib.Dec.{leb, eqb}
 use lib.ListN.{length}
 use Rattle.common.specs.Pick.{pick}
+use Rattle.operations.specs.declared.operation.Operation.{Operation}
+use Rattle.operations.specs.declared.store.Store.{Store}
+use Rattle.status.specs.declared.drives.Drive.{Drive}
 use Rattle.status.specs.Drives.{driveOf, withDrive, reported}
 use Rattle.controller.specs.declared.state.Phase.{Phase}
 use Rattle.controller.specs.declared.state.Phase.the-variants.{Collecting, AckOffered, Sending, GoOffered, DataAwaited, ResultAwaited, EndOffered}
@@ -70,11 +73,15 @@ resetCall c = pick (sound c) (done (resetOf (c .body)) Nothing) (refused 1 c)
 abbrev pub unchanged : ℕ → Controller → List ℕ → List ℕ → Answer
 unchanged number c space check = record { reply = refused number c; bytes = 0; space = space; check = check }
 
+-- the data call of a write, by the drive that it writes
+unfoldable pub dataFor : Controller → Body → Drive → Store → List ℕ → List ℕ → List ℕ → Answer
+dataFor c b drive store host space check =
+    pick (eqb (dataRefusal drive store (length space) (length check)) 0) (dataDone b drive store host space check)
+    (unchanged (dataRefusal drive store (length space) (length check)) c space check)
+
 -- "3 data or result not awaited"
 unfoldable pub dataIn : Controller → Body → List ℕ → List ℕ → List ℕ → Phase → Answer
-dataIn c b host space check (DataAwaited store) =
-    pick (eqb (dataRefusal (current b) store (length space) (length check)) 0) (dataDone b store host space check)
-    (unchanged (dataRefusal (current b) store (length space) (length check)) c space check)
+dataIn c b host space check (DataAwaited store) = dataFor c b (current b) store host space check
 dataIn c b host space check Collecting = unchanged 3 c space check
 dataIn c b host space check AckOffered = unchanged 3 c space check
 dataIn c b host space check (Sending s) = unchanged 3 c space check
@@ -85,10 +92,14 @@ dataIn c b host space check (EndOffered interrupt) = unchanged 3 c space check
 unfoldable pub dataCall : Controller → List ℕ → List ℕ → List ℕ → Answer
 dataCall c host space check = pick (sound c) (dataIn c (c .body) host space check (c .phase)) (unchanged 1 c space check)
 
+-- the result of an operation, by the drive that carried it out
+unfoldable pub resultFor : Controller → Body → Drive → Operation → Store → Result → List ℕ → List ℕ → Answer
+resultFor c b drive operation store r space check =
+    pick (eqb (resultRefusal drive operation r (length check)) 0) (resultDone b drive operation store r space check)
+    (unchanged (resultRefusal drive operation r (length check)) c space check)
+
 unfoldable pub resultIn : Controller → Body → Result → List ℕ → List ℕ → Phase → Answer
-resultIn c b r space check (ResultAwaited operation store) =
-    pick (eqb (resultRefusal (current b) operation r (length check)) 0) (resultDone b operation store r space check)
-    (unchanged (resultRefusal (current b) operation r (length check)) c space check)
+resultIn c b r space check (ResultAwaited operation store) = resultFor c b (current b) operation store r space check
 resultIn c b r space check Collecting = unchanged 3 c space check
 resultIn c b r space check AckOffered = unchanged 3 c space check
 resultIn c b r space check (Sending s) = unchanged 3 c space check

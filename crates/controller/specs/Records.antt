@@ -7,6 +7,7 @@ use lib.ListN.{length}
 use Rattle.common.specs.Pick.{pick}
 use Rattle.common.specs.Given.{given}
 use Rattle.records.specs.Image.{imageOf}
+use Rattle.status.specs.declared.drives.Drive.{Drive}
 use Rattle.status.specs.Words.{zeroWord}
 use Rattle.operations.specs.declared.operation.Operation.{Operation}
 use Rattle.operations.specs.declared.operation.Operation.the-variants.{Write}
@@ -17,7 +18,7 @@ use Rattle.controller.specs.declared.state.Body.{Body}
 use Rattle.controller.specs.declared.state.Action.the-variants.{Byte}
 use Rattle.controller.specs.declared.state.Reply.{Reply}
 use Rattle.controller.specs.declared.state.Transfer.{Transfer}
-use Rattle.controller.specs.State.{setOutcome, setWords, setCurrent, current, done}
+use Rattle.controller.specs.State.{setOutcome, setWords, setCurrent, done}
 use Rattle.controller.specs.Completion.{completed}
 use Rattle.operations.specs.Store.{asksInterrupt, heldCount}
 use Rattle.controller.specs.Stores.{ordered}
@@ -39,35 +40,40 @@ answered t space check = record { reply = t .reply; bytes = t .bytes; space = sp
 unfoldable pub zeroedWords : Body → Bool → Body
 zeroedWords b zeroes = pick zeroes (setWords b (b .secondary) zeroWord zeroWord) b
 
--- "the data call builds the image and orders the move"
-unfoldable pub dataDone : Body → Store → List ℕ → List ℕ → List ℕ → Answer
-dataDone b store host space check =
-    let image = imageOf (recordBytes store host) (current b .density) in
+-- "the data call builds the image and orders the move", by the density of the drive
+unfoldable pub dataDone : Body → Drive → Store → List ℕ → List ℕ → List ℕ → Answer
+dataDone b drive store host space check =
+    let image = imageOf (recordBytes store host) (drive .density) in
     record {
-      reply = ordered (zeroedWords (setOutcome b (withUnderflow (b .outcome) (runsShort store host))) (isGcr (current b))) Write store;
+      reply = ordered (zeroedWords (setOutcome b (withUnderflow (b .outcome) (runsShort store host))) (isGcr drive)) Write store;
       bytes = length image;
       space = given image space;
-      check = pick (isGcr (current b)) (checkBytes image (heldCount store)) check;
+      check = pick (isGcr drive) (checkBytes image (heldCount store)) check;
     }
 
-unfoldable pub resultBody : Body → Operation → Store → Result → ℕ → ℕ → Body
-resultBody b operation store r bytes space =
+-- a result is noted: the drive's gap, secondary, tertiary and quintary, and the bits of primary
+unfoldable pub resultBody : Body → Drive → Operation → Store → Result → ℕ → ℕ → Body
+resultBody b drive operation store r bytes space =
     setOutcome
-    (setWords (setCurrent b (resultDrive (current b) operation r)) (resultSecondary (current b) operation store r (b .secondary))
-    (resultTertiary (current b) operation r (b .tertiary)) (resultQuintary (current b) operation r (b .quintary)))
-    (withRetry (resultBits (current b) (b .outcome) operation r bytes space))
+    (setWords (setCurrent b (resultDrive drive operation r)) (resultSecondary drive operation store r (b .secondary))
+    (resultTertiary drive operation r (b .tertiary)) (resultQuintary drive operation r (b .quintary)))
+    (withRetry (resultBits drive (b .outcome) operation r bytes space))
 
 -- "Read, write and check bytes offer EOR when a result came"; the others are completed at once
 unfoldable pub ending : Body → Operation → Store → Reply
 ending b operation store =
     pick (offersEnd operation) (done (record { body = b; phase = EndOffered (asksInterrupt store) }) (Byte 0x45)) (completed b (asksInterrupt store))
 
-unfoldable pub resultDone : Body → Operation → Store → Result → List ℕ → List ℕ → Answer
-resultDone b operation store r space check =
-    let bytes = delivered (current b) operation r check in
+-- with the bytes to be delivered
+unfoldable pub resultGiven : Body → Drive → Operation → Store → Result → List ℕ → List ℕ → List ℕ → Answer
+resultGiven b drive operation store r bytes space check =
     record {
-      reply = ending (resultBody b operation store r (length bytes) (length space)) operation store;
+      reply = ending (resultBody b drive operation store r (length bytes) (length space)) operation store;
       bytes = length (fitting bytes (length space));
       space = given (fitting bytes (length space)) space;
-      check = resultCheck (current b) operation r check;
+      check = resultCheck drive operation r check;
     }
+
+unfoldable pub resultDone : Body → Drive → Operation → Store → Result → List ℕ → List ℕ → Answer
+resultDone b drive operation store r space check =
+    resultGiven b drive operation store r (delivered drive operation r check) space check

@@ -1,5 +1,4 @@
 // The two calls that are lent space, data and result, as far as they concern the state.
-use crate::body::current_drive;
 use crate::body::put_current;
 use crate::body::refuse;
 use crate::damaged::is_sound;
@@ -11,6 +10,8 @@ use crate::stores::end_operation;
 use crate::stores::ordered;
 use operations::operation::Operation;
 use operations::store::Store;
+use status::drives::Drive;
+use status::drives::get;
 use status::words::zero_word;
 use transfers::data::data_refusal;
 use transfers::data::is_gcr;
@@ -36,10 +37,10 @@ ghost use Rattle.records.specs.Count.{limit, countOf};
 ghost use Rattle.operations.specs.Store.{heldCount};
 ghost use Rattle.transfers.specs.Data.{isGcr, runsShort, withUnderflow, dataRefusal};
 ghost use Rattle.transfers.specs.Results.{resultOf, resultRefusal};
-ghost use Rattle.controller.specs.State.{current, setOutcome, refused};
+ghost use Rattle.controller.specs.State.{setOutcome, refused};
 ghost use Rattle.controller.specs.Records.{answered, zeroedWords, dataDone, resultBody, resultDone};
 ghost use Rattle.controller.specs.Damaged.{sound};
-ghost use Rattle.controller.specs.Machine.{dataIn, dataCall, resultIn, resultCall};
+ghost use Rattle.controller.specs.Machine.{dataFor, dataIn, dataCall, resultFor, resultIn, resultCall};
 
 // Tertiary and quintary zeroed, where the data call zeroes them.
 pub fn zeroed_words(mut b: Body, zeroes: bool) -> Body
@@ -54,10 +55,9 @@ pub fn zeroed_words(mut b: Body, zeroes: bool) -> Body
 }
 
 // The body after a data call.
-pub fn data_body(mut b: Body, store: Store, host: &[u8]) -> Body
-    ensures { λ r. ⌜ r ≡ zeroedWords (setOutcome b (withUnderflow (b .outcome) (runsShort store (now (host .entry))))) (isGcr (current b)) ⌝ }
+pub fn data_body(mut b: Body, drive: Drive, store: Store, host: &[u8]) -> Body
+    ensures { λ r. ⌜ r ≡ zeroedWords (setOutcome b (withUnderflow (b .outcome) (runsShort store (now (host .entry))))) (isGcr drive) ⌝ }
 {
-    let drive = current_drive(b);
     let gcr = is_gcr(drive);
     let short = runs_short(store, host);
     let before = b.outcome;
@@ -67,15 +67,21 @@ pub fn data_body(mut b: Body, store: Store, host: &[u8]) -> Body
 }
 
 // The data call, carried out.
-pub fn data_done(b: Body, store: Store, host: &[u8], space: &mut [u8], check: &mut [u8]) -> Transfer
+pub fn data_done(
+    b: Body,
+    drive: Drive,
+    store: Store,
+    host: &[u8],
+    space: &mut [u8],
+    check: &mut [u8],
+) -> Transfer
     requires { ⌜ heldCount store ≤ limit ⌝ }
-    requires { ⌜ dataRefusal (current b) store (length (now space)) (length (now check)) ≡ 0 ⌝ }
-    ensures { λ r. ⌜ answered r (now (space .exit)) (now (check .exit)) ≡ dataDone b store (now (host .entry)) (now (space .entry)) (now (check .entry)) ⌝ }
+    requires { ⌜ dataRefusal drive store (length (now space)) (length (now check)) ≡ 0 ⌝ }
+    ensures { λ r. ⌜ answered r (now (space .exit)) (now (check .exit)) ≡ dataDone b drive store (now (host .entry)) (now (space .entry)) (now (check .entry)) ⌝ }
 {
-    let drive = current_drive(b);
     let bytes = put_record(store, host, drive.density, space);
     put_data_check(drive, store, &space[..bytes], check);
-    let body = data_body(b, store, host);
+    let body = data_body(b, drive, store, host);
     let reply = ordered(body, Operation::Write, store);
     Transfer { reply, bytes }
 }
@@ -83,6 +89,7 @@ pub fn data_done(b: Body, store: Store, host: &[u8], space: &mut [u8], check: &m
 // The body after a result.
 pub fn result_body(
     mut b: Body,
+    drive: Drive,
     operation: Operation,
     store: Store,
     code: u8,
@@ -95,9 +102,8 @@ pub fn result_body(
 ) -> Body
     requires { ⌜ countOf (now image) ≤ limit ⌝ }
     requires { ⌜ ((length (now image) ≡ 0 → ⊥) → 2 ≤ length (now image)) ⌝ }
-    ensures { λ r. ⌜ r ≡ resultBody b operation store (resultOf code mark late (now (image .entry)) (now (marks .entry))) bytes space ⌝ }
+    ensures { λ r. ⌜ r ≡ resultBody b drive operation store (resultOf code mark late (now (image .entry)) (now (marks .entry))) bytes space ⌝ }
 {
-    let drive = current_drive(b);
     let before = b.outcome;
     let odd_even = b.tertiary;
     let stop = b.quintary;
@@ -125,11 +131,10 @@ pub fn result_body(
     put_current(b, left)
 }
 
-// ---- what it leaves in the lent spaces
-
 // The result, carried out.
 pub fn result_done(
     b: Body,
+    drive: Drive,
     operation: Operation,
     store: Store,
     code: u8,
@@ -140,10 +145,9 @@ pub fn result_done(
     space: &mut [u8],
     check: &mut [u8],
 ) -> Transfer
-    requires { ⌜ resultRefusal (current b) operation (resultOf code mark late (now image) (now marks)) (length (now check)) ≡ 0 ⌝ }
-    ensures { λ r. ⌜ answered r (now (space .exit)) (now (check .exit)) ≡ resultDone b operation store (resultOf code mark late (now (image .entry)) (now (marks .entry))) (now (space .entry)) (now (check .entry)) ⌝ }
+    requires { ⌜ resultRefusal drive operation (resultOf code mark late (now image) (now marks)) (length (now check)) ≡ 0 ⌝ }
+    ensures { λ r. ⌜ answered r (now (space .exit)) (now (check .exit)) ≡ resultDone b drive operation store (resultOf code mark late (now (image .entry)) (now (marks .entry))) (now (space .entry)) (now (check .entry)) ⌝ }
 {
-    let drive = current_drive(b);
     let room = space.len();
     let bytes = delivered_bytes(drive, operation, image, marks, check);
     let wanted = bytes.len();
@@ -151,6 +155,7 @@ pub fn result_done(
     put_result_check(drive, operation, image, check);
     let body = result_body(
         b,
+        drive,
         operation,
         store,
         code,
@@ -176,26 +181,27 @@ pub fn refuse_transfer(number: u32, c: Controller) -> Transfer
 // The data call of a write.
 pub fn take_data(
     c: Controller,
+    drive: Drive,
     store: Store,
     host: &[u8],
     space: &mut [u8],
     check: &mut [u8],
 ) -> Transfer
     requires { ⌜ heldCount store ≤ limit ⌝ }
-    ensures { λ r. ⌜ answered r (now (space .exit)) (now (check .exit)) ≡ dataIn c (c .body) (now (host .entry)) (now (space .entry)) (now (check .entry)) (Phase.DataAwaited store) ⌝ }
+    ensures { λ r. ⌜ answered r (now (space .exit)) (now (check .exit)) ≡ dataFor c (c .body) drive store (now (host .entry)) (now (space .entry)) (now (check .entry)) ⌝ }
 {
     let b = c.body;
-    let drive = current_drive(b);
     let refusal = data_refusal(drive, store, space.len(), check.len());
     if refusal != 0 {
         return refuse_transfer(refusal, c);
     }
-    data_done(b, store, host, space, check)
+    data_done(b, drive, store, host, space, check)
 }
 
 // The result of an operation.
 pub fn take_result(
     c: Controller,
+    drive: Drive,
     operation: Operation,
     store: Store,
     code: u8,
@@ -206,10 +212,9 @@ pub fn take_result(
     space: &mut [u8],
     check: &mut [u8],
 ) -> Transfer
-    ensures { λ r. ⌜ answered r (now (space .exit)) (now (check .exit)) ≡ resultIn c (c .body) (resultOf code mark late (now (image .entry)) (now (marks .entry))) (now (space .entry)) (now (check .entry)) (Phase.ResultAwaited operation store) ⌝ }
+    ensures { λ r. ⌜ answered r (now (space .exit)) (now (check .exit)) ≡ resultFor c (c .body) drive operation store (resultOf code mark late (now (image .entry)) (now (marks .entry))) (now (space .entry)) (now (check .entry)) ⌝ }
 {
     let b = c.body;
-    let drive = current_drive(b);
     let refusal = result_refusal(
         drive,
         operation,
@@ -225,6 +230,7 @@ pub fn take_result(
     }
     result_done(
         b,
+        drive,
         operation,
         store,
         code,
@@ -237,24 +243,21 @@ pub fn take_result(
     )
 }
 
-// The data call, where no field is out of range.
+// The data call, by the phase: it writes the selected drive.
 pub fn data_in(c: Controller, host: &[u8], space: &mut [u8], check: &mut [u8]) -> Transfer
     requires { ⌜ sound c ≡ true ⌝ }
     ensures { λ r. ⌜ answered r (now (space .exit)) (now (check .exit)) ≡ dataIn c (c .body) (now (host .entry)) (now (space .entry)) (now (check .entry)) (c .phase) ⌝ }
 {
+    let drives = c.body.drives;
+    let drive = get(drives, c.body.selected);
     let phase = c.phase;
     match phase {
-        Phase::DataAwaited(store) => take_data(c, store, host, space, check),
-        Phase::Collecting => refuse_transfer(3, c),
-        Phase::AckOffered => refuse_transfer(3, c),
-        Phase::Sending(_) => refuse_transfer(3, c),
-        Phase::GoOffered(_) => refuse_transfer(3, c),
-        Phase::ResultAwaited(_, _) => refuse_transfer(3, c),
-        Phase::EndOffered(_) => refuse_transfer(3, c),
+        Phase::DataAwaited(store) => take_data(c, drive, store, host, space, check),
+        _ => refuse_transfer(3, c),
     }
 }
 
-// The result, where no field is out of range.
+// The result, by the phase: the selected drive carried the operation out.
 pub fn result_in(
     c: Controller,
     code: u8,
@@ -267,11 +270,14 @@ pub fn result_in(
 ) -> Transfer
     ensures { λ r. ⌜ answered r (now (space .exit)) (now (check .exit)) ≡ resultIn c (c .body) (resultOf code mark late (now (image .entry)) (now (marks .entry))) (now (space .entry)) (now (check .entry)) (c .phase) ⌝ }
 {
+    let drives = c.body.drives;
+    let drive = get(drives, c.body.selected);
     let phase = c.phase;
     match phase {
         Phase::ResultAwaited(operation, store) => {
             take_result(
                 c,
+                drive,
                 operation,
                 store,
                 code,
@@ -283,12 +289,7 @@ pub fn result_in(
                 check,
             )
         }
-        Phase::Collecting => refuse_transfer(3, c),
-        Phase::AckOffered => refuse_transfer(3, c),
-        Phase::Sending(_) => refuse_transfer(3, c),
-        Phase::GoOffered(_) => refuse_transfer(3, c),
-        Phase::DataAwaited(_) => refuse_transfer(3, c),
-        Phase::EndOffered(_) => refuse_transfer(3, c),
+        _ => refuse_transfer(3, c),
     }
 }
 

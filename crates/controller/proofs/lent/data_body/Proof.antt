@@ -4,9 +4,6 @@ use borrow.Author.Needs.{needs}
 use Rattle.controller.proofs.lent.data_body.Statement.{statement}
 use Rattle.controller.proofs.lent.data_body.Tie as tie
 
-current-drive-requires : tie.Need-current-drive-requires
-current-drive-requires c κs = search needs
-
 is-gcr-requires : tie.Need-is-gcr-requires
 is-gcr-requires c κs = search needs
 
@@ -20,13 +17,12 @@ zeroed-words-requires : tie.Need-zeroed-words-requires
 zeroed-words-requires c κs = search needs
 
 returns : tie.Need-returns
-returns c = simp (c .zeroed-words .ensures, c .before .with-underflow .ensures, c .before .before .before .runs-short .ensures, c .before .before .before .before .is-gcr .ensures, c .before .before .before .before .before .current-drive .ensures)
+returns c = simp (c .zeroed-words .ensures, c .before .with-underflow .ensures, c .before .before .before .runs-short .ensures, c .before .before .before .before .is-gcr .ensures)
 
 pub data-body-spec : {M : Type 1} → statement M
 data-body-spec =
     tie.close
     (tie.spec
-    current-drive-requires
     is-gcr-requires
     runs-short-requires
     with-underflow-requires

@@ -5,11 +5,9 @@ use mathlib.Core.List.{List}
 use mathlib.Core.Path.{sym, ap, _∙_, _≡_}
 use Prim.Native.Nat.{ℕ, _≤_}
 use lib.ListN.{take, length}
-use Rattle.records.specs.Image.{imageOf, imageLength}
+use Rattle.records.specs.Image.{imageOf}
 use Rattle.operations.specs.declared.operation.Operation.the-variants.{Write}
-use Rattle.operations.specs.Store.{heldCount}
 use Rattle.transfers.specs.Data.{recordBytes}
-use Rattle.controller.specs.State.{current}
 use Rattle.controller.specs.Stores.{ordered}
 use Rattle.controller.specs.declared.state.Body.{Body}
 use Rattle.transfers.proofs.DataLaws.{given-prefix, given-room, record-image-length, data-ready}
@@ -18,27 +16,17 @@ use Rattle.controller.proofs.lent.data_done.Statement.{statement}
 use Rattle.controller.proofs.lent.data_done.Tie as tie
 
 -- the image stands at the start of the space
-given-image : (c : tie.After-put-record) → let e = c .before .before .before .before .before .before in (c .put-record .result ≤ length (c .put-record .last .1 .1 .1 .0)) × (take (c .put-record .result) (c .put-record .last .1 .1 .1 .0) ≡ imageOf (recordBytes (e .args .store) (e .args .host .now)) (c .before .before .current-drive .result .density))
+given-image : (c : tie.After-put-record) → let a = c .before .before .before .before .before .args in (c .put-record .result ≤ length (c .put-record .last .1 .1 .1 .0)) × (take (c .put-record .result) (c .put-record .last .1 .1 .1 .0) ≡ imageOf (recordBytes (a .store) (a .host .now)) (a .drive .density))
 given-image c =
-    let e = c .before .before .before .before .before .before in (
-      rw (c .put-record .ensures .0, c .put-record .ensures .1) (given-room _ (e .args .space .now)),
-      rw (c .put-record .ensures .0, c .put-record .ensures .1) (given-prefix _ (e .args .space .now)),
+    let a = c .before .before .before .before .before .args in (
+      rw (c .put-record .ensures .0, c .put-record .ensures .1) (given-room _ (a .space .now)),
+      rw (c .put-record .ensures .0, c .put-record .ensures .1) (given-prefix _ (a .space .now)),
     )
-
--- the lent spaces are long enough
-ready : (c : tie.After-current-drive) → let e = c .before .before .before .before in (length (e .args .check .now) ≡ 512) × (imageLength (heldCount (e .args .store)) (current (e .args .b) .density) ≤ length (e .args .space .now))
-ready c =
-    let e = c .before .before .before .before in
-    data-ready (current (e .args .b)) (e .args .store) _ _ (e .pre .1)
-
-current-drive-requires : tie.Need-current-drive-requires
-current-drive-requires c κs = search needs
 
 put-record-requires : tie.Need-put-record-requires
 put-record-requires c κs =
-    let d = c .before in
-    let e = d .before .before .before .before in
-    (e .pre .0, rw (d .current-drive .ensures) (ready d .1))
+    let e = c .before .before .before .before in
+    (e .pre .0, data-ready (e .args .drive) (e .args .store) _ _ (e .pre .1) .1)
 
 slice-reshare-prefix-put-data-check : tie.Need-slice-reshare-prefix-put-data-check
 slice-reshare-prefix-put-data-check c = given-image (c .before .before) .0
@@ -51,15 +39,9 @@ slice-aggregate-put-data-check c =
 put-data-check-requires : tie.Need-put-data-check-requires
 put-data-check-requires c κs =
     let p = c .before .before .before .before in
-    let d = p .before .before in
-    let e = d .before .before .before .before in
-    let store = e .args .store in (
-      e .pre .0,
-      (
-        ap (λ (x : List ℕ). length x) (given-image p .1) ∙ record-image-length store (e .args .host .now) (d .current-drive .result .density),
-        ready d .0,
-      ),
-    )
+    let e = p .before .before .before .before .before in
+    let store = e .args .store in
+    (e .pre .0, (ap (λ (x : List ℕ). length x) (given-image p .1) ∙ record-image-length store (e .args .host .now) (e .args .drive .density), data-ready (e .args .drive) store _ _ (e .pre .1) .0))
 
 data-body-requires : tie.Need-data-body-requires
 data-body-requires c κs = search needs
@@ -78,17 +60,15 @@ returns c =
     let m = c .before in
     let k = m .before .before .before in
     let p = k .before .before .before .before .before in
-    let d = p .before .before in
-    let e = d .before .before .before .before in
-    data-answer (e .args .b) (e .args .store) (e .args .host .now) (e .args .space .now) (e .args .check .now) (d .current-drive .result) (d .current-drive .ensures)
-    _ _ _ _ (c .ordered .ensures ∙ ap (λ (x : Body). ordered x Write (e .args .store)) (m .data-body .ensures))
+    let a = p .before .before .before .before .before .args in
+    data-answer (a .b) (a .drive) (a .store) (a .host .now) (a .space .now) (a .check .now)
+    _ _ _ _ (c .ordered .ensures ∙ ap (λ (x : Body). ordered x Write (a .store)) (m .data-body .ensures))
     (p .put-record .ensures .0) (p .put-record .ensures .1) (k .put-data-check .ensures)
 
 pub data-done-spec : {M : Type 1} → statement M
 data-done-spec =
     tie.close
     (tie.spec
-    current-drive-requires
     put-record-requires
     slice-reshare-prefix-put-data-check
     slice-aggregate-put-data-check

@@ -6,9 +6,6 @@ use Rattle.controller.specs.Records.{resultBody}
 use Rattle.controller.proofs.lent.result_body.Statement.{statement}
 use Rattle.controller.proofs.lent.result_body.Tie as tie
 
-current-drive-requires : tie.Need-current-drive-requires
-current-drive-requires c κs = search needs
-
 result-bits-requires : tie.Need-result-bits-requires
 result-bits-requires c κs = search needs
 
@@ -40,14 +37,12 @@ returns c = simp (
   c .before .before .before .before .result-secondary .ensures,
   c .before .before .before .before .before .with-retry .ensures,
   c .before .before .before .before .before .before .result-bits .ensures,
-  c .before .before .before .before .before .before .before .before .before .before .current-drive .ensures,
 )
 
 pub result-body-spec : {M : Type 1} → statement M
 result-body-spec =
     tie.close
     (tie.spec
-    current-drive-requires
     result-bits-requires
     with-retry-requires
     result-secondary-requires

@@ -1,10 +1,37 @@
 -- `controller::lent::result_in` meets its contract: by the phase.
 -- Assumes nothing.
 use borrow.Author.Needs.{needs}
-use mathlib.Core.Path.{_∙_}
-use Rattle.controller.specs.Machine.{resultIn}
+use Prim.Native.Nat.{ℕ}
+use mathlib.Core.Path.{_≡_, refl, _∙_}
+use mathlib.Core.List.{List, [], _∷_}
+use types.Run.{OneOf, miss}
+use denote.Enum.Declared.{tagOf}
+use Rattle.controller.specs.declared.state.Phase.{Phase}
+use Rattle.controller.specs.declared.state.Phase.the-variants.{Collecting, AckOffered, Sending, GoOffered, DataAwaited, ResultAwaited, EndOffered}
+use Rattle.controller.specs.declared.state.Body.{Body}
+use Rattle.controller.specs.declared.state.Controller.{Controller}
+use Rattle.transfers.specs.Results.{Result, resultOf}
+use Rattle.controller.specs.Machine.{resultIn, unchanged}
+use Rattle.controller.proofs.state.Phase.{the-type}
 use Rattle.controller.proofs.lent.result_in.Statement.{statement}
 use Rattle.controller.proofs.lent.result_in.Tie as tie
+
+-- the phases of the last arm, by their numbers
+abbrev six : List ℕ
+six = 0 ∷ 1 ∷ 2 ∷ 3 ∷ 4 ∷ 6 ∷ []
+
+others : (c : Controller) (b : Body) (r : Result) (space check : List ℕ) (phase : Phase) → OneOf six (tagOf the-type phase) → resultIn c b r space check phase ≡ unchanged 3 c space check
+unfolding resultIn
+others c b r space check Collecting key = refl
+others c b r space check AckOffered key = refl
+others c b r space check (Sending send) key = refl
+others c b r space check (GoOffered store) key = refl
+others c b r space check (DataAwaited store) key = refl
+others c b r space check (ResultAwaited operation store) key = absurd (miss six 5 tt key)
+others c b r space check (EndOffered interrupt) key = refl
+
+get-requires : tie.Need-get-requires
+get-requires c κs = search needs
 
 enum-known-phase : tie.Need-enum-known-phase
 enum-known-phase c = search needs
@@ -12,41 +39,8 @@ enum-known-phase c = search needs
 take-result-requires : tie.Need-take-result-requires
 take-result-requires c κs = search needs
 
-enum-told : tie.Need-enum-told
-enum-told c = search needs
-
 refuse-transfer-requires : tie.Need-refuse-transfer-requires
 refuse-transfer-requires c κs = search needs
-
-enum-told-2 : tie.Need-enum-told-2
-enum-told-2 c = search needs
-
-refuse-transfer-requires-2 : tie.Need-refuse-transfer-requires-2
-refuse-transfer-requires-2 c κs = search needs
-
-enum-told-3 : tie.Need-enum-told-3
-enum-told-3 c = search needs
-
-refuse-transfer-requires-3 : tie.Need-refuse-transfer-requires-3
-refuse-transfer-requires-3 c κs = search needs
-
-enum-told-4 : tie.Need-enum-told-4
-enum-told-4 c = search needs
-
-refuse-transfer-requires-4 : tie.Need-refuse-transfer-requires-4
-refuse-transfer-requires-4 c κs = search needs
-
-enum-told-5 : tie.Need-enum-told-5
-enum-told-5 c = search needs
-
-refuse-transfer-requires-5 : tie.Need-refuse-transfer-requires-5
-refuse-transfer-requires-5 c κs = search needs
-
-enum-told-6 : tie.Need-enum-told-6
-enum-told-6 c = search needs
-
-refuse-transfer-requires-6 : tie.Need-refuse-transfer-requires-6
-refuse-transfer-requires-6 c κs = search needs
 
 same-length : tie.Need-same-length
 same-length c = search needs
@@ -58,56 +52,14 @@ returns : tie.Need-returns
 unfolding resultIn
 returns c =
     let w = c .before .before .before .before in
-    w .take-result .ensures ∙ simp (w .before .before .before .before .phase .given .1)
+    let m = w .before .before .before .before in
+    w .take-result .ensures ∙ simp (m .phase .given .1, m .before .before .get .ensures)
 
 returns-2 : tie.Need-returns-2
-unfolding resultIn
-returns-2 c = simp (c .refuse-transfer .ensures, c .before .enum-told .given .1)
-
-returns-3 : tie.Need-returns-3
-unfolding resultIn
-returns-3 c = simp (c .refuse-transfer2 .ensures, c .before .enum-told2 .given .1)
-
-returns-4 : tie.Need-returns-4
-unfolding resultIn
-returns-4 c = simp (c .refuse-transfer3 .ensures, c .before .enum-told3 .given .1)
-
-returns-5 : tie.Need-returns-5
-unfolding resultIn
-returns-5 c = simp (c .refuse-transfer4 .ensures, c .before .enum-told4 .given .1)
-
-returns-6 : tie.Need-returns-6
-unfolding resultIn
-returns-6 c = simp (c .refuse-transfer5 .ensures, c .before .enum-told5 .given .1)
-
-returns-7 : tie.Need-returns-7
-unfolding resultIn
-returns-7 c = simp (c .refuse-transfer6 .ensures, c .before .enum-told6 .given .1)
+returns-2 c =
+    let a = c .before .before .before .before .before .before .before .before .args in
+    simp (c .refuse-transfer .ensures, others (a .c) (a .c .body) (resultOf (a .code) (a .mark) (a .late) (a .image .now) (a .marks .now)) (a .space .now) (a .check .now) (a .c .phase) (c .before .match .keys2))
 
 pub result-in-spec : {M : Type 1} → statement M
 result-in-spec =
-    tie.close
-    (tie.spec
-    enum-known-phase
-    take-result-requires
-    enum-told
-    refuse-transfer-requires
-    enum-told-2
-    refuse-transfer-requires-2
-    enum-told-3
-    refuse-transfer-requires-3
-    enum-told-4
-    refuse-transfer-requires-4
-    enum-told-5
-    refuse-transfer-requires-5
-    enum-told-6
-    refuse-transfer-requires-6
-    same-length
-    same-length-2
-    returns
-    returns-2
-    returns-3
-    returns-4
-    returns-5
-    returns-6
-    returns-7)
+    tie.close (tie.spec get-requires enum-known-phase take-result-requires refuse-transfer-requires same-length same-length-2 returns returns-2)
