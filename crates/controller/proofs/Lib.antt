@@ -1,4 +1,3 @@
-pub mod SoundLaws
 pub mod BenchCases
 pub mod OneDrive
 pub mod Resting

@@ -3,21 +3,21 @@
 -- Assumes nothing.
 use mathlib.Core.Path.{_≡_, refl, sym, ap, ap₂, subst₂, _∙_}
 use mathlib.Core.List.{List, [], _∷_}
-use Rattle.controller.specs.declared.state.Controller.{Controller}
-use Rattle.controller.specs.declared.state.Reply.{Reply}
-use Rattle.controller.specs.State.{fresh}
+use Rattle.controller.specs.declared.controller.Controller.{Controller}
+use Rattle.controller.specs.declared.controller.Reply.{Reply}
+use Rattle.controller.specs.Controller.{fresh}
 use Rattle.controller.specs.Records.{Answer}
 use Rattle.controller.specs.Machine.{Call, Exchange, plain, step, run}
 use Rattle.controller.specs.Machine.Call.{byte, taken, broken, report, hostData, result, tick, reset}
 use Rattle.controller.specs.Separation.{Separate}
 use Rattle.controller.proofs.DrivesAreSeparate.{drives-are-separate}
-use Rattle.controller.proofs.body.fresh_controller.Reads as fresh-reads
-use Rattle.controller.proofs.state.Controller.byte.Reads as byte-reads
-use Rattle.controller.proofs.state.Controller.taken.Reads as taken-reads
-use Rattle.controller.proofs.state.Controller.broken.Reads as broken-reads
-use Rattle.controller.proofs.state.Controller.report.Reads as report-reads
-use Rattle.controller.proofs.state.Controller.tick.Reads as tick-reads
-use Rattle.controller.proofs.state.Controller.reset.Reads as reset-reads
+use Rattle.controller.proofs.controller.fresh_controller.Reads as fresh-reads
+use Rattle.controller.proofs.controller.Controller.byte.Reads as byte-reads
+use Rattle.controller.proofs.controller.Controller.taken.Reads as taken-reads
+use Rattle.controller.proofs.controller.Controller.broken.Reads as broken-reads
+use Rattle.controller.proofs.controller.Controller.report.Reads as report-reads
+use Rattle.controller.proofs.controller.Controller.tick.Reads as tick-reads
+use Rattle.controller.proofs.controller.Controller.reset.Reads as reset-reads
 
 -- ---- what the contracts promise
 

@@ -26,13 +26,15 @@ use Rattle.status.specs.declared.words.Word.{Word}
 use Rattle.status.specs.Drives.{reports}
 use Rattle.status.specs.Words.{anyBit, tertiaryOf, quintaryOf}
 use Rattle.operations.specs.declared.store.Store.{Store}
-use Rattle.controller.specs.declared.state.Phase.the-variants.{EndOffered}
-use Rattle.controller.specs.declared.state.Body.{Body}
-use Rattle.controller.specs.declared.state.Action.the-variants.{Byte}
-use Rattle.controller.specs.declared.state.Reply.{Reply}
-use Rattle.controller.specs.State.{setOutcome, setWords, setCurrent, current, zeroWord, done}
-use Rattle.controller.specs.Completion.{completed}
+use Rattle.link.specs.declared.state.Phase.the-variants.{EndOffered}
+use Rattle.link.specs.declared.state.Body.{Body}
+use Rattle.link.specs.declared.state.Action.the-variants.{Byte}
+use Rattle.link.specs.declared.state.Turn.{Turn}
+use Rattle.controller.specs.declared.controller.Reply.{Reply}
+use Rattle.link.specs.State.{setOutcome, setWords, setCurrent, current, zeroWord}
+use Rattle.link.specs.Completion.{completed}
 use Rattle.operations.specs.Store.{asksInterrupt, thrownAway, heldCount}
+use Rattle.controller.specs.Controller.{carried}
 use Rattle.controller.specs.Stores.{ordered}
 
 -- a call's answer: its reply, how many bytes of the lent space it gives, and what it leaves in that space and in the check store
@@ -89,7 +91,7 @@ unfoldable pub dataDone : Body → Store → List ℕ → List ℕ → List ℕ 
 dataDone b store host space check =
     let image = imageOf (recordBytes store host) (current b .density) in
     record {
-      reply = ordered (zeroedWords (setOutcome b (withUnderflow (b .outcome) (runsShort store host))) (isGcr (current b))) Write store;
+      reply = carried (ordered (zeroedWords (setOutcome b (withUnderflow (b .outcome) (runsShort store host))) (isGcr (current b))) Write store);
       bytes = length image;
       space = given image space;
       check = pick (isGcr (current b)) (checkBytes image (heldCount store)) check;
@@ -316,15 +318,15 @@ resultBody b operation store r bytes space =
     (withRetry (resultBits (current b) (b .outcome) operation r bytes space))
 
 -- "Read, write and check bytes offer EOR when a result came"; the others are completed at once
-unfoldable pub ending : Body → Operation → Store → Reply
+unfoldable pub ending : Body → Operation → Store → Turn
 ending b operation store =
-    pick (offersEnd operation) (done (record { body = b; phase = EndOffered (asksInterrupt store) }) (Byte 0x45)) (completed b (asksInterrupt store))
+    pick (offersEnd operation) (record { body = b; phase = EndOffered (asksInterrupt store); action = Byte 0x45 }) (completed b (asksInterrupt store))
 
 unfoldable pub resultDone : Body → Operation → Store → Result → List ℕ → List ℕ → Answer
 resultDone b operation store r space check =
     let bytes = delivered (current b) operation r check in
     record {
-      reply = ending (resultBody b operation store r (length bytes) (length space)) operation store;
+      reply = carried (ending (resultBody b operation store r (length bytes) (length space)) operation store);
       bytes = length (fitting bytes (length space));
       space = given (fitting bytes (length space)) space;
       check = resultCheck (current b) operation r check;

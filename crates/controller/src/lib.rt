@@ -1,9 +1,4 @@
-// The controller: its state, and the parts that its calls are made of.
-pub mod body;
-pub mod completion;
-pub mod damaged;
-pub mod link;
-pub mod loads;
+// The controller: the state, what stores ask for, and the calls.
+pub mod controller;
 pub mod machine;
-pub mod state;
 pub mod stores;
