@@ -34,33 +34,13 @@ fn in_range(c: Controller) -> bool
     is_sound(c.body, phase)
 }
 
-// A byte, by the phase.
-fn byte_in(c: Controller, byte: u8) -> Reply
-    requires { ⌜ sound (c .body) (c .phase) ≡ true ⌝ }
-    ensures { λ r. ⌜ r ≡ byteIn c (c .body) byte (c .phase) ⌝ }
-{
-    let b = c.body;
-    let phase = c.phase;
-    match phase {
-        Phase::Collecting => carried(collected_byte(b, byte)),
-        Phase::AckOffered => carried(go_idle(b, Action::Nothing)),
-        Phase::Sending(send) => carried(send_answered(b, byte, send)),
-        Phase::GoOffered(store) => carried(go_answered(b, byte, store)),
-        Phase::DataAwaited(_) => refuse(2, c),
-        Phase::ResultAwaited(_, _) => refuse(2, c),
-        Phase::EndOffered(interrupt) => carried(complete(b, interrupt)),
-    }
-}
-
-// A broken link, by the phase.
+// A broken link, by the phase. It drops a string, whole or in part.
 fn broken_in(c: Controller) -> Reply
     ensures { λ r. ⌜ r ≡ brokenIn c (c .body) (c .phase) ⌝ }
 {
     let b = c.body;
     let phase = c.phase;
     match phase {
-        Phase::Collecting => carried(go_idle(b, Action::Nothing)),
-        Phase::AckOffered => carried(go_idle(b, Action::Nothing)),
         Phase::Sending(send) => {
             let kind = send.kind;
             carried(given_up(b, kind))
@@ -69,6 +49,22 @@ fn broken_in(c: Controller) -> Reply
         Phase::DataAwaited(_) => refuse(2, c),
         Phase::ResultAwaited(_, _) => refuse(2, c),
         Phase::EndOffered(interrupt) => carried(complete(b, interrupt)),
+        _ => carried(go_idle(b, Action::Nothing)),
+    }
+}
+
+// A byte, by the phase. Where it is no answer and no part of a string, it does what a broken link does.
+fn byte_in(c: Controller, byte: u8) -> Reply
+    requires { ⌜ sound (c .body) (c .phase) ≡ true ⌝ }
+    ensures { λ r. ⌜ r ≡ byteIn c (c .body) byte (c .phase) ⌝ }
+{
+    let b = c.body;
+    let phase = c.phase;
+    match phase {
+        Phase::Collecting => carried(collected_byte(b, byte)),
+        Phase::Sending(send) => carried(send_answered(b, byte, send)),
+        Phase::GoOffered(store) => carried(go_answered(b, byte, store)),
+        _ => broken_in(c),
     }
 }
 
