@@ -34,26 +34,26 @@ fn in_range(c: Controller) -> bool
     is_sound(c.body, phase)
 }
 
-// A broken link, by the phase. It drops a string, whole or in part.
+// A broken link, by the phase.
 fn broken_in(c: Controller) -> Reply
     ensures { λ r. ⌜ r ≡ brokenIn c (c .body) (c .phase) ⌝ }
 {
     let b = c.body;
     let phase = c.phase;
     match phase {
+        Phase::Collecting => carried(go_idle(b, Action::Nothing)),
+        Phase::AckOffered => carried(go_idle(b, Action::Nothing)),
         Phase::Sending(send) => {
             let kind = send.kind;
             carried(given_up(b, kind))
         }
         Phase::GoOffered(store) => carried(go_refused(b, store)),
-        Phase::DataAwaited(_) => refuse(2, c),
-        Phase::ResultAwaited(_, _) => refuse(2, c),
         Phase::EndOffered(interrupt) => carried(complete(b, interrupt)),
-        _ => carried(go_idle(b, Action::Nothing)),
+        _ => refuse(2, c),
     }
 }
 
-// A byte, by the phase. Where it is no answer and no part of a string, it does what a broken link does.
+// A byte, by the phase. Where ACK or EOR is offered, and where a byte is refused, it goes the way of a broken link.
 fn byte_in(c: Controller, byte: u8) -> Reply
     requires { ⌜ sound (c .body) (c .phase) ≡ true ⌝ }
     ensures { λ r. ⌜ r ≡ byteIn c (c .body) byte (c .phase) ⌝ }
