@@ -22,21 +22,22 @@ use Rattle.status.specs.declared.words.Word.{Word}
 use Rattle.status.specs.Drives.{reports, driveOf, withDrive, reported, differs, reviewedAll, freshDrives, resetDrives}
 use Rattle.status.specs.Words.{bit, noOutcome, anyBit, primaryOf, secondaryWord, digits, tertiaryOf, quintaryOf, reportsWord}
 use Rattle.status.specs.Strings.{stringOf, orderOf}
-use Rattle.controller.specs.declared.state.Body.{Body}
-use Rattle.controller.specs.declared.state.Controller.{Controller}
-use Rattle.controller.specs.declared.state.Action.{Action}
-use Rattle.controller.specs.declared.state.Action.the-variants.{Nothing, Byte}
-use Rattle.controller.specs.State.{startWith, fresh, resetOf, review, idle}
-use Rattle.controller.specs.Completion.{primaryNow, sent, interrupts, completed, coded}
+use Rattle.link.specs.declared.state.Body.{Body}
+use Rattle.controller.specs.declared.controller.Controller.{Controller}
+use Rattle.link.specs.declared.state.Action.{Action}
+use Rattle.link.specs.declared.state.Action.the-variants.{Nothing, Byte}
+use Rattle.link.specs.State.{startBody, resetOf, review, idle}
+use Rattle.link.specs.Completion.{primaryNow, sent, interrupts, completed, coded}
 use Rattle.operations.specs.Store.{asksInterrupt, namesDrive, named, asked, thrownAway, heldCount}
-use Rattle.controller.specs.Link.{wholeLength, appended, loadXor, checks, firstByte, lastByte, nextByte, accepted, givenUp, saidNo, goRefused, goTaken, byteIn, brokenIn, tickWith, tickIn}
-use Rattle.controller.specs.Loads.{loadWord, loaded}
+use Rattle.link.specs.Link.{wholeLength, appended, loadXor, checks, firstByte, lastByte, nextByte, accepted, givenUp, saidNo, goRefused, goTaken, collectedByte, sendAnswered, goAnswered, tickWith, idleTick}
+use Rattle.link.specs.Loads.{loadWord, loaded}
+use Rattle.controller.specs.Controller.{fresh}
 use Rattle.controller.specs.Stores.{storeOf, endedBy, settled, tracked, withDensity, motionOrder, pastTest, ordered, begun, operated, decoded, cleared, carriedOut}
 use Rattle.transfers.specs.Data.{isGcr, checkBytes, recordBytes, runsShort, withUnderflow, dataRefusal}
 use Rattle.transfers.specs.Results.{Result, takesMark, isSearch, markAgainst, wholeCode, expectedWhole, expectedOf, resultRefusal, movesTape, isGone, usesImage, scanCode, finalCode, readsGcr, resultTertiary, resultQuintary, resultCheck, readBytes, delivered, fitting, wroteWell, resultSecondary, resultBits, withRetry, withGap, resultDrive}
 use Rattle.controller.specs.Records.{Answer, zeroedWords, dataDone, resultBody, ending, resultGiven, resultDone}
-use Rattle.controller.specs.Damaged.{soundDrive, soundDrives, soundBody, soundLead, soundPart, soundString, soundCount, soundHeld, soundPhase, sound}
-use Rattle.controller.specs.Machine.{byteCall, brokenCall, tickCall, takenBody, takenIn, takenCall, reportCall, resetCall, dataFor, resultFor, dataIn, dataCall, resultIn, resultCall, Call, step}
+use Rattle.link.specs.Damaged.{soundDrive, soundDrives, soundBody, soundLead, soundPart, soundString, soundCount, soundHeld, soundPhase, sound}
+use Rattle.controller.specs.Machine.{byteIn, brokenIn, tickIn, byteCall, brokenCall, tickCall, takenBody, takenIn, takenCall, reportCall, resetCall, dataFor, resultFor, dataIn, dataCall, resultIn, resultCall, Call, step}
 use Rattle.controller.specs.Machine.Call.{byte, taken, report, hostData, result}
 
 -- the last answer of a list of calls from a state, and the body that it leaves
@@ -104,7 +105,7 @@ pub record BenchCases : Type 0 where
   pub check-257 : getD (played (gcrWrite 0x5A) .check) 256 0 ≡ 0x5A
 
 pub bench-cases : BenchCases
-unfolding pick given filled _⊕_ xorAll blocketteAt numbered ofParity foldParity checkOf legalMark legalMarks isError scanFrom scanOf kindOf numberOf defectAt limit rotated countBytes unrotated countOf blocketteCount hasBlockettes blockettesOf bodyOf imageOf imageLength markCount wholeRefusal countRefusal emptyRefusal imageRefusal controlOf readOf writeOf decodeOf test.ready test.placed test.aheadFree test.behindFree test.writable test.mayMove forwardCodes reverseCodes endCodes listedCodes isIn answerOf losesTape motionOf gapOf gapAfter retryOf reports driveOf withDrive reported differs reviewedAll freshDrives resetDrives bit noOutcome anyBit primaryOf secondaryWord digits tertiaryOf quintaryOf reportsWord stringOf orderOf startWith fresh resetOf review idle primaryNow sent interrupts completed coded wholeLength appended loadXor checks firstByte lastByte nextByte accepted givenUp saidNo asksInterrupt goRefused goTaken byteIn brokenIn tickWith tickIn loadWord loaded storeOf namesDrive named asked endedBy settled tracked withDensity motionOrder pastTest ordered begun operated decoded cleared carriedOut isGcr checkBytes thrownAway heldCount recordBytes runsShort withUnderflow zeroedWords dataRefusal dataDone dataFor resultFor resultGiven takesMark isSearch markAgainst wholeCode expectedWhole expectedOf resultRefusal movesTape isGone usesImage scanCode finalCode readsGcr resultTertiary resultQuintary resultCheck readBytes delivered fitting wroteWell resultSecondary resultBits withRetry withGap resultDrive resultBody ending resultDone soundDrive soundDrives soundBody soundLead soundPart soundString soundCount soundHeld soundPhase sound byteCall brokenCall tickCall takenBody takenIn takenCall reportCall resetCall dataIn dataCall resultIn resultCall step
+unfolding pick given filled _⊕_ xorAll blocketteAt numbered ofParity foldParity checkOf legalMark legalMarks isError scanFrom scanOf kindOf numberOf defectAt limit rotated countBytes unrotated countOf blocketteCount hasBlockettes blockettesOf bodyOf imageOf imageLength markCount wholeRefusal countRefusal emptyRefusal imageRefusal controlOf readOf writeOf decodeOf test.ready test.placed test.aheadFree test.behindFree test.writable test.mayMove forwardCodes reverseCodes endCodes listedCodes isIn answerOf losesTape motionOf gapOf gapAfter retryOf reports driveOf withDrive reported differs reviewedAll freshDrives resetDrives bit noOutcome anyBit primaryOf secondaryWord digits tertiaryOf quintaryOf reportsWord stringOf orderOf startBody fresh resetOf review idle primaryNow sent interrupts completed coded wholeLength appended loadXor checks firstByte lastByte nextByte accepted givenUp saidNo asksInterrupt goRefused goTaken collectedByte sendAnswered goAnswered tickWith idleTick loadWord loaded storeOf namesDrive named asked endedBy settled tracked withDensity motionOrder pastTest ordered begun operated decoded cleared carriedOut isGcr checkBytes thrownAway heldCount recordBytes runsShort withUnderflow zeroedWords dataRefusal dataDone dataFor resultFor resultGiven takesMark isSearch markAgainst wholeCode expectedWhole expectedOf resultRefusal movesTape isGone usesImage scanCode finalCode readsGcr resultTertiary resultQuintary resultCheck readBytes delivered fitting wroteWell resultSecondary resultBits withRetry withGap resultDrive resultBody ending resultDone soundDrive soundDrives soundBody soundLead soundPart soundString soundCount soundHeld soundPhase sound byteIn brokenIn tickIn byteCall brokenCall tickCall takenBody takenIn takenCall reportCall resetCall dataIn dataCall resultIn resultCall step
 bench-cases =
     record {
       ack = refl;

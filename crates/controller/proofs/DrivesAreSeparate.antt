@@ -7,8 +7,8 @@ use mathlib.Core.Bool.{true}
 use mathlib.Core.List.{List, [], _∷_, _++_, append-assoc}
 use Rattle.status.specs.declared.drives.Drive.{Drive}
 use Rattle.operations.specs.declared.store.Store.{Store}
-use Rattle.controller.specs.declared.state.Controller.{Controller}
-use Rattle.controller.specs.State.{startWith, fresh}
+use Rattle.controller.specs.declared.controller.Controller.{Controller}
+use Rattle.controller.specs.Controller.{fresh}
 use Rattle.controller.specs.Machine.{Call, Exchange, step, run}
 use Rattle.controller.specs.Separation.{Event, Output, lastStore, noStore, eventsOf, historyFrom, history, outputsFrom, admits, admittedFrom, admitted, after, Separate}
 use Rattle.controller.proofs.OneDrive.{View, told, gives, toldAll, givesAll}
@@ -65,7 +65,7 @@ determined d low (call ∷ calls) last c held admitted =
 -- ---- the theorem
 
 pub drives-are-separate : (calls others : List Call) → Separate (run fresh calls) (run fresh others)
-unfolding fresh startWith InHand
+unfolding fresh InHand
 drives-are-separate calls others d low admitted admitted' same =
     let one = determined d low calls noStore fresh tt admitted in
     let two = determined d low others noStore fresh tt admitted' in

@@ -1,51 +1,47 @@
 -- Each of the eight calls is followed by the machine of one drive.
 -- Assumes nothing.
-use mathlib.Core.Path.{_≡_, refl, sym, ap, ap₂, subst, _∙_}
+use mathlib.Core.Path.{_≡_, refl, sym, ap, subst, _∙_}
 use Prim.Native.Nat.{ℕ, _≤_}
 use native.Mathlib.Omega.{arith}
 use mathlib.Core.Bool.{Bool, true, false, not, _&&_, false≢true, and-false}
 use mathlib.Core.List.{List, [], _∷_}
 use lib.Dec.{leb, eqb}
 use lib.ListN.{length}
-use borrow.Author.Tests.{eq-eqb, leb-false, not-true}
+use borrow.Author.Tests.{leb-false, not-true}
 use Rattle.common.specs.Pick.{pick}
 use Rattle.common.proofs.PickLaws.{pick-by, pick-yes, pick-no}
-use Rattle.operations.specs.declared.operation.Operation.{Operation}
-use Rattle.operations.specs.declared.operation.Operation.the-variants.{Read, CheckBytes, Write, Erase, Rewind, FastForward, SkipForward, SkipReverse, SearchForward, SearchReverse, WriteMark}
-use Rattle.operations.specs.declared.decode.Decoded.{Decoded}
-use Rattle.operations.specs.declared.decode.Decoded.the-variants.{Reset, Code, Track, Enable, Density, Operate}
-use Rattle.operations.specs.Operation.{moveOf}
-use Rattle.operations.specs.Test.{mayMove}
 use Rattle.operations.specs.declared.store.Store.{Store}
-use Rattle.controller.specs.declared.state.Phase.{Phase}
-use Rattle.controller.specs.declared.state.Phase.the-variants.{Collecting, AckOffered, Sending, GoOffered, DataAwaited, ResultAwaited, EndOffered}
-use Rattle.controller.specs.declared.state.Body.{Body}
-use Rattle.controller.specs.declared.state.Controller.{Controller}
-use Rattle.controller.specs.declared.state.Action.the-variants.{Nothing}
-use Rattle.controller.specs.declared.state.Reply.{Reply}
-use Rattle.controller.specs.State.{setSelected, setCurrent, setFlags, current, done}
-use Rattle.operations.specs.Store.{namesDrive, named, asked}
-use Rattle.controller.specs.Link.{byteIn, brokenIn, tickIn}
-use Rattle.controller.specs.Loads.{loaded}
-use Rattle.controller.specs.Stores.{storeOf, tracked, withDensity, pastTest, ordered, begun, operated, decoded, cleared, carriedOut}
+use Rattle.link.specs.declared.state.Phase.{Phase}
+use Rattle.link.specs.declared.state.Phase.the-variants.{Collecting, AckOffered, Sending, GoOffered, DataAwaited, ResultAwaited, EndOffered}
+use Rattle.link.specs.declared.state.Body.{Body}
+use Rattle.controller.specs.declared.controller.Controller.{Controller}
+use Rattle.link.specs.declared.state.Action.the-variants.{Nothing}
+use Rattle.link.specs.declared.state.Turn.{Turn}
+use Rattle.controller.specs.declared.controller.Reply.{Reply}
+use Rattle.link.specs.State.{current}
+use Rattle.operations.specs.Store.{namesDrive}
+use Rattle.link.specs.Link.{goAnswered}
+use Rattle.link.specs.Loads.{loaded}
+use Rattle.controller.specs.Controller.{carried}
+use Rattle.controller.specs.Stores.{storeOf, carriedOut}
 use Rattle.transfers.specs.Data.{dataRefusal}
 use Rattle.transfers.specs.Results.{Result, resultRefusal}
 use Rattle.controller.specs.Records.{Answer}
-use Rattle.controller.specs.Damaged.{sound}
-use Rattle.controller.specs.Machine.{unchanged, byteCall, brokenCall, tickCall, takenBody, takenIn, takenCall, reportCall, resetCall, dataFor, dataIn, dataCall, resultFor, resultIn, resultCall, Call, Exchange, plain, step}
+use Rattle.link.specs.Damaged.{sound}
+use Rattle.controller.specs.Machine.{unchanged, byteIn, brokenIn, tickIn, byteCall, brokenCall, tickCall, takenBody, takenIn, takenCall, reportCall, resetCall, dataFor, dataIn, dataCall, resultFor, resultIn, resultCall, Call, Exchange, plain, step}
 use Rattle.controller.specs.Machine.Call.{byte, taken, broken, report, hostData, result, tick, reset}
 use Rattle.controller.specs.Separation.{notRefused, isTaken, isOf, storeEvent, holdsStore, carriesOut, lastStore, awaitsGo, eventOf, bytesGiven, ordersFor, transferOf, isReset, resets, admits}
-use Rattle.controller.proofs.Resting.{Free, Rests, idle-rests, given-up-rests, accepted-rests, said-no-rests, first-byte-rests, next-byte-rests, completed-rests, tick-rests, loaded-rests, ended-rests, settled-rests}
+use Rattle.controller.proofs.Resting.{Free, Rests, idle-rests, given-up-rests, byte-rests, send-rests, completed-rests, tick-rests, loaded-rests}
 use Rattle.controller.proofs.Following.{viewOf, InHand, free-held, free-view, rests-view, Follows, refused-follows, passes-follows, carried-follows, report-follows, go-taken-follows, go-refused-follows, data-follows, result-follows}
 
 module _ (d : ℕ) (low : d ≤ 3) (last : Store) where
   -- with nothing in hand before and after, a call is no event of the drive
   rest-follows :
-      (c : Controller) (call : Call) (r : Reply) → Free (c .phase) → Rests d (c .body) r → eventOf d last c call ≡ [] → transferOf d last [] call ≡ [] → Follows d (viewOf d last c) last c (record { call = call; answer = plain r })
+      (c : Controller) (call : Call) (t : Turn) → Free (c .phase) → Rests d (c .body) t → eventOf d last c call ≡ [] → transferOf d last [] call ≡ [] → Follows d (viewOf d last c) last c (record { call = call; answer = plain (carried t) })
   unfolding bytesGiven
-  rest-follows c call r free rests made nothing =
+  rest-follows c call t free rests made nothing =
       passes-follows d last c _ _ made
-      (record { view = rests-view d last (c .body) r rests ∙ sym (free-view d last c free); transfer = nothing; quiet = rests .quiet })
+      (record { view = rests-view d last (c .body) t rests ∙ sym (free-view d last c free); transfer = nothing; quiet = rests .quiet })
       (free-held last _ _ (rests .free))
 
   module _ (b : Body) where
@@ -58,18 +54,12 @@ module _ (d : ℕ) (low : d ≤ 3) (last : Store) where
     -- ---- byte
 
     byte-in-follows : (value : ℕ) (phase : Phase) → InHand last (b .selected) phase → following (byte value) phase (plain (byteIn (at phase) b value phase))
-    unfolding byteIn InHand Free eventOf awaitsGo transferOf ordersFor pick
-    byte-in-follows value Collecting held =
-        pick-by (λ (r : Reply). following (byte value) Collecting (plain r)) (eqb (b .collected .length) 0)
-        (λ first. rest-follows (at Collecting) _ _ tt (first-byte-rests d low b value) refl refl)
-        (λ further. rest-follows (at Collecting) _ _ tt (next-byte-rests d low b value) refl refl)
+    unfolding byteIn goAnswered InHand Free eventOf awaitsGo transferOf ordersFor pick
+    byte-in-follows value Collecting held = rest-follows (at Collecting) _ _ tt (byte-rests d low b value) refl refl
     byte-in-follows value AckOffered held = rest-follows (at AckOffered) _ _ tt (idle-rests d low b Nothing refl) refl refl
-    byte-in-follows value (Sending s) held =
-        pick-by (λ (r : Reply). following (byte value) (Sending s) (plain r)) (eqb value 0x06)
-        (λ yes. rest-follows (at (Sending s)) _ _ tt (accepted-rests d low b (s .kind)) refl refl)
-        (λ no. rest-follows (at (Sending s)) _ _ tt (said-no-rests d low b s) refl refl)
+    byte-in-follows value (Sending s) held = rest-follows (at (Sending s)) _ _ tt (send-rests d low b value s) refl refl
     byte-in-follows value (GoOffered store) held =
-        pick-by (λ (r : Reply). following (byte value) (GoOffered store) (plain r)) (eqb value 0x06)
+        pick-by (λ (t : Turn). following (byte value) (GoOffered store) (plain (carried t))) (eqb value 0x06)
         (λ yes. go-taken-follows d low last b store value yes held) (λ no. go-refused-follows d low last b store (byte value) (eqb value 0x06) refl refl no)
     byte-in-follows value (DataAwaited store) held = refused-follows d last (at (DataAwaited store)) _ 2 0 [] [] refl held
     byte-in-follows value (ResultAwaited operation store) held = refused-follows d last (at (ResultAwaited operation store)) _ 2 0 [] [] refl held
@@ -110,7 +100,7 @@ module _ (d : ℕ) (low : d ≤ 3) (last : Store) where
       unfolding dataIn dataFor InHand
       data-in-follows (DataAwaited store) held =
           pick-by (following (hostData host space check) (DataAwaited store)) (eqb (dataRefusal (current b) store (length space) (length check)) 0)
-          (λ carried. data-follows d last b store host space check held)
+          (λ good. data-follows d last b store host space check held)
           (λ refused. refused-follows d last (at (DataAwaited store)) _ _ 0 space check refused held)
       data-in-follows Collecting held = refused-follows d last (at Collecting) _ 3 0 space check refl held
       data-in-follows AckOffered held = refused-follows d last (at AckOffered) _ 3 0 space check refl held
@@ -125,7 +115,7 @@ module _ (d : ℕ) (low : d ≤ 3) (last : Store) where
       unfolding resultIn resultFor InHand
       result-in-follows (ResultAwaited operation store) held =
           pick-by (following (result r space check) (ResultAwaited operation store)) (eqb (resultRefusal (current b) operation r (length check)) 0)
-          (λ carried. result-follows d low last b operation store r space check held)
+          (λ good. result-follows d low last b operation store r space check held)
           (λ refused. refused-follows d last (at (ResultAwaited operation store)) _ _ 0 space check refused held)
       result-in-follows Collecting held = refused-follows d last (at Collecting) _ 3 0 space check refl held
       result-in-follows AckOffered held = refused-follows d last (at AckOffered) _ 3 0 space check refl held
@@ -135,41 +125,6 @@ module _ (d : ℕ) (low : d ≤ 3) (last : Store) where
       result-in-follows (EndOffered interrupt) held = refused-follows d last (at (EndOffered interrupt)) _ 3 0 space check refl held
 
 -- ---- taken
-
-begun-done : (b : Body) (operation : Operation) (store : Store) → begun b operation store .refusal ≡ 0
-unfolding begun ordered
-begun-done b Write store = refl
-begun-done b CheckBytes store = refl
-begun-done b Read store = refl
-begun-done b Erase store = refl
-begun-done b Rewind store = refl
-begun-done b FastForward store = refl
-begun-done b SkipForward store = refl
-begun-done b SkipReverse store = refl
-begun-done b SearchForward store = refl
-begun-done b SearchReverse store = refl
-begun-done b WriteMark store = refl
-
--- a store that is carried out is never refused
-module _ (low : 0 ≤ 3) where
-  decoded-done : (b : Body) (store : Store) (decode : Decoded) → decoded b store decode .refusal ≡ 0
-  unfolding decoded operated
-  decoded-done b store Reset = refl
-  decoded-done b store (Code code) = ended-rests 0 low b store code .done
-  decoded-done b store (Track track) = settled-rests 0 low (setCurrent b (tracked (current b) track)) store .done
-  decoded-done b store (Enable enable) = settled-rests 0 low (setFlags b (b .changed) enable) store .done
-  decoded-done b store (Density density) = settled-rests 0 low (setCurrent b (withDensity (current b) density)) store .done
-  decoded-done b store (Operate operation) =
-      pick-by (λ (r : Reply). r .refusal ≡ 0) (mayMove (moveOf operation) (current b .report)) (λ may. begun-done (pastTest b operation) operation store)
-      (λ not. ended-rests 0 low b store 0x04 .done)
-
-  carried-done : (b : Body) (store : Store) → carriedOut b store .refusal ≡ 0
-  unfolding carriedOut
-  carried-done b store =
-      pick-by (λ (r : Reply). r .refusal ≡ 0) (namesDrive store)
-      (λ names. pick-by (λ (r : Reply). r .refusal ≡ 0) (leb 4 (named store)) (λ high. ended-rests 0 low (cleared b) store 0x01 .done)
-      (λ few. decoded-done (setSelected (cleared b) (named store)) store (asked store)))
-      (λ none. decoded-done (cleared b) store (asked store))
 
 pub both-true : (a b : Bool) → (a && b) ≡ true → (a ≡ true) × (b ≡ true)
 both-true true b e = (refl, e)
@@ -185,27 +140,25 @@ module _ (d : ℕ) (low : d ≤ 3) (last : Store) where
     abbrev acked : Controller
     acked = record { body = b; phase = AckOffered }
 
-    load-takes : eqb (b .collected .c0) 0x62 ≡ true → takes acked (loaded b (b .collected .c1))
+    load-takes : eqb (b .collected .c0) 0x62 ≡ true → takes acked (carried (loaded b (b .collected .c1)))
     unfolding lastStore carriesOut isTaken holdsStore eventOf transferOf Free
     load-takes load admitted =
-        let r = loaded b (b .collected .c1) in
-        let x : Exchange = record { call = taken; answer = plain r } in
+        let t = loaded b (b .collected .c1) in
+        let x : Exchange = record { call = taken; answer = plain (carried t) } in
         let none = ap not load in
         subst (λ (next : Store). Follows d (viewOf d last acked) next acked x)
         (sym (pick-no (storeOf (b .collected)) last (ap (λ (t : Bool). notRefused x && t) none ∙ and-false (notRefused x))))
-        (rest-follows d low last acked taken r tt (loaded-rests d low b (b .collected .c1))
+        (rest-follows d low last acked taken t tt (loaded-rests d low b (b .collected .c1))
         (pick-no (storeEvent last ∷ []) [] (ap (λ (t : Bool). t && isOf d last) none)) refl)
 
-    store-takes : eqb (b .collected .c0) 0x62 ≡ false → takes acked (carriedOut b (storeOf (b .collected)))
+    store-takes : eqb (b .collected .c0) 0x62 ≡ false → takes acked (carried (carriedOut b (storeOf (b .collected))))
     unfolding lastStore carriesOut isTaken notRefused holdsStore admits Free
     store-takes lead admitted =
         let store = storeOf (b .collected) in
-        let r = carriedOut b store in
-        let zero : 0 ≤ 3 = omega arith in
+        let r = carried (carriedOut b store) in
         let holds = ap not lead in
-        let carries = ap₂ (λ (s t : Bool). s && t) (eq-eqb (r .refusal) 0 (carried-done zero b store)) holds in
-        let (names, keeps) = both-true (namesDrive store) (not (resets store)) (sym (pick-yes _ _ carries) ∙ admitted) in
-        subst (λ (next : Store). Follows d (viewOf d last acked) next acked (record { call = taken; answer = plain r })) (sym (pick-yes store last carries))
+        let (names, keeps) = both-true (namesDrive store) (not (resets store)) (sym (pick-yes _ _ holds) ∙ admitted) in
+        subst (λ (next : Store). Follows d (viewOf d last acked) next acked (record { call = taken; answer = plain r })) (sym (pick-yes store last holds))
         (subst (λ v. Follows d v store acked (record { call = taken; answer = plain r })) (sym (free-view d last acked tt))
         (carried-follows d low acked store holds names (not-true (resets store) keeps)))
 
@@ -214,7 +167,7 @@ module _ (d : ℕ) (low : d ≤ 3) (last : Store) where
     unfolding takenIn takenBody InHand lastStore carriesOut isTaken notRefused pick
     taken-in-takes AckOffered held = by-load (eqb (b .collected .c0) 0x62) refl
       where
-        by-load : (t : Bool) → eqb (b .collected .c0) 0x62 ≡ t → takes acked (pick t (loaded b (b .collected .c1)) (carriedOut b (storeOf (b .collected))))
+        by-load : (t : Bool) → eqb (b .collected .c0) 0x62 ≡ t → takes acked (carried (pick t (loaded b (b .collected .c1)) (carriedOut b (storeOf (b .collected)))))
         by-load true e = load-takes e
         by-load false e = store-takes e
     taken-in-takes Collecting held = λ admitted. refused-follows d last (record { body = b; phase = Collecting }) _ 2 0 [] [] refl held
@@ -238,7 +191,7 @@ module _ (d : ℕ) (low : d ≤ 3) (last : Store) (c : Controller) (held : InHan
   report-steps : (n r : ℕ) → steps (report n r) (plain (reportCall c n r))
   unfolding reportCall
   report-steps n r =
-      pick-by (λ (reply : Reply). steps (report n r) (plain reply)) (sound c)
+      pick-by (λ (reply : Reply). steps (report n r) (plain reply)) (sound (c .body) (c .phase))
       (λ sane. pick-by (λ (reply : Reply). steps (report n r) (plain reply)) (leb 4 n) (λ high. refused-follows d last c _ 5 0 [] [] refl held)
       (λ few. let below = leb-false 4 n few in report-follows d low last c n r (omega arith) held))
       (λ hurt. damaged _ [] [])
@@ -247,26 +200,26 @@ module _ (d : ℕ) (low : d ≤ 3) (last : Store) (c : Controller) (held : InHan
       admits c (record { call = reset; answer = plain (resetCall c) }) ≡ true → steps reset (plain (resetCall c))
   unfolding resetCall admits carriesOut isTaken notRefused isReset pick
   reset-steps =
-      pick-by (λ (reply : Reply). admits c (record { call = reset; answer = plain reply }) ≡ true → steps reset (plain reply)) (sound c)
+      pick-by (λ (reply : Reply). admits c (record { call = reset; answer = plain reply }) ≡ true → steps reset (plain reply)) (sound (c .body) (c .phase))
       (λ sane admitted. absurd (false≢true admitted)) (λ hurt admitted. damaged _ [] [])
 
   pub step-follows :
       (call : Call) → admits c (record { call = call; answer = step c call }) ≡ true → Follows d (viewOf d last c) (lastStore last c (record { call = call; answer = step c call })) c (record { call = call; answer = step c call })
   unfolding step byteCall brokenCall tickCall takenCall dataCall resultCall lastStore carriesOut isTaken notRefused pick
   step-follows (byte value) admitted =
-      pick-by (λ (r : Reply). steps (byte value) (plain r)) (sound c) (λ sane. byte-in-follows d low last (c .body) value (c .phase) held)
+      pick-by (λ (r : Reply). steps (byte value) (plain r)) (sound (c .body) (c .phase)) (λ sane. byte-in-follows d low last (c .body) value (c .phase) held)
       (λ hurt. damaged _ [] [])
   step-follows broken admitted =
-      pick-by (λ (r : Reply). steps broken (plain r)) (sound c) (λ sane. broken-in-follows d low last (c .body) (c .phase) held) (λ hurt. damaged _ [] [])
+      pick-by (λ (r : Reply). steps broken (plain r)) (sound (c .body) (c .phase)) (λ sane. broken-in-follows d low last (c .body) (c .phase) held) (λ hurt. damaged _ [] [])
   step-follows tick admitted =
-      pick-by (λ (r : Reply). steps tick (plain r)) (sound c) (λ sane. tick-in-follows d low last (c .body) (c .phase) held) (λ hurt. damaged _ [] [])
+      pick-by (λ (r : Reply). steps tick (plain r)) (sound (c .body) (c .phase)) (λ sane. tick-in-follows d low last (c .body) (c .phase) held) (λ hurt. damaged _ [] [])
   step-follows (report n r) admitted = report-steps n r
   step-follows (hostData host space check) admitted =
-      pick-by (steps (hostData host space check)) (sound c) (λ sane. data-in-follows d low last (c .body) host space check (c .phase) held)
+      pick-by (steps (hostData host space check)) (sound (c .body) (c .phase)) (λ sane. data-in-follows d low last (c .body) host space check (c .phase) held)
       (λ hurt. damaged _ space check)
   step-follows (result r space check) admitted =
-      pick-by (steps (result r space check)) (sound c) (λ sane. result-in-follows d low last (c .body) r space check (c .phase) held)
+      pick-by (steps (result r space check)) (sound (c .body) (c .phase)) (λ sane. result-in-follows d low last (c .body) r space check (c .phase) held)
       (λ hurt. damaged _ space check)
   step-follows reset admitted = reset-steps admitted
   step-follows taken admitted =
-      pick-by (takes d low last c) (sound c) (λ sane. taken-in-takes d low last (c .body) (c .phase) held) (λ hurt admits. damaged _ [] []) admitted
+      pick-by (takes d low last c) (sound (c .body) (c .phase)) (λ sane. taken-in-takes d low last (c .body) (c .phase) held) (λ hurt admits. damaged _ [] []) admitted

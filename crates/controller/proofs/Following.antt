@@ -25,15 +25,16 @@ use Rattle.status.specs.Drives.{reports, driveOf, withDrive, reported, copied}
 use Rattle.status.specs.Strings.{orderOf}
 use Rattle.status.proofs.DriveLaws.{put-same, put-other}
 use Rattle.operations.specs.declared.store.Store.{Store}
-use Rattle.controller.specs.declared.state.Phase.{Phase}
-use Rattle.controller.specs.declared.state.Phase.the-variants.{Collecting, AckOffered, Sending, GoOffered, DataAwaited, ResultAwaited, EndOffered}
-use Rattle.controller.specs.declared.state.Body.{Body}
-use Rattle.controller.specs.declared.state.Controller.{Controller}
-use Rattle.controller.specs.declared.state.Action.the-variants.{Nothing, Order}
-use Rattle.controller.specs.declared.state.Reply.{Reply}
-use Rattle.controller.specs.State.{setDrives, setSelected, setFlags, setOutcome, setCurrent, current, done, refused}
+use Rattle.link.specs.declared.state.Phase.{Phase}
+use Rattle.link.specs.declared.state.Phase.the-variants.{Collecting, AckOffered, Sending, GoOffered, DataAwaited, ResultAwaited, EndOffered}
+use Rattle.link.specs.declared.state.Body.{Body}
+use Rattle.controller.specs.declared.controller.Controller.{Controller}
+use Rattle.link.specs.declared.state.Action.the-variants.{Nothing, Order}
+use Rattle.link.specs.declared.state.Turn.{Turn}
+use Rattle.link.specs.State.{setDrives, setSelected, setFlags, setOutcome, setCurrent, current}
 use Rattle.operations.specs.Store.{namesDrive, named, asked, thrownAway, heldCount}
-use Rattle.controller.specs.Link.{goTaken, goRefused}
+use Rattle.link.specs.Link.{goTaken, goRefused}
+use Rattle.controller.specs.Controller.{carried, refused}
 use Rattle.controller.specs.Stores.{endedBy, tracked, withDensity, motionOrder, pastTest, ordered, begun, operated, decoded, cleared, carriedOut}
 use Rattle.transfers.specs.Data.{recordBytes, runsShort, withUnderflow, isGcr}
 use Rattle.transfers.specs.Results.{Result, withGap, resultDrive, finalCode, isGone, usesImage, delivered, fitting}
@@ -114,8 +115,8 @@ free-view d last c free =
     ap (λ (hand : Hand). record { drive = seen d (c .body); hand = hand })
     (ap (λ (hand : Hand). pick (isOf d last) hand empty) (free-hand (c .phase) free) ∙ both (isOf d last) empty)
 
-pub rests-view : (d : ℕ) (last : Store) (b : Body) (r : Reply) → Rests d b r → viewOf d last (r .controller) ≡ resting (seen d b)
-rests-view d last b r rests = free-view d last (r .controller) (rests .free) ∙ ap resting (rests .drive)
+pub rests-view : (d : ℕ) (last : Store) (b : Body) (t : Turn) → Rests d b t → viewOf d last (carried t .controller) ≡ resting (seen d b)
+rests-view d last b t rests = free-view d last (carried t .controller) (rests .free) ∙ ap resting (rests .drive)
 
 -- ---- a call follows
 
@@ -194,33 +195,31 @@ module _ (d : ℕ) (store : Store) (c : Controller) (v : View) (x : Exchange) wh
 
 -- ---- a store is carried out
 
--- a reply that begins a store of the drive: what is seen of it then, and what it is given
-record Starts (d : ℕ) (v : View) (out : List Output) (r : Reply) : Type 0 where
-  view : record { drive = seen d (r .controller .body); hand = handIn (r .controller .phase) } ≡ v
-  given : ordersFor d (r .action) ≡ out
-  done : r .refusal ≡ 0
+-- a step that begins a store of the drive: what is seen of it then, and what it is given
+record Starts (d : ℕ) (v : View) (out : List Output) (t : Turn) : Type 0 where
+  view : record { drive = seen d (t .body); hand = handIn (t .phase) } ≡ v
+  given : ordersFor d (t .action) ≡ out
 
--- a reply that leaves the drive alone
-record Leaves (d : ℕ) (drive : Drive) (r : Reply) : Type 0 where
-  same : seen d (r .controller .body) ≡ drive
-  pub quiet : ordersFor d (r .action) ≡ []
+-- a step that leaves the drive alone
+record Leaves (d : ℕ) (drive : Drive) (t : Turn) : Type 0 where
+  same : seen d (t .body) ≡ drive
+  pub quiet : ordersFor d (t .action) ≡ []
 
-rests-leave : (d : ℕ) (b : Body) (r : Reply) → Rests d b r → Leaves d (seen d b) r
-rests-leave d b r rests = record { same = rests .drive; quiet = rests .quiet }
+rests-leave : (d : ℕ) (b : Body) (t : Turn) → Rests d b t → Leaves d (seen d b) t
+rests-leave d b t rests = record { same = rests .drive; quiet = rests .quiet }
 
-rests-start : (d : ℕ) (b : Body) (r : Reply) → Rests d b r → Starts d (resting (seen d b)) [] r
-rests-start d b r rests =
+rests-start : (d : ℕ) (b : Body) (t : Turn) → Rests d b t → Starts d (resting (seen d b)) [] t
+rests-start d b t rests =
     record {
-      view = ap₂ (λ (drive : Drive) (hand : Hand). record { drive = drive; hand = hand }) (rests .drive) (free-hand (r .controller .phase) (rests .free));
+      view = ap₂ (λ (drive : Drive) (hand : Hand). record { drive = drive; hand = hand }) (rests .drive) (free-hand (t .phase) (rests .free));
       given = rests .quiet;
-      done = rests .done;
     }
 
 choose-start :
-    (d : ℕ) (t : Bool) (drive : Drive) (hand : Hand) (out : List Output) (r other : Reply) → Starts d (record { drive = drive; hand = hand }) out r → Starts d (resting drive) [] other → Starts d (record { drive = drive; hand = pick t hand empty }) (pick t out []) (pick t r other)
+    (d : ℕ) (may : Bool) (drive : Drive) (hand : Hand) (out : List Output) (t other : Turn) → Starts d (record { drive = drive; hand = hand }) out t → Starts d (resting drive) [] other → Starts d (record { drive = drive; hand = pick may hand empty }) (pick may out []) (pick may t other)
 unfolding pick
-choose-start d true drive hand out r other moves ends = moves
-choose-start d false drive hand out r other moves ends = ends
+choose-start d true drive hand out t other moves ends = moves
+choose-start d false drive hand out t other moves ends = ends
 
 -- an order is given to the drive whose number it bears
 order-own :
@@ -236,7 +235,7 @@ module _ (d : ℕ) (store : Store) where
       (b : Body) (operation : Operation) → b .selected ≡ d → Starts d (record { drive = seen d b; hand = resultAwaited operation (bare store) }) (motion (orderOf (orderByte operation) d (seen d b .track) (seen d b .density) (store .third) (store .fourth)) ∷ []) (ordered b operation store)
   unfolding ordered motionOrder handIn
   ordered-own b operation e =
-      record { view = refl; given = order-own d (b .drives) (b .selected) (orderByte operation) (store .third) (store .fourth) e; done = refl }
+      record { view = refl; given = order-own d (b .drives) (b .selected) (orderByte operation) (store .third) (store .fourth) e }
 
   ordered-other : (b : Body) (operation : Operation) → (b .selected ≡ d → ⊥) → Leaves d (seen d b) (ordered b operation store)
   unfolding ordered motionOrder ordersFor orderOf
@@ -246,8 +245,8 @@ module _ (d : ℕ) (store : Store) where
     begun-own :
         n ≡ d → (operation : Operation) → Starts d (record { drive = seen d b; hand = handFor operation (bare store) }) (firstOrder d (seen d b) (bare store) operation) (begun (pastTest (setSelected b n) operation) operation store)
     unfolding begun pastTest pick handFor firstOrder handIn ordersFor
-    begun-own e Write = record { view = refl; given = refl; done = refl }
-    begun-own e CheckBytes = record { view = refl; given = refl; done = refl }
+    begun-own e Write = record { view = refl; given = refl }
+    begun-own e CheckBytes = record { view = refl; given = refl }
     begun-own e Read = ordered-own (pastTest (setSelected b n) Read) Read e
     begun-own e Erase = ordered-own (setSelected b n) Erase e
     begun-own e Rewind = ordered-own (setSelected b n) Rewind e
@@ -273,7 +272,7 @@ module _ (d : ℕ) (store : Store) where
     begun-other other WriteMark = ordered-other (setSelected b n) WriteMark other
 
     begun-held :
-        (operation : Operation) → Held store n operation store → InHand store (begun (pastTest (setSelected b n) operation) operation store .controller .body .selected) (begun (pastTest (setSelected b n) operation) operation store .controller .phase)
+        (operation : Operation) → Held store n operation store → InHand store (begun (pastTest (setSelected b n) operation) operation store .body .selected) (begun (pastTest (setSelected b n) operation) operation store .phase)
     unfolding begun pastTest pick ordered InHand
     begun-held Write held = held
     begun-held CheckBytes held = held
@@ -350,7 +349,7 @@ module _ (d : ℕ) (low : d ≤ 3) (store : Store) (b : Body) (n : ℕ) where
       (λ not. rests-leave d _ _ (ended-rests d low selecting store 0x04))
 
   decoded-held :
-      (decode : Decoded) → asksReset decode ≡ false → ((operation : Operation) → decode ≡ Operate operation → Held store n operation store) → InHand store (decoded selecting store decode .controller .body .selected) (decoded selecting store decode .controller .phase)
+      (decode : Decoded) → asksReset decode ≡ false → ((operation : Operation) → decode ≡ Operate operation → Held store n operation store) → InHand store (decoded selecting store decode .body .selected) (decoded selecting store decode .phase)
   unfolding decoded asksReset operated
   decoded-held Reset keeps held = absurd (true≢false keeps)
   decoded-held (Code code) keeps held = free-held store _ _ (ended-rests d low selecting store code .free)
@@ -360,7 +359,7 @@ module _ (d : ℕ) (low : d ≤ 3) (store : Store) (b : Body) (n : ℕ) where
   decoded-held (Density density) keeps held =
       free-held store _ _ (settled-rests d low (setCurrent selecting (withDensity (driveOf (b .drives) n) density)) store .free)
   decoded-held (Operate operation) keeps held =
-      pick-by (λ (r : Reply). InHand store (r .controller .body .selected) (r .controller .phase)) (mayMove (moveOf operation) (driveOf (b .drives) n .report))
+      pick-by (λ (t : Turn). InHand store (t .body .selected) (t .phase)) (mayMove (moveOf operation) (driveOf (b .drives) n .report))
       (λ may. begun-held d store b n operation (held operation refl)) (λ not. free-held store _ _ (ended-rests d low selecting store 0x04 .free))
 
 -- ---- the calls that belong to a store
@@ -390,11 +389,11 @@ carried-event d store c holds = ap (λ (t : Bool). pick (t && isOf d store) (sto
 
 module _ (d : ℕ) (low : d ≤ 3) (c : Controller) (store : Store) (holds : holdsStore c ≡ true) (names : namesDrive store ≡ true) where
   -- what is answered to it
-  abbrev carried : Reply → Type 0
-  carried r = Follows d (resting (seen d (c .body))) store c (record { call = taken; answer = plain r })
+  abbrev answered : Turn → Type 0
+  answered t = Follows d (resting (seen d (c .body))) store c (record { call = taken; answer = plain (carried t) })
 
   -- no drive of this number: no drive is concerned
-  unknown-follows : 4 ≤ named store → carried (endedBy (cleared (c .body)) store 0x01)
+  unknown-follows : 4 ≤ named store → answered (endedBy (cleared (c .body)) store 0x01)
   unfolding cleared transferOf
   unknown-follows high =
       let rests = ended-rests d low (cleared (c .body)) store 0x01 in
@@ -402,35 +401,39 @@ module _ (d : ℕ) (low : d ≤ 3) (c : Controller) (store : Store) (holds : hol
       owned-follows d store c _ _ (storeEvent store) (carried-event d store c holds) (λ own. absurd (differs (own-number d store names own)))
       (λ other. record { view = rests-view d store _ _ rests; transfer = refl; quiet = rests .quiet }) (free-held store _ _ (rests .free))
 
-  decoded-follows : named store ≤ 3 → asksReset (asked store) ≡ false → carried (decoded (setSelected (cleared (c .body)) (named store)) store (asked store))
+  decoded-follows : named store ≤ 3 → asksReset (asked store) ≡ false → answered (decoded (setSelected (cleared (c .body)) (named store)) store (asked store))
   unfolding cleared transferOf told gives storeEvent asked
   decoded-follows within keeps =
       let b = cleared (c .body) in
-      let next = decoded (setSelected b (named store)) store (asked store) .controller in
+      let next = carried (decoded (setSelected b (named store)) store (asked store)) .controller in
       owned-follows d store c _ _ (storeEvent store) (carried-event d store c holds)
       (λ own. let starts = decoded-own d low store b (named store) (own-number d store names own) (asked store) keeps in
-      record { done = starts .done; view = own-view d store next _ own (starts .view); given = starts .given })
+      record { done = refl; view = own-view d store next _ own (starts .view); given = starts .given })
       (λ other. let leaves = decoded-other d low store b (named store) within (other-number d store names other) (asked store) keeps in
       record { view = other-view d store next _ other (leaves .same); transfer = refl; quiet = leaves .quiet })
       (decoded-held d low store b (named store) (asked store) keeps
       (λ (operation : Operation) (asks : asked store ≡ Operate operation). record { same = refl; selects = refl; names = names; low = within; asks = asks }))
 
-  pub carried-follows : resets store ≡ false → carried (carriedOut (c .body) store)
+  pub carried-follows : resets store ≡ false → answered (carriedOut (c .body) store)
   unfolding carriedOut resets
   carried-follows keeps =
-      subst carried (sym (pick-yes _ _ names))
-      (pick-by carried (leb 4 (named store)) (λ high. unknown-follows (leb-true 4 (named store) high))
+      subst answered (sym (pick-yes _ _ names))
+      (pick-by answered (leb 4 (named store)) (λ high. unknown-follows (leb-true 4 (named store) high))
       (λ few. let below = leb-false 4 (named store) few in decoded-follows (omega arith) (subst (λ (t : Bool). (not t && asksReset (asked store)) ≡ false) few keeps)))
 
 -- ---- a report
 
 module _ (d : ℕ) (low : d ≤ 3) (last : Store) (c : Controller) (n r : ℕ) where
-  abbrev noted : Reply
+  abbrev noted : Turn
   noted =
-      done (record { body = setDrives (c .body) (withDrive (c .body .drives) n (reported (driveOf (c .body .drives) n) r)); phase = c .phase }) Nothing
+      record {
+        body = setDrives (c .body) (withDrive (c .body .drives) n (reported (driveOf (c .body .drives) n) r));
+        phase = c .phase;
+        action = Nothing;
+      }
 
   pub report-follows :
-      n ≤ 3 → InHand last (c .body .selected) (c .phase) → Follows d (viewOf d last c) last c (record { call = report n r; answer = plain noted })
+      n ≤ 3 → InHand last (c .body .selected) (c .phase) → Follows d (viewOf d last c) last c (record { call = report n r; answer = plain (carried noted) })
   unfolding eventOf transferOf ordersFor told gives reported
   report-follows within held =
       by-test (eqb n d)
@@ -460,7 +463,7 @@ module _ (d : ℕ) (low : d ≤ 3) (last : Store) (b : Body) (store : Store) whe
   offered = record { body = b; phase = GoOffered store }
 
   pub go-taken-follows :
-      (value : ℕ) → eqb value 0x06 ≡ true → Held last (b .selected) Write store → Follows d (viewOf d last offered) last offered (record { call = byte value; answer = plain (goTaken b store) })
+      (value : ℕ) → eqb value 0x06 ≡ true → Held last (b .selected) Write store → Follows d (viewOf d last offered) last offered (record { call = byte value; answer = plain (carried (goTaken b store)) })
   unfolding eventOf awaitsGo transferOf ordersFor told gives goTaken handIn handAfterGo InHand
   go-taken-follows value accepts held =
       owned-follows d last offered _ _ (goAnswered (eqb value 0x06)) refl
@@ -482,13 +485,13 @@ module _ (d : ℕ) (low : d ≤ 3) (last : Store) (b : Body) (store : Store) whe
 
   -- a no, by a byte or a broken link
   pub go-refused-follows :
-      (call : Call) (accepts : Bool) → eventOf d last offered call ≡ pick (isOf d last) (goAnswered accepts ∷ []) [] → transferOf d last [] call ≡ [] → accepts ≡ false → Follows d (viewOf d last offered) last offered (record { call = call; answer = plain (goRefused b store) })
+      (call : Call) (accepts : Bool) → eventOf d last offered call ≡ pick (isOf d last) (goAnswered accepts ∷ []) [] → transferOf d last [] call ≡ [] → accepts ≡ false → Follows d (viewOf d last offered) last offered (record { call = call; answer = plain (carried (goRefused b store)) })
   unfolding told gives handAfterGo bytesGiven
   go-refused-follows call accepts made nothing refuses =
       let rests = go-refused-rests d low b store in
       owned-follows d last offered _ _ (goAnswered accepts) made
       (λ own. record {
-        done = rests .done;
+        done = refl;
         view =
             rests-view d last b _ rests
             ∙ sym (ap (λ (t : Bool). record { drive = seen d b; hand = handAfterGo t (viewOf d last offered .hand) }) refuses);
@@ -535,7 +538,7 @@ module _ (d : ℕ) (last : Store) (b : Body) (store : Store) (host space check :
       let body = setOutcome b (withUnderflow (b .outcome) (runsShort store host)) in
       let zeroes = isGcr (current b) in
       let written = imageOf (recordBytes store host) (current b .density) in
-      let next = ordered (zeroedWords body zeroes) Write store .controller in
+      let next = carried (ordered (zeroedWords body zeroes) Write store) .controller in
       owned-follows d last awaiting _ _ (dataCame host) refl
       (λ own.
       let e : b .selected ≡ d = held .selects ∙ own-number d last (held .names) own in
@@ -595,7 +598,7 @@ module _ (d : ℕ) (low : d ≤ 3) (last : Store) (b : Body) (operation : Operat
       let e : b .selected ≡ d = held .selects ∙ own-number d last (held .names) own in
       let hand = pick-yes (resultAwaited operation (bare store)) empty own in
       record {
-        done = rests .done;
+        done = refl;
         view =
             rests-view d last body _ rests
             ∙ ap resting (set-own d low b (b .selected) (λ (x : Drive). resultDrive x operation r) e)

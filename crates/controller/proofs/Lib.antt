@@ -1,4 +1,3 @@
-pub mod SoundLaws
 pub mod TransferLaws
 pub mod BenchCases
 pub mod OneDrive

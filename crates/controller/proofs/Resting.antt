@@ -1,4 +1,4 @@
--- Replies that leave nothing in hand and leave a drive as it was, but for the reviewed copy: whatever is sent, answered or completed.
+-- Steps that leave nothing in hand and leave a drive as it was, but for the reviewed copy: whatever is sent, answered or completed.
 -- Assumes nothing.
 use mathlib.Core.Path.{_≡_, refl, ap, _∙_}
 use Prim.Native.Nat.{ℕ, _≤_, _+_, _/_, _%_}
@@ -13,19 +13,19 @@ use Rattle.status.proofs.DriveLaws.{reviewed-drive}
 use Rattle.operations.specs.declared.operation.Operation.{Operation}
 use Rattle.operations.specs.Operation.{offersEnd}
 use Rattle.operations.specs.declared.store.Store.{Store}
-use Rattle.controller.specs.declared.state.Kind.{Kind}
-use Rattle.controller.specs.declared.state.Kind.the-variants.{Load, Secondary, Completion, Change}
-use Rattle.controller.specs.declared.state.Send.{Send}
-use Rattle.controller.specs.declared.state.Phase.{Phase}
-use Rattle.controller.specs.declared.state.Phase.the-variants.{Collecting, AckOffered, Sending, GoOffered, DataAwaited, ResultAwaited, EndOffered}
-use Rattle.controller.specs.declared.state.Body.{Body}
-use Rattle.controller.specs.declared.state.Action.{Action}
-use Rattle.controller.specs.declared.state.Reply.{Reply}
-use Rattle.controller.specs.State.{setFlags, setCollected, review, idle}
-use Rattle.controller.specs.Completion.{sent, interrupts, completed, coded}
+use Rattle.link.specs.declared.state.Kind.{Kind}
+use Rattle.link.specs.declared.state.Kind.the-variants.{Load, Secondary, Completion, Change}
+use Rattle.link.specs.declared.state.Send.{Send}
+use Rattle.link.specs.declared.state.Phase.{Phase}
+use Rattle.link.specs.declared.state.Phase.the-variants.{Collecting, AckOffered, Sending, GoOffered, DataAwaited, ResultAwaited, EndOffered}
+use Rattle.link.specs.declared.state.Body.{Body}
+use Rattle.link.specs.declared.state.Action.{Action}
+use Rattle.link.specs.declared.state.Turn.{Turn}
+use Rattle.link.specs.State.{setFlags, setCollected, review, idle}
+use Rattle.link.specs.Completion.{sent, interrupts, completed, coded}
 use Rattle.operations.specs.Store.{asksInterrupt}
-use Rattle.controller.specs.Link.{wholeLength, appended, checks, firstByte, lastByte, nextByte, accepted, givenUp, saidNo, goRefused, tickWith}
-use Rattle.controller.specs.Loads.{loaded}
+use Rattle.link.specs.Link.{wholeLength, appended, checks, firstByte, lastByte, nextByte, accepted, givenUp, saidNo, goRefused, collectedByte, sendAnswered, tickWith, idleTick}
+use Rattle.link.specs.Loads.{loaded}
 use Rattle.controller.specs.Stores.{endedBy, settled}
 use Rattle.controller.specs.Records.{ending}
 use Rattle.controller.specs.Separation.{ordersFor}
@@ -44,11 +44,10 @@ Free (GoOffered store) = ⊥
 Free (DataAwaited store) = ⊥
 Free (ResultAwaited operation store) = ⊥
 
-pub record Rests (d : ℕ) (b : Body) (r : Reply) : Type 0 where
-  pub drive : seen d (r .controller .body) ≡ seen d b
-  pub free : Free (r .controller .phase)
-  pub quiet : ordersFor d (r .action) ≡ []
-  pub done : r .refusal ≡ 0
+pub record Rests (d : ℕ) (b : Body) (t : Turn) : Type 0 where
+  pub drive : seen d (t .body) ≡ seen d b
+  pub free : Free (t .phase)
+  pub quiet : ordersFor d (t .action) ≡ []
 
 module _ (d : ℕ) (low : d ≤ 3) where
   pub reviewed-seen : (b : Body) → seen d (review b) ≡ seen d b
@@ -57,15 +56,15 @@ module _ (d : ℕ) (low : d ≤ 3) where
 
   pub idle-rests : (b : Body) (action : Action) → ordersFor d action ≡ [] → Rests d b (idle b action)
   unfolding idle Free
-  idle-rests b action quiet = record { drive = reviewed-seen b; free = tt; quiet = quiet; done = refl }
+  idle-rests b action quiet = record { drive = reviewed-seen b; free = tt; quiet = quiet }
 
   pub sent-rests : (b : Body) (kind : Kind) (lead : ℕ) (word : Word) → Rests d b (sent b kind lead word)
   unfolding sent Free ordersFor
-  sent-rests b kind lead word = record { drive = refl; free = tt; quiet = refl; done = refl }
+  sent-rests b kind lead word = record { drive = refl; free = tt; quiet = refl }
 
   -- from a body that shows the same of the drive
-  pub rests-from : (b other : Body) (r : Reply) → seen d other ≡ seen d b → Rests d other r → Rests d b r
-  rests-from b other r same rests = record { drive = rests .drive ∙ same; free = rests .free; quiet = rests .quiet; done = rests .done }
+  pub rests-from : (b other : Body) (t : Turn) → seen d other ≡ seen d b → Rests d other t → Rests d b t
+  rests-from b other t same rests = record { drive = rests .drive ∙ same; free = rests .free; quiet = rests .quiet }
 
   pub interrupts-rests : (b : Body) → Rests d b (interrupts b)
   unfolding interrupts
@@ -89,12 +88,12 @@ module _ (d : ℕ) (low : d ≤ 3) where
   pub ending-rests : (b : Body) (operation : Operation) (store : Store) → Rests d b (ending b operation store)
   unfolding ending ordersFor Free
   ending-rests b operation store =
-      pick-by (Rests d b) (offersEnd operation) (λ offered. record { drive = refl; free = tt; quiet = refl; done = refl })
+      pick-by (Rests d b) (offersEnd operation) (λ offered. record { drive = refl; free = tt; quiet = refl })
       (λ ended. completed-rests b (asksInterrupt store))
 
   pub go-refused-rests : (b : Body) (store : Store) → Rests d b (goRefused b store)
   unfolding goRefused coded ordersFor Free
-  go-refused-rests b store = record { drive = refl; free = tt; quiet = refl; done = refl }
+  go-refused-rests b store = record { drive = refl; free = tt; quiet = refl }
 
   pub given-up-rests : (b : Body) (kind : Kind) → Rests d b (givenUp b kind)
   unfolding givenUp ordersFor
@@ -103,42 +102,51 @@ module _ (d : ℕ) (low : d ≤ 3) where
   given-up-rests b Completion = idle-rests b _ refl
   given-up-rests b Change = rests-from b (setFlags b (b .changed) false) _ refl (idle-rests (setFlags b (b .changed) false) _ refl)
 
-  pub accepted-rests : (b : Body) (kind : Kind) → Rests d b (accepted b kind)
+  accepted-rests : (b : Body) (kind : Kind) → Rests d b (accepted b kind)
   unfolding accepted ordersFor
   accepted-rests b Load = idle-rests b _ refl
   accepted-rests b Secondary = sent-rests b Completion _ _
   accepted-rests b Completion = rests-from b (setFlags b false (b .enable)) _ refl (idle-rests (setFlags b false (b .enable)) _ refl)
   accepted-rests b Change = rests-from b (setFlags b false false) _ refl (idle-rests (setFlags b false false) _ refl)
 
-  pub said-no-rests : (b : Body) (s : Send) → Rests d b (saidNo b s)
+  said-no-rests : (b : Body) (s : Send) → Rests d b (saidNo b s)
   unfolding saidNo ordersFor Free
   said-no-rests b s =
-      pick-by (Rests d b) (eqb (s .noes) 4) (λ fifth. given-up-rests b (s .kind)) (λ again. record { drive = refl; free = tt; quiet = refl; done = refl })
+      pick-by (Rests d b) (eqb (s .noes) 4) (λ fifth. given-up-rests b (s .kind)) (λ again. record { drive = refl; free = tt; quiet = refl })
 
-  pub first-byte-rests : (b : Body) (byte : ℕ) → Rests d b (firstByte b byte)
+  first-byte-rests : (b : Body) (byte : ℕ) → Rests d b (firstByte b byte)
   unfolding firstByte ordersFor Free
   first-byte-rests b byte =
-      pick-by (Rests d b) (eqb byte 0x62 || eqb byte 0x64) (λ lead. record { drive = refl; free = tt; quiet = refl; done = refl })
-      (λ none. pick-by (Rests d b) (eqb byte 0x15) (λ nack. record { drive = refl; free = tt; quiet = refl; done = refl }) (λ other. idle-rests b _ refl))
+      pick-by (Rests d b) (eqb byte 0x62 || eqb byte 0x64) (λ lead. record { drive = refl; free = tt; quiet = refl })
+      (λ none. pick-by (Rests d b) (eqb byte 0x15) (λ nack. record { drive = refl; free = tt; quiet = refl }) (λ other. idle-rests b _ refl))
 
-  pub last-byte-rests : (b : Body) → Rests d b (lastByte b)
+  last-byte-rests : (b : Body) → Rests d b (lastByte b)
   unfolding lastByte ordersFor Free
   last-byte-rests b =
-      pick-by (Rests d b) (checks (b .collected)) (λ good. record { drive = refl; free = tt; quiet = refl; done = refl }) (λ bad. idle-rests b _ refl)
+      pick-by (Rests d b) (checks (b .collected)) (λ good. record { drive = refl; free = tt; quiet = refl }) (λ bad. idle-rests b _ refl)
 
-  pub next-byte-rests : (b : Body) (byte : ℕ) → Rests d b (nextByte b byte)
+  next-byte-rests : (b : Body) (byte : ℕ) → Rests d b (nextByte b byte)
   unfolding nextByte ordersFor Free
   next-byte-rests b byte =
       let longer = setCollected b (appended (b .collected) byte) in
       pick-by (Rests d b) (eqb (b .collected .length + 1) (wholeLength (b .collected .c0)))
-      (λ whole. rests-from b longer _ refl (last-byte-rests longer)) (λ part. record { drive = refl; free = tt; quiet = refl; done = refl })
+      (λ whole. rests-from b longer _ refl (last-byte-rests longer)) (λ part. record { drive = refl; free = tt; quiet = refl })
 
-  pub tick-rests : (b : Body) → Rests d b (tickWith (review b))
-  unfolding tickWith ordersFor Free
+  pub byte-rests : (b : Body) (byte : ℕ) → Rests d b (collectedByte b byte)
+  unfolding collectedByte
+  byte-rests b byte =
+      pick-by (Rests d b) (eqb (b .collected .length) 0) (λ first. first-byte-rests b byte) (λ further. next-byte-rests b byte)
+
+  pub send-rests : (b : Body) (byte : ℕ) (s : Send) → Rests d b (sendAnswered b byte s)
+  unfolding sendAnswered
+  send-rests b byte s = pick-by (Rests d b) (eqb byte 0x06) (λ yes. accepted-rests b (s .kind)) (λ no. said-no-rests b s)
+
+  pub tick-rests : (b : Body) → Rests d b (idleTick b)
+  unfolding idleTick tickWith ordersFor Free
   tick-rests b =
       pick-by (Rests d b) (review b .changed && review b .enable)
       (λ due. rests-from b (review b) _ (reviewed-seen b) (sent-rests (review b) Change _ _))
-      (λ none. record { drive = reviewed-seen b; free = tt; quiet = refl; done = refl })
+      (λ none. record { drive = reviewed-seen b; free = tt; quiet = refl })
 
   pub loaded-rests : (b : Body) (address : ℕ) → Rests d b (loaded b address)
   unfolding loaded ordersFor

@@ -7,42 +7,42 @@ use contract.Lifetimes.{Lfts}
 use denote.Ref.{RefT, now, at-last}
 use Prim.Native.Nat.{ℕ}
 use Rattle.transfers.specs.Results.{Result, resultOf}
-use Rattle.controller.specs.declared.state.Controller.{Controller}
-use Rattle.controller.specs.declared.state.Reply.{Reply}
-use Rattle.controller.specs.declared.state.Transfer.{Transfer}
-use Rattle.controller.specs.State.{fresh}
+use Rattle.controller.specs.declared.controller.Controller.{Controller}
+use Rattle.controller.specs.declared.controller.Reply.{Reply}
+use Rattle.controller.specs.declared.controller.Transfer.{Transfer}
+use Rattle.controller.specs.Controller.{fresh}
 use Rattle.controller.specs.Records.{Answer, answered}
 use Rattle.controller.specs.Machine.{byteCall, takenCall, brokenCall, reportCall, dataCall, resultCall, tickCall, resetCall, Call, Exchange, plain, step, run}
 use Rattle.controller.specs.Machine.Call.{byte, taken, broken, report, hostData, result, tick, reset}
 use Rattle.controller.specs.Separation.{Separate}
 use Rattle.controller.proofs.DrivesAreSeparate.{drives-are-separate}
-use Rattle.controller.proofs.body.fresh_controller.Reads as fresh-reads
-use Rattle.controller.proofs.state.Controller.byte.Reads as byte-reads
-use Rattle.controller.proofs.state.Controller.taken.Reads as taken-reads
-use Rattle.controller.proofs.state.Controller.broken.Reads as broken-reads
-use Rattle.controller.proofs.state.Controller.report.Reads as report-reads
-use Rattle.controller.proofs.state.Controller.data.Reads as data-reads
-use Rattle.controller.proofs.state.Controller.result.Reads as result-reads
-use Rattle.controller.proofs.state.Controller.tick.Reads as tick-reads
-use Rattle.controller.proofs.state.Controller.reset.Reads as reset-reads
-use Rattle.controller.proofs.state.Controller.byte.Met as byte-met
-use Rattle.controller.proofs.state.Controller.byte.Statement as byte-statement
-use Rattle.controller.proofs.state.Controller.taken.Met as taken-met
-use Rattle.controller.proofs.state.Controller.taken.Statement as taken-statement
-use Rattle.controller.proofs.state.Controller.broken.Met as broken-met
-use Rattle.controller.proofs.state.Controller.broken.Statement as broken-statement
-use Rattle.controller.proofs.state.Controller.report.Met as report-met
-use Rattle.controller.proofs.state.Controller.report.Statement as report-statement
-use Rattle.controller.proofs.state.Controller.data.Met as data-met
-use Rattle.controller.proofs.state.Controller.data.Statement as data-statement
-use Rattle.controller.proofs.state.Controller.result.Met as result-met
-use Rattle.controller.proofs.state.Controller.result.Statement as result-statement
-use Rattle.controller.proofs.state.Controller.tick.Met as tick-met
-use Rattle.controller.proofs.state.Controller.tick.Statement as tick-statement
-use Rattle.controller.proofs.state.Controller.reset.Met as reset-met
-use Rattle.controller.proofs.state.Controller.reset.Statement as reset-statement
-use Rattle.controller.proofs.body.fresh_controller.Met as fresh-met
-use Rattle.controller.proofs.body.fresh_controller.Statement as fresh-statement
+use Rattle.controller.proofs.controller.fresh_controller.Reads as fresh-reads
+use Rattle.controller.proofs.controller.Controller.byte.Reads as byte-reads
+use Rattle.controller.proofs.controller.Controller.taken.Reads as taken-reads
+use Rattle.controller.proofs.controller.Controller.broken.Reads as broken-reads
+use Rattle.controller.proofs.controller.Controller.report.Reads as report-reads
+use Rattle.controller.proofs.controller.Controller.data.Reads as data-reads
+use Rattle.controller.proofs.controller.Controller.result.Reads as result-reads
+use Rattle.controller.proofs.controller.Controller.tick.Reads as tick-reads
+use Rattle.controller.proofs.controller.Controller.reset.Reads as reset-reads
+use Rattle.controller.proofs.controller.Controller.byte.Met as byte-met
+use Rattle.controller.proofs.controller.Controller.byte.Statement as byte-statement
+use Rattle.controller.proofs.controller.Controller.taken.Met as taken-met
+use Rattle.controller.proofs.controller.Controller.taken.Statement as taken-statement
+use Rattle.controller.proofs.controller.Controller.broken.Met as broken-met
+use Rattle.controller.proofs.controller.Controller.broken.Statement as broken-statement
+use Rattle.controller.proofs.controller.Controller.report.Met as report-met
+use Rattle.controller.proofs.controller.Controller.report.Statement as report-statement
+use Rattle.controller.proofs.controller.Controller.data.Met as data-met
+use Rattle.controller.proofs.controller.Controller.data.Statement as data-statement
+use Rattle.controller.proofs.controller.Controller.result.Met as result-met
+use Rattle.controller.proofs.controller.Controller.result.Statement as result-statement
+use Rattle.controller.proofs.controller.Controller.tick.Met as tick-met
+use Rattle.controller.proofs.controller.Controller.tick.Statement as tick-statement
+use Rattle.controller.proofs.controller.Controller.reset.Met as reset-met
+use Rattle.controller.proofs.controller.Controller.reset.Statement as reset-statement
+use Rattle.controller.proofs.controller.fresh_controller.Met as fresh-met
+use Rattle.controller.proofs.controller.fresh_controller.Statement as fresh-statement
 
 -- ---- what the contracts promise
 

@@ -16,9 +16,10 @@ use Rattle.operations.specs.Store.{heldCount}
 use Rattle.transfers.specs.Data.{isGcr, checkBytes, recordBytes, runsShort, withUnderflow}
 use Rattle.transfers.specs.Results.{resultOf, usesImage, resultCheck, delivered, fitting}
 use Rattle.transfers.proofs.DataLaws.{given-prefix}
-use Rattle.controller.specs.declared.state.Body.{Body}
-use Rattle.controller.specs.declared.state.Reply.{Reply}
-use Rattle.controller.specs.State.{setOutcome}
+use Rattle.link.specs.declared.state.Body.{Body}
+use Rattle.controller.specs.declared.controller.Reply.{Reply}
+use Rattle.link.specs.State.{setOutcome}
+use Rattle.controller.specs.Controller.{carried}
 use Rattle.controller.specs.Stores.{ordered}
 use Rattle.controller.specs.Records.{Answer, zeroedWords, dataDone, resultBody, ending, resultGiven}
 
@@ -30,7 +31,7 @@ answer-alike r r′ n n′ s s′ k k′ p q t u = cc
 -- what a data call does, from what its parts do
 module _ (b : Body) (drive : Drive) (store : Store) (host space check : List ℕ) where
   pub data-answer : (r : Reply) (n : ℕ) (s k : List ℕ)
-      → r ≡ ordered (zeroedWords (setOutcome b (withUnderflow (b .outcome) (runsShort store host))) (isGcr drive)) Write store
+      → r ≡ carried (ordered (zeroedWords (setOutcome b (withUnderflow (b .outcome) (runsShort store host))) (isGcr drive)) Write store)
       → n ≡ length (imageOf (recordBytes store host) (drive .density))
       → s ≡ given (imageOf (recordBytes store host) (drive .density)) space
       → k ≡ pick (isGcr drive) (checkBytes (take n s) (heldCount store)) check
@@ -44,11 +45,11 @@ module _ (b : Body) (drive : Drive) (store : Store) (host space check : List ℕ
 module _ (b : Body) (drive : Drive) (operation : Operation) (store : Store) (code : ℕ) (mark : Bool) (late : ℕ) (image marks space check : List ℕ) where
   pub result-answer : (r : Reply) (n : ℕ) (s k bytes : List ℕ) (body : Body)
       → body ≡ resultBody b drive operation store (resultOf code mark late image marks) (length bytes) (length space)
-      → r ≡ ending body operation store
+      → r ≡ carried (ending body operation store)
       → n ≡ length (fitting bytes (length space))
       → s ≡ given (fitting bytes (length space)) space
       → k ≡ resultCheck drive operation (resultOf 0 false 0 image []) check
       → _≡_ {A = Answer} (record { reply = r; bytes = n; space = s; check = k }) (resultGiven b drive operation store (resultOf code mark late image marks) bytes space check)
   unfolding resultGiven resultCheck usesImage
   result-answer r n s k bytes body leaves p q t u =
-      answer-alike _ _ _ _ _ _ _ _ (p ∙ ap (λ (x : Body). ending x operation store) leaves) q t u
+      answer-alike _ _ _ _ _ _ _ _ (p ∙ ap (λ (x : Body). carried (ending x operation store)) leaves) q t u

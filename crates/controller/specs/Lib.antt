@@ -1,9 +1,5 @@
-pub mod State
-pub mod Completion
-pub mod Link
-pub mod Loads
+pub mod Controller
 pub mod Stores
 pub mod Records
-pub mod Damaged
 pub mod Machine
 pub mod Separation

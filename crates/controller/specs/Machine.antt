@@ -10,39 +10,73 @@ use Rattle.operations.specs.declared.operation.Operation.{Operation}
 use Rattle.operations.specs.declared.store.Store.{Store}
 use Rattle.status.specs.declared.drives.Drive.{Drive}
 use Rattle.status.specs.Drives.{driveOf, withDrive, reported}
-use Rattle.controller.specs.declared.state.Phase.{Phase}
-use Rattle.controller.specs.declared.state.Phase.the-variants.{Collecting, AckOffered, Sending, GoOffered, DataAwaited, ResultAwaited, EndOffered}
-use Rattle.controller.specs.declared.state.Body.{Body}
-use Rattle.controller.specs.declared.state.Controller.{Controller}
-use Rattle.controller.specs.declared.state.Action.the-variants.{Nothing}
-use Rattle.controller.specs.declared.state.Reply.{Reply}
-use Rattle.controller.specs.State.{setDrives, current, resetOf, done, refused}
-use Rattle.controller.specs.Link.{byteIn, brokenIn, tickIn}
-use Rattle.controller.specs.Loads.{loaded}
+use Rattle.link.specs.declared.state.Phase.{Phase}
+use Rattle.link.specs.declared.state.Phase.the-variants.{Collecting, AckOffered, Sending, GoOffered, DataAwaited, ResultAwaited, EndOffered}
+use Rattle.link.specs.declared.state.Body.{Body}
+use Rattle.controller.specs.declared.controller.Controller.{Controller}
+use Rattle.link.specs.declared.state.Action.the-variants.{Nothing}
+use Rattle.link.specs.declared.state.Turn.{Turn}
+use Rattle.controller.specs.declared.controller.Reply.{Reply}
+use Rattle.link.specs.State.{setDrives, current, resetOf, idle}
+use Rattle.link.specs.Completion.{completed}
+use Rattle.link.specs.Link.{collectedByte, sendAnswered, goAnswered, givenUp, goRefused, idleTick}
+use Rattle.link.specs.Loads.{loaded}
+use Rattle.controller.specs.Controller.{carried, refused}
 use Rattle.controller.specs.Stores.{storeOf, carriedOut}
 use Rattle.transfers.specs.Data.{dataRefusal}
 use Rattle.transfers.specs.Results.{Result, resultRefusal}
 use Rattle.controller.specs.Records.{Answer, dataDone, resultDone}
-use Rattle.controller.specs.Damaged.{sound}
+use Rattle.link.specs.Damaged.{sound}
 
 -- ---- the eight calls
 
+-- A byte, in each phase; the answers while data or a result is awaited are refusals.
+unfoldable pub byteIn : Controller → Body → ℕ → Phase → Reply
+byteIn c b byte Collecting = carried (collectedByte b byte)
+byteIn c b byte AckOffered = carried (idle b Nothing)
+byteIn c b byte (Sending s) = carried (sendAnswered b byte s)
+byteIn c b byte (GoOffered store) = carried (goAnswered b byte store)
+byteIn c b byte (DataAwaited store) = refused 2 c
+byteIn c b byte (ResultAwaited operation store) = refused 2 c
+byteIn c b byte (EndOffered interrupt) = carried (completed b interrupt)
+
+-- "Broken while collecting drops what was collected, then review."; "broken or any byte drops it"; "on broken, the send is given up";
+-- GO and EOR: "anything but #06 is a no"
+unfoldable pub brokenIn : Controller → Body → Phase → Reply
+brokenIn c b Collecting = carried (idle b Nothing)
+brokenIn c b AckOffered = carried (idle b Nothing)
+brokenIn c b (Sending s) = carried (givenUp b (s .kind))
+brokenIn c b (GoOffered store) = carried (goRefused b store)
+brokenIn c b (DataAwaited store) = refused 2 c
+brokenIn c b (ResultAwaited operation store) = refused 2 c
+brokenIn c b (EndOffered interrupt) = carried (completed b interrupt)
+
+-- "4 tick when not idle"
+unfoldable pub tickIn : Controller → Body → Phase → Reply
+tickIn c b Collecting = pick (eqb (b .collected .length) 0) (carried (idleTick b)) (refused 4 c)
+tickIn c b AckOffered = refused 4 c
+tickIn c b (Sending s) = refused 4 c
+tickIn c b (GoOffered store) = refused 4 c
+tickIn c b (DataAwaited store) = refused 4 c
+tickIn c b (ResultAwaited operation store) = refused 4 c
+tickIn c b (EndOffered interrupt) = refused 4 c
+
 unfoldable pub byteCall : Controller → ℕ → Reply
-byteCall c byte = pick (sound c) (byteIn c (c .body) byte (c .phase)) (refused 1 c)
+byteCall c byte = pick (sound (c .body) (c .phase)) (byteIn c (c .body) byte (c .phase)) (refused 1 c)
 
 unfoldable pub brokenCall : Controller → Reply
-brokenCall c = pick (sound c) (brokenIn c (c .body) (c .phase)) (refused 1 c)
+brokenCall c = pick (sound (c .body) (c .phase)) (brokenIn c (c .body) (c .phase)) (refused 1 c)
 
 unfoldable pub tickCall : Controller → Reply
-tickCall c = pick (sound c) (tickIn c (c .body) (c .phase)) (refused 1 c)
+tickCall c = pick (sound (c .body) (c .phase)) (tickIn c (c .body) (c .phase)) (refused 1 c)
 
 -- "Then taken carries it out": a load or a store, by its lead
-unfoldable pub takenBody : Body → Reply
+unfoldable pub takenBody : Body → Turn
 takenBody b = pick (eqb (b .collected .c0) 0x62) (loaded b (b .collected .c1)) (carriedOut b (storeOf (b .collected)))
 
 -- "2 .. taken with no ACK offered"
 unfoldable pub takenIn : Controller → Body → Phase → Reply
-takenIn c b AckOffered = takenBody b
+takenIn c b AckOffered = carried (takenBody b)
 takenIn c b Collecting = refused 2 c
 takenIn c b (Sending s) = refused 2 c
 takenIn c b (GoOffered store) = refused 2 c
@@ -51,23 +85,23 @@ takenIn c b (ResultAwaited operation store) = refused 2 c
 takenIn c b (EndOffered interrupt) = refused 2 c
 
 unfoldable pub takenCall : Controller → Reply
-takenCall c = pick (sound c) (takenIn c (c .body) (c .phase)) (refused 1 c)
+takenCall c = pick (sound (c .body) (c .phase)) (takenIn c (c .body) (c .phase)) (refused 1 c)
 
 -- "5 drive above 3"
 unfoldable pub reportCall : Controller → ℕ → ℕ → Reply
 reportCall c drive report =
-    pick (sound c)
+    pick (sound (c .body) (c .phase))
     (pick (leb 4 drive) (refused 5 c)
-    (done
+    (carried
     (record {
       body = setDrives (c .body) (withDrive (c .body .drives) drive (reported (driveOf (c .body .drives) drive) report));
       phase = c .phase;
-    })
-    Nothing))
+      action = Nothing;
+    })))
     (refused 1 c)
 
 unfoldable pub resetCall : Controller → Reply
-resetCall c = pick (sound c) (done (resetOf (c .body)) Nothing) (refused 1 c)
+resetCall c = pick (sound (c .body) (c .phase)) (carried (resetOf (c .body))) (refused 1 c)
 
 -- a refused data or result call: "state and buffers unchanged"
 abbrev pub unchanged : ℕ → Controller → List ℕ → List ℕ → Answer
@@ -90,7 +124,7 @@ dataIn c b host space check (ResultAwaited operation store) = unchanged 3 c spac
 dataIn c b host space check (EndOffered interrupt) = unchanged 3 c space check
 
 unfoldable pub dataCall : Controller → List ℕ → List ℕ → List ℕ → Answer
-dataCall c host space check = pick (sound c) (dataIn c (c .body) host space check (c .phase)) (unchanged 1 c space check)
+dataCall c host space check = pick (sound (c .body) (c .phase)) (dataIn c (c .body) host space check (c .phase)) (unchanged 1 c space check)
 
 -- the result of an operation, by the drive that carried it out
 unfoldable pub resultFor : Controller → Body → Drive → Operation → Store → Result → List ℕ → List ℕ → Answer
@@ -108,7 +142,7 @@ resultIn c b r space check (DataAwaited store) = unchanged 3 c space check
 resultIn c b r space check (EndOffered interrupt) = unchanged 3 c space check
 
 unfoldable pub resultCall : Controller → Result → List ℕ → List ℕ → Answer
-resultCall c r space check = pick (sound c) (resultIn c (c .body) r space check (c .phase)) (unchanged 1 c space check)
+resultCall c r space check = pick (sound (c .body) (c .phase)) (resultIn c (c .body) r space check (c .phase)) (unchanged 1 c space check)
 
 -- ---- a step and a run
 

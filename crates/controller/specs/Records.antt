@@ -13,14 +13,16 @@ use Rattle.operations.specs.declared.operation.Operation.{Operation}
 use Rattle.operations.specs.declared.operation.Operation.the-variants.{Write}
 use Rattle.operations.specs.Operation.{offersEnd}
 use Rattle.operations.specs.declared.store.Store.{Store}
-use Rattle.controller.specs.declared.state.Phase.the-variants.{EndOffered}
-use Rattle.controller.specs.declared.state.Body.{Body}
-use Rattle.controller.specs.declared.state.Action.the-variants.{Byte}
-use Rattle.controller.specs.declared.state.Reply.{Reply}
-use Rattle.controller.specs.declared.state.Transfer.{Transfer}
-use Rattle.controller.specs.State.{setOutcome, setWords, setCurrent, done}
-use Rattle.controller.specs.Completion.{completed}
+use Rattle.link.specs.declared.state.Phase.the-variants.{EndOffered}
+use Rattle.link.specs.declared.state.Body.{Body}
+use Rattle.link.specs.declared.state.Action.the-variants.{Byte}
+use Rattle.link.specs.declared.state.Turn.{Turn}
+use Rattle.controller.specs.declared.controller.Reply.{Reply}
+use Rattle.controller.specs.declared.controller.Transfer.{Transfer}
+use Rattle.link.specs.State.{setOutcome, setWords, setCurrent}
+use Rattle.link.specs.Completion.{completed}
 use Rattle.operations.specs.Store.{asksInterrupt, heldCount}
+use Rattle.controller.specs.Controller.{carried}
 use Rattle.controller.specs.Stores.{ordered}
 use Rattle.transfers.specs.Data.{isGcr, checkBytes, recordBytes, runsShort, withUnderflow}
 use Rattle.transfers.specs.Results.{Result, resultTertiary, resultQuintary, resultCheck, delivered, fitting, resultSecondary, resultBits, withRetry, resultDrive}
@@ -45,7 +47,7 @@ unfoldable pub dataDone : Body → Drive → Store → List ℕ → List ℕ →
 dataDone b drive store host space check =
     let image = imageOf (recordBytes store host) (drive .density) in
     record {
-      reply = ordered (zeroedWords (setOutcome b (withUnderflow (b .outcome) (runsShort store host))) (isGcr drive)) Write store;
+      reply = carried (ordered (zeroedWords (setOutcome b (withUnderflow (b .outcome) (runsShort store host))) (isGcr drive)) Write store);
       bytes = length image;
       space = given image space;
       check = pick (isGcr drive) (checkBytes image (heldCount store)) check;
@@ -60,15 +62,15 @@ resultBody b drive operation store r bytes space =
     (withRetry (resultBits drive (b .outcome) operation r bytes space))
 
 -- "Read, write and check bytes offer EOR when a result came"; the others are completed at once
-unfoldable pub ending : Body → Operation → Store → Reply
+unfoldable pub ending : Body → Operation → Store → Turn
 ending b operation store =
-    pick (offersEnd operation) (done (record { body = b; phase = EndOffered (asksInterrupt store) }) (Byte 0x45)) (completed b (asksInterrupt store))
+    pick (offersEnd operation) (record { body = b; phase = EndOffered (asksInterrupt store); action = Byte 0x45 }) (completed b (asksInterrupt store))
 
 -- with the bytes to be delivered
 unfoldable pub resultGiven : Body → Drive → Operation → Store → Result → List ℕ → List ℕ → List ℕ → Answer
 resultGiven b drive operation store r bytes space check =
     record {
-      reply = ending (resultBody b drive operation store r (length bytes) (length space)) operation store;
+      reply = carried (ending (resultBody b drive operation store r (length bytes) (length space)) operation store);
       bytes = length (fitting bytes (length space));
       space = given (fitting bytes (length space)) space;
       check = resultCheck drive operation r check;

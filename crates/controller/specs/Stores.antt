@@ -1,8 +1,7 @@
 -- Stores (document 01, Stores): "Carrying out: clear primary bits 2 and 8-22; a named drive above 3 is code 01 with selection unchanged,
 -- else select it; decode; test. A code here ends the store with motion 00."
 -- Assumes nothing.
-use Prim.Native.Nat.{ℕ, _/_, _%_}
-use mathlib.Core.Bool.{Bool}
+use Prim.Native.Nat.{ℕ}
 use lib.Dec.{leb, eqb}
 use Rattle.common.specs.Pick.{pick}
 use Rattle.operations.specs.declared.operation.Operation.{Operation}
@@ -10,7 +9,6 @@ use Rattle.operations.specs.declared.operation.Operation.the-variants.{Read, Ch
 use Rattle.operations.specs.declared.decode.Decoded.{Decoded}
 use Rattle.operations.specs.declared.decode.Decoded.the-variants.{Reset, Code, Track, Enable, Density, Operate}
 use Rattle.operations.specs.Operation.{moveOf, orderByte, countsBytes}
-use Rattle.operations.specs.Decode.{decodeOf}
 use Rattle.operations.specs.Test.{mayMove}
 use Rattle.status.specs.declared.drives.Drive.{Drive}
 use Rattle.status.specs.declared.strings.Six.{Six}
@@ -18,13 +16,13 @@ use Rattle.status.specs.Drives.{reports}
 use Rattle.status.specs.Words.{noOutcome}
 use Rattle.status.specs.Strings.{orderOf}
 use Rattle.operations.specs.declared.store.Store.{Store}
-use Rattle.controller.specs.declared.state.Collected.{Collected}
-use Rattle.controller.specs.declared.state.Phase.the-variants.{GoOffered, ResultAwaited}
-use Rattle.controller.specs.declared.state.Body.{Body}
-use Rattle.controller.specs.declared.state.Action.the-variants.{Nothing, Byte, Order}
-use Rattle.controller.specs.declared.state.Reply.{Reply}
-use Rattle.controller.specs.State.{setSelected, setFlags, setOutcome, setWords, setCurrent, current, resetOf, done}
-use Rattle.controller.specs.Completion.{completed, coded}
+use Rattle.link.specs.declared.state.Collected.{Collected}
+use Rattle.link.specs.declared.state.Phase.the-variants.{GoOffered, ResultAwaited}
+use Rattle.link.specs.declared.state.Body.{Body}
+use Rattle.link.specs.declared.state.Action.the-variants.{Nothing, Byte, Order}
+use Rattle.link.specs.declared.state.Turn.{Turn}
+use Rattle.link.specs.State.{setSelected, setFlags, setOutcome, setWords, setCurrent, current, resetOf}
+use Rattle.link.specs.Completion.{completed, coded}
 use Rattle.operations.specs.Store.{asksInterrupt, namesDrive, named, asked}
 
 -- the store that was collected
@@ -32,11 +30,11 @@ unfoldable pub storeOf : Collected → Store
 storeOf s = record { address = s .c1; first = s .c2; second = s .c3; third = s .c4; fourth = s .c5 }
 
 -- a code ends the store
-unfoldable pub endedBy : Body → Store → ℕ → Reply
+unfoldable pub endedBy : Body → Store → ℕ → Turn
 endedBy b store code = completed (coded b code) (asksInterrupt store)
 
 -- a setting is made, and the store is done
-unfoldable pub settled : Body → Store → Reply
+unfoldable pub settled : Body → Store → Turn
 settled b store = completed b (asksInterrupt store)
 
 -- "A new track sets the gap to 0 if BOT is reported, else 3; the same track changes nothing."
@@ -59,14 +57,14 @@ unfoldable pub pastTest : Body → Operation → Body
 pastTest b operation = pick (countsBytes operation) (setWords b 0 (b .tertiary) (b .quintary)) b
 
 -- the move is ordered, and its result awaited
-unfoldable pub ordered : Body → Operation → Store → Reply
+unfoldable pub ordered : Body → Operation → Store → Turn
 ordered b operation store =
-    done (record { body = b; phase = ResultAwaited operation store }) (Order (motionOrder b operation store))
+    record { body = b; phase = ResultAwaited operation store; action = Order (motionOrder b operation store) }
 
 -- "A write offers GO"; "Check bytes give no order but await a result."
-unfoldable pub begun : Body → Operation → Store → Reply
-begun b Write store = done (record { body = b; phase = GoOffered store }) (Byte 0x47)
-begun b CheckBytes store = done (record { body = b; phase = ResultAwaited CheckBytes store }) Nothing
+unfoldable pub begun : Body → Operation → Store → Turn
+begun b Write store = record { body = b; phase = GoOffered store; action = Byte 0x47 }
+begun b CheckBytes store = record { body = b; phase = ResultAwaited CheckBytes store; action = Nothing }
 begun b Read store = ordered b Read store
 begun b Erase store = ordered b Erase store
 begun b Rewind store = ordered b Rewind store
@@ -78,13 +76,13 @@ begun b SearchReverse store = ordered b SearchReverse store
 begun b WriteMark store = ordered b WriteMark store
 
 -- "Code 04 unless: .."
-unfoldable pub operated : Body → Operation → Store → Reply
+unfoldable pub operated : Body → Operation → Store → Turn
 operated b operation store =
     pick (mayMove (moveOf operation) (current b .report)) (begun (pastTest b operation) operation store) (endedBy b store 0x04)
 
 -- "0: reset, then collecting, with no completion."; "08/09 clear/set enable"
-unfoldable pub decoded : Body → Store → Decoded → Reply
-decoded b store Reset = done (resetOf b) Nothing
+unfoldable pub decoded : Body → Store → Decoded → Turn
+decoded b store Reset = resetOf b
 decoded b store (Code code) = endedBy b store code
 decoded b store (Track track) = settled (setCurrent b (tracked (current b) track)) store
 decoded b store (Enable enable) = settled (setFlags b (b .changed) enable) store
@@ -94,7 +92,7 @@ decoded b store (Operate operation) = operated b operation store
 unfoldable pub cleared : Body → Body
 cleared b = setOutcome b noOutcome
 
-unfoldable pub carriedOut : Body → Store → Reply
+unfoldable pub carriedOut : Body → Store → Turn
 carriedOut b store =
     pick (namesDrive store) (pick (leb 4 (named store)) (endedBy (cleared b) store 0x01) (decoded (setSelected (cleared b) (named store)) store (asked store)))
     (decoded (cleared b) store (asked store))

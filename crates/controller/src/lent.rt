@@ -1,13 +1,14 @@
 // The two calls that are lent space, data and result, as far as they concern the state.
-use crate::body::put_current;
-use crate::body::refuse;
-use crate::damaged::is_sound;
-use crate::state::Body;
-use crate::state::Controller;
-use crate::state::Phase;
-use crate::state::Transfer;
+use crate::controller::Controller;
+use crate::controller::Transfer;
+use crate::controller::carried;
+use crate::controller::refuse;
+use crate::machine::in_range;
 use crate::stores::end_operation;
 use crate::stores::ordered;
+use link::body::put_current;
+use link::state::Body;
+use link::state::Phase;
 use operations::operation::Operation;
 use operations::store::Store;
 use status::drives::Drive;
@@ -37,9 +38,10 @@ ghost use Rattle.records.specs.Count.{limit, countOf};
 ghost use Rattle.operations.specs.Store.{heldCount};
 ghost use Rattle.transfers.specs.Data.{isGcr, runsShort, withUnderflow, dataRefusal};
 ghost use Rattle.transfers.specs.Results.{resultOf, resultRefusal};
-ghost use Rattle.controller.specs.State.{setOutcome, refused};
+ghost use Rattle.link.specs.State.{setOutcome};
+ghost use Rattle.controller.specs.Controller.{refused};
 ghost use Rattle.controller.specs.Records.{answered, zeroedWords, dataDone, resultBody, resultDone};
-ghost use Rattle.controller.specs.Damaged.{sound};
+ghost use Rattle.link.specs.Damaged.{sound};
 ghost use Rattle.controller.specs.Machine.{dataFor, dataIn, dataCall, resultFor, resultIn, resultCall};
 
 // Tertiary and quintary zeroed, where the data call zeroes them.
@@ -82,7 +84,7 @@ pub fn data_done(
     let bytes = put_record(store, host, drive.density, space);
     put_data_check(drive, store, &space[..bytes], check);
     let body = data_body(b, drive, store, host);
-    let reply = ordered(body, Operation::Write, store);
+    let reply = carried(ordered(body, Operation::Write, store));
     Transfer { reply, bytes }
 }
 
@@ -166,7 +168,7 @@ pub fn result_done(
         wanted,
         room,
     );
-    let reply = end_operation(body, operation, store);
+    let reply = carried(end_operation(body, operation, store));
     Transfer { reply, bytes: fit }
 }
 
@@ -245,7 +247,7 @@ pub fn take_result(
 
 // The data call, by the phase: it writes the selected drive.
 pub fn data_in(c: Controller, host: &[u8], space: &mut [u8], check: &mut [u8]) -> Transfer
-    requires { ⌜ sound c ≡ true ⌝ }
+    requires { ⌜ sound (c .body) (c .phase) ≡ true ⌝ }
     ensures { λ r. ⌜ answered r (now (space .exit)) (now (check .exit)) ≡ dataIn c (c .body) (now (host .entry)) (now (space .entry)) (now (check .entry)) (c .phase) ⌝ }
 {
     let drives = c.body.drives;
@@ -298,8 +300,8 @@ impl Controller {
     pub fn data(self, host: &[u8], space: &mut [u8], check: &mut [u8]) -> Transfer
         ensures { λ r. ⌜ answered r (now (space .exit)) (now (check .exit)) ≡ dataCall self (now (host .entry)) (now (space .entry)) (now (check .entry)) ⌝ }
     {
-        let sound = is_sound(self);
-        if sound {
+        let whole = in_range(self);
+        if whole {
             return data_in(self, host, space, check);
         }
         refuse_transfer(1, self)
@@ -318,8 +320,8 @@ impl Controller {
     ) -> Transfer
         ensures { λ r. ⌜ answered r (now (space .exit)) (now (check .exit)) ≡ resultCall self (resultOf code mark late (now (image .entry)) (now (marks .entry))) (now (space .entry)) (now (check .entry)) ⌝ }
     {
-        let sound = is_sound(self);
-        if sound {
+        let whole = in_range(self);
+        if whole {
             return result_in(self, code, mark, late, image, marks, space, check);
         }
         refuse_transfer(1, self)

@@ -1,10 +1,5 @@
-// The controller: its state, and the calls that take it and hand it back.
-pub mod body;
-pub mod completion;
-pub mod damaged;
+// The controller: the state, what stores ask for, and the calls.
+pub mod controller;
 pub mod lent;
-pub mod link;
-pub mod loads;
 pub mod machine;
-pub mod state;
 pub mod stores;

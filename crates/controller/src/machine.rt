@@ -1,25 +1,98 @@
 // The calls of the machine that are lent nothing. Each refuses a damaged state, else goes by the phase.
-use crate::body::go_reset;
-use crate::body::put_report;
-use crate::body::refuse;
-use crate::body::reply;
-use crate::damaged::is_sound;
-use crate::link::broken_in;
-use crate::link::byte_in;
-use crate::link::tick_in;
-use crate::loads::loaded;
-use crate::state::Action;
-use crate::state::Body;
-use crate::state::Controller;
-use crate::state::Phase;
-use crate::state::Reply;
+use crate::controller::Controller;
+use crate::controller::Reply;
+use crate::controller::carried;
+use crate::controller::refuse;
 use crate::stores::carried_out;
 use crate::stores::store_of;
+use link::body::go_idle;
+use link::body::go_reset;
+use link::body::put_report;
+use link::completion::complete;
+use link::damaged::is_sound;
+use link::link::collected_byte;
+use link::link::given_up;
+use link::link::go_answered;
+use link::link::go_refused;
+use link::link::idle_tick;
+use link::link::send_answered;
+use link::loads::loaded;
+use link::state::Action;
+use link::state::Body;
+use link::state::Phase;
+use link::state::Turn;
 ghost use mathlib.Core.Path.{_≡_};
-ghost use Rattle.controller.specs.Machine.{takenBody, takenIn, byteCall, brokenCall, tickCall, takenCall, reportCall, resetCall};
+ghost use mathlib.Core.Bool.{true};
+ghost use Rattle.link.specs.Damaged.{sound};
+ghost use Rattle.controller.specs.Machine.{byteIn, brokenIn, tickIn, takenBody, takenIn, byteCall, brokenCall, tickCall, takenCall, reportCall, resetCall};
+
+// Whether no field of the state is out of range.
+pub fn in_range(c: Controller) -> bool
+    ensures { λ r. ⌜ r ≡ sound (c .body) (c .phase) ⌝ }
+{
+    let phase = c.phase;
+    is_sound(c.body, phase)
+}
+
+// A broken link, by the phase.
+fn broken_in(c: Controller) -> Reply
+    ensures { λ r. ⌜ r ≡ brokenIn c (c .body) (c .phase) ⌝ }
+{
+    let b = c.body;
+    let phase = c.phase;
+    match phase {
+        Phase::Collecting => carried(go_idle(b, Action::Nothing)),
+        Phase::AckOffered => carried(go_idle(b, Action::Nothing)),
+        Phase::Sending(send) => {
+            let kind = send.kind;
+            carried(given_up(b, kind))
+        }
+        Phase::GoOffered(store) => carried(go_refused(b, store)),
+        Phase::EndOffered(interrupt) => carried(complete(b, interrupt)),
+        _ => refuse(2, c),
+    }
+}
+
+// A byte, by the phase. Where ACK or EOR is offered, and where a byte is refused, it goes the way of a broken link.
+fn byte_in(c: Controller, byte: u8) -> Reply
+    requires { ⌜ sound (c .body) (c .phase) ≡ true ⌝ }
+    ensures { λ r. ⌜ r ≡ byteIn c (c .body) byte (c .phase) ⌝ }
+{
+    let b = c.body;
+    let phase = c.phase;
+    match phase {
+        Phase::Collecting => carried(collected_byte(b, byte)),
+        Phase::Sending(send) => carried(send_answered(b, byte, send)),
+        Phase::GoOffered(store) => carried(go_answered(b, byte, store)),
+        _ => broken_in(c),
+    }
+}
+
+// A tick while collecting, which is idle where nothing is collected.
+fn collecting_tick(c: Controller) -> Reply
+    ensures { λ r. ⌜ r ≡ tickIn c (c .body) Phase.Collecting ⌝ }
+{
+    let b = c.body;
+    let empty = b.collected.length == 0;
+    if empty {
+        return carried(idle_tick(b));
+    }
+    refuse(4, c)
+}
+
+// A tick, by the phase.
+fn tick_in(c: Controller) -> Reply
+    ensures { λ r. ⌜ r ≡ tickIn c (c .body) (c .phase) ⌝ }
+{
+    let phase = c.phase;
+    match phase {
+        Phase::Collecting => collecting_tick(c),
+        _ => refuse(4, c),
+    }
+}
 
 // The string that was collected is carried out: a load or a store, by its lead.
-fn taken_body(b: Body) -> Reply
+fn taken_body(b: Body) -> Turn
     ensures { λ r. ⌜ r ≡ takenBody b ⌝ }
 {
     let string = b.collected;
@@ -38,7 +111,7 @@ fn taken_in(c: Controller) -> Reply
     let b = c.body;
     let phase = c.phase;
     match phase {
-        Phase::AckOffered => taken_body(b),
+        Phase::AckOffered => carried(taken_body(b)),
         _ => refuse(2, c),
     }
 }
@@ -48,8 +121,8 @@ impl Controller {
     pub fn byte(self, byte: u8) -> Reply
         ensures { λ r. ⌜ r ≡ byteCall self byte ⌝ }
     {
-        let in_range = is_sound(self);
-        if in_range {
+        let whole = in_range(self);
+        if whole {
             return byte_in(self, byte);
         }
         refuse(1, self)
@@ -59,8 +132,8 @@ impl Controller {
     pub fn broken(self) -> Reply
         ensures { λ r. ⌜ r ≡ brokenCall self ⌝ }
     {
-        let in_range = is_sound(self);
-        if in_range {
+        let whole = in_range(self);
+        if whole {
             return broken_in(self);
         }
         refuse(1, self)
@@ -70,8 +143,8 @@ impl Controller {
     pub fn tick(self) -> Reply
         ensures { λ r. ⌜ r ≡ tickCall self ⌝ }
     {
-        let in_range = is_sound(self);
-        if in_range {
+        let whole = in_range(self);
+        if whole {
             return tick_in(self);
         }
         refuse(1, self)
@@ -81,8 +154,8 @@ impl Controller {
     pub fn taken(self) -> Reply
         ensures { λ r. ⌜ r ≡ takenCall self ⌝ }
     {
-        let in_range = is_sound(self);
-        if in_range {
+        let whole = in_range(self);
+        if whole {
             return taken_in(self);
         }
         refuse(1, self)
@@ -92,8 +165,8 @@ impl Controller {
     pub fn report(self, drive: u8, report: u8) -> Reply
         ensures { λ r. ⌜ r ≡ reportCall self drive report ⌝ }
     {
-        let in_range = is_sound(self);
-        if in_range {
+        let whole = in_range(self);
+        if whole {
             let above = 4 <= drive;
             if above {
                 return refuse(5, self);
@@ -101,7 +174,12 @@ impl Controller {
             let b = self.body;
             let phase = self.phase;
             let body = put_report(b, drive, report);
-            return reply(Controller { body, phase }, Action::Nothing);
+            let turn = Turn {
+                body,
+                phase,
+                action: Action::Nothing,
+            };
+            return carried(turn);
         }
         refuse(1, self)
     }
@@ -110,10 +188,10 @@ impl Controller {
     pub fn reset(self) -> Reply
         ensures { λ r. ⌜ r ≡ resetCall self ⌝ }
     {
-        let in_range = is_sound(self);
-        if in_range {
+        let whole = in_range(self);
+        if whole {
             let b = self.body;
-            return go_reset(b);
+            return carried(go_reset(b));
         }
         refuse(1, self)
     }

@@ -1,20 +1,17 @@
 // Stores: what the address and the operand ask for, and how it is carried out.
-use crate::body::clear_outcome;
-use crate::body::current_drive;
-use crate::body::go_reset;
-use crate::body::put_current;
-use crate::body::reply;
-use crate::body::with_flags;
-use crate::completion::complete;
-use crate::completion::with_code;
-use crate::link::END_OF_RECORD;
-use crate::link::GO;
-use crate::state::Action;
-use crate::state::Body;
-use crate::state::Collected;
-use crate::state::Controller;
-use crate::state::Phase;
-use crate::state::Reply;
+use link::body::current_drive;
+use link::body::go_reset;
+use link::body::put_current;
+use link::body::with_flags;
+use link::completion::complete;
+use link::completion::with_code;
+use link::link::END_OF_RECORD;
+use link::link::GO;
+use link::state::Action;
+use link::state::Body;
+use link::state::Collected;
+use link::state::Phase;
+use link::state::Turn;
 use operations::decode::Decoded;
 use operations::operation::Operation;
 use operations::operation::counts_bytes;
@@ -30,8 +27,9 @@ use operations::test::may_move;
 use status::drives::Drive;
 use status::strings::Six;
 use status::strings::order_of;
+use status::words::no_outcome;
 ghost use mathlib.Core.Path.{_≡_};
-ghost use Rattle.controller.specs.Stores.{storeOf, tracked, withDensity, motionOrder, pastTest, endedBy, settled, ordered, begun, operated, decoded, carriedOut};
+ghost use Rattle.controller.specs.Stores.{storeOf, tracked, withDensity, motionOrder, pastTest, endedBy, settled, ordered, begun, operated, decoded, cleared, carriedOut};
 ghost use Rattle.controller.specs.Records.{ending};
 
 // The store that was collected.
@@ -101,23 +99,23 @@ pub fn past_test(mut b: Body, operation: Operation) -> Body
 }
 
 // The end of an operation with a result: EOR is offered, or the store is completed at once.
-pub fn end_operation(b: Body, operation: Operation, store: Store) -> Reply
+pub fn end_operation(b: Body, operation: Operation, store: Store) -> Turn
     ensures { λ r. ⌜ r ≡ ending b operation store ⌝ }
 {
     let asked = asks_interrupt(store);
     let offered = offers_end(operation);
     if offered {
-        let c = Controller {
+        return Turn {
             body: b,
             phase: Phase::EndOffered(asked),
+            action: Action::Byte(END_OF_RECORD),
         };
-        return reply(c, Action::Byte(END_OF_RECORD));
     }
     complete(b, asked)
 }
 
 // A code ends the store.
-fn ended_by(b: Body, store: Store, code: u8) -> Reply
+fn ended_by(b: Body, store: Store, code: u8) -> Turn
     ensures { λ r. ⌜ r ≡ endedBy b store code ⌝ }
 {
     let coded = with_code(b, code);
@@ -126,7 +124,7 @@ fn ended_by(b: Body, store: Store, code: u8) -> Reply
 }
 
 // A setting is made, and the store is done.
-fn settled(b: Body, store: Store) -> Reply
+fn settled(b: Body, store: Store) -> Turn
     ensures { λ r. ⌜ r ≡ settled b store ⌝ }
 {
     let asked = asks_interrupt(store);
@@ -134,41 +132,41 @@ fn settled(b: Body, store: Store) -> Reply
 }
 
 // The move is ordered, and its result awaited.
-pub fn ordered(b: Body, operation: Operation, store: Store) -> Reply
+pub fn ordered(b: Body, operation: Operation, store: Store) -> Turn
     ensures { λ r. ⌜ r ≡ ordered b operation store ⌝ }
 {
     let order = motion_order(b, operation, store);
-    let c = Controller {
+    Turn {
         body: b,
         phase: Phase::ResultAwaited(operation, store),
-    };
-    reply(c, Action::Order(order))
+        action: Action::Order(order),
+    }
 }
 
 // A write offers GO: the host's data comes before the move.
-fn offer_go(b: Body, store: Store) -> Reply
+fn offer_go(b: Body, store: Store) -> Turn
     ensures { λ r. ⌜ r ≡ begun b Operation.Write store ⌝ }
 {
-    let c = Controller {
+    Turn {
         body: b,
         phase: Phase::GoOffered(store),
-    };
-    reply(c, Action::Byte(GO))
+        action: Action::Byte(GO),
+    }
 }
 
 // Check bytes await a result with no order.
-fn await_check_bytes(b: Body, store: Store) -> Reply
+fn await_check_bytes(b: Body, store: Store) -> Turn
     ensures { λ r. ⌜ r ≡ begun b Operation.CheckBytes store ⌝ }
 {
-    let c = Controller {
+    Turn {
         body: b,
         phase: Phase::ResultAwaited(Operation::CheckBytes, store),
-    };
-    reply(c, Action::Nothing)
+        action: Action::Nothing,
+    }
 }
 
 // An operation begins.
-fn begun(b: Body, operation: Operation, store: Store) -> Reply
+fn begun(b: Body, operation: Operation, store: Store) -> Turn
     ensures { λ r. ⌜ r ≡ begun b operation store ⌝ }
 {
     match operation {
@@ -179,7 +177,7 @@ fn begun(b: Body, operation: Operation, store: Store) -> Reply
 }
 
 // An operation begins where the drive may carry it out.
-fn operated(b: Body, operation: Operation, store: Store) -> Reply
+fn operated(b: Body, operation: Operation, store: Store) -> Turn
     ensures { λ r. ⌜ r ≡ operated b operation store ⌝ }
 {
     let drive = current_drive(b);
@@ -193,7 +191,7 @@ fn operated(b: Body, operation: Operation, store: Store) -> Reply
 }
 
 // A track is selected for the drive.
-fn select_track(b: Body, store: Store, track: u8) -> Reply
+fn select_track(b: Body, store: Store, track: u8) -> Turn
     ensures { λ r. ⌜ r ≡ decoded b store (Decoded.Track track) ⌝ }
 {
     let drive = current_drive(b);
@@ -202,7 +200,7 @@ fn select_track(b: Body, store: Store, track: u8) -> Reply
 }
 
 // Enable is cleared or set.
-fn set_enable(b: Body, store: Store, enable: bool) -> Reply
+fn set_enable(b: Body, store: Store, enable: bool) -> Turn
     ensures { λ r. ⌜ r ≡ decoded b store (Decoded.Enable «enable») ⌝ }
 {
     let enabled = with_flags(b, b.changed, enable);
@@ -210,7 +208,7 @@ fn set_enable(b: Body, store: Store, enable: bool) -> Reply
 }
 
 // A density is selected for the drive.
-fn select_density(b: Body, store: Store, density: u8) -> Reply
+fn select_density(b: Body, store: Store, density: u8) -> Turn
     ensures { λ r. ⌜ r ≡ decoded b store (Decoded.Density density) ⌝ }
 {
     let drive = current_drive(b);
@@ -219,7 +217,7 @@ fn select_density(b: Body, store: Store, density: u8) -> Reply
 }
 
 // What a store asks for is done.
-fn decoded(b: Body, store: Store, asked: Decoded) -> Reply
+fn decoded(b: Body, store: Store, asked: Decoded) -> Turn
     ensures { λ r. ⌜ r ≡ decoded b store asked ⌝ }
 {
     match asked {
@@ -232,8 +230,17 @@ fn decoded(b: Body, store: Store, asked: Decoded) -> Reply
     }
 }
 
+// Bits 2 and 8-22 of primary cleared.
+fn clear_outcome(mut b: Body) -> Body
+    ensures { λ r. ⌜ r ≡ cleared b ⌝ }
+{
+    let none = no_outcome();
+    b.outcome = none;
+    b
+}
+
 // A store is carried out: the drive that it names is selected first.
-pub fn carried_out(b: Body, store: Store) -> Reply
+pub fn carried_out(b: Body, store: Store) -> Turn
     ensures { λ r. ⌜ r ≡ carriedOut b store ⌝ }
 {
     let mut cleared = clear_outcome(b);

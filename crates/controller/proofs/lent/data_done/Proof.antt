@@ -8,8 +8,10 @@ use lib.ListN.{take, length}
 use Rattle.records.specs.Image.{imageOf}
 use Rattle.operations.specs.declared.operation.Operation.the-variants.{Write}
 use Rattle.transfers.specs.Data.{recordBytes}
+use Rattle.link.specs.declared.state.Turn.{Turn}
+use Rattle.controller.specs.Controller.{carried}
 use Rattle.controller.specs.Stores.{ordered}
-use Rattle.controller.specs.declared.state.Body.{Body}
+use Rattle.link.specs.declared.state.Body.{Body}
 use Rattle.transfers.proofs.DataLaws.{given-prefix, given-room, record-image-length, data-ready}
 use Rattle.controller.proofs.TransferLaws.{data-answer}
 use Rattle.controller.proofs.lent.data_done.Statement.{statement}
@@ -49,20 +51,24 @@ data-body-requires c κs = search needs
 ordered-requires : tie.Need-ordered-requires
 ordered-requires c κs = search needs
 
+carried-requires : tie.Need-carried-requires
+carried-requires c κs = search needs
+
 same-length : tie.Need-same-length
-same-length c = search needs
+same-length c = c .before .before .before .before .before .before .before .before .before .before .put-record .kept .1 .1 .1 .0
 
 same-length-2 : tie.Need-same-length-2
 same-length-2 c = search needs
 
 returns : tie.Need-returns
 returns c =
-    let m = c .before in
+    let o = c .before in
+    let m = o .before in
     let k = m .before .before .before in
     let p = k .before .before .before .before .before in
     let a = p .before .before .before .before .before .args in
     data-answer (a .b) (a .drive) (a .store) (a .host .now) (a .space .now) (a .check .now)
-    _ _ _ _ (c .ordered .ensures ∙ ap (λ (x : Body). ordered x Write (a .store)) (m .data-body .ensures))
+    _ _ _ _ (c .carried .ensures ∙ ap (λ (x : Turn). carried x) (o .ordered .ensures ∙ ap (λ (x : Body). ordered x Write (a .store)) (m .data-body .ensures)))
     (p .put-record .ensures .0) (p .put-record .ensures .1) (k .put-data-check .ensures)
 
 pub data-done-spec : {M : Type 1} → statement M
@@ -75,6 +81,7 @@ data-done-spec =
     put-data-check-requires
     data-body-requires
     ordered-requires
+    carried-requires
     same-length
     same-length-2
     returns)

@@ -6,13 +6,13 @@ use mathlib.Core.Path.{_≡_, refl, _∙_}
 use mathlib.Core.List.{List, [], _∷_}
 use types.Run.{OneOf, miss}
 use denote.Enum.Declared.{tagOf}
-use Rattle.controller.specs.declared.state.Phase.{Phase}
-use Rattle.controller.specs.declared.state.Phase.the-variants.{Collecting, AckOffered, Sending, GoOffered, DataAwaited, ResultAwaited, EndOffered}
-use Rattle.controller.specs.declared.state.Body.{Body}
-use Rattle.controller.specs.declared.state.Controller.{Controller}
+use Rattle.link.specs.declared.state.Phase.{Phase}
+use Rattle.link.specs.declared.state.Phase.the-variants.{Collecting, AckOffered, Sending, GoOffered, DataAwaited, ResultAwaited, EndOffered}
+use Rattle.link.specs.declared.state.Body.{Body}
+use Rattle.controller.specs.declared.controller.Controller.{Controller}
 use Rattle.controller.specs.Machine.{dataIn, unchanged}
-use Rattle.controller.proofs.state.Phase.{the-type}
-use Rattle.controller.proofs.SoundLaws.{data-count}
+use Rattle.link.proofs.state.Phase.{the-type}
+use Rattle.link.proofs.SoundLaws.{data-count}
 use Rattle.controller.proofs.lent.data_in.Statement.{statement}
 use Rattle.controller.proofs.lent.data_in.Tie as tie
 
@@ -40,7 +40,7 @@ take-data-requires : tie.Need-take-data-requires
 take-data-requires c κs =
     let m = c .before .before .before in
     let e = m .before .before .before .before .before .before .before in
-    data-count (e .args .c) _ (e .pre) (m .phase .given .1)
+    data-count (e .args .c .body) (e .args .c .phase) _ (e .pre) (m .phase .given .1)
 
 refuse-transfer-requires : tie.Need-refuse-transfer-requires
 refuse-transfer-requires c κs = search needs

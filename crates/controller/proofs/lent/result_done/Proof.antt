@@ -5,6 +5,8 @@ use mathlib.Core.Path.{ap, _∙_}
 use mathlib.Core.List.{List}
 use Prim.Native.Nat.{ℕ}
 use Rattle.transfers.specs.Results.{resultOf}
+use Rattle.link.specs.declared.state.Turn.{Turn}
+use Rattle.controller.specs.Controller.{carried}
 use Rattle.controller.specs.Records.{resultGiven, resultDone}
 use Rattle.transfers.proofs.ResultLaws.{result-passed, delivered-parts}
 use Rattle.controller.proofs.TransferLaws.{result-answer}
@@ -35,6 +37,9 @@ result-body-requires c κs =
 end-operation-requires : tie.Need-end-operation-requires
 end-operation-requires c κs = search needs
 
+carried-requires : tie.Need-carried-requires
+carried-requires c κs = search needs
+
 same-length : tie.Need-same-length
 same-length c = search needs
 
@@ -44,14 +49,15 @@ same-length-2 c = search needs
 returns : tie.Need-returns
 unfolding resultDone
 returns c =
-    let m = c .before in
+    let o = c .before in
+    let m = o .before in
     let k = m .before .before .before in
     let g = k .before .before .before .before in
     let v = g .before .before in
     let a = v .before .before .before .before .before .before .args in
     let r = resultOf (a .code) (a .mark) (a .late) (a .image .now) (a .marks .now) in
     result-answer (a .b) (a .drive) (a .operation) (a .store) (a .code) (a .mark) (a .late) (a .image .now) (a .marks .now) (a .space .now) (a .check .now)
-    _ _ _ _ _ _ (m .result-body .ensures) (c .end-operation .ensures) (g .give-fitting .ensures .0) (g .give-fitting .ensures .1) (k .put-result-check .ensures)
+    _ _ _ _ _ _ (m .result-body .ensures) (c .carried .ensures ∙ ap (λ (x : Turn). carried x) (o .end-operation .ensures)) (g .give-fitting .ensures .0) (g .give-fitting .ensures .1) (k .put-result-check .ensures)
     ∙ ap (λ (x : List ℕ). resultGiven (a .b) (a .drive) (a .operation) (a .store) r x (a .space .now) (a .check .now))
     (v .delivered-bytes .ensures ∙ delivered-parts _ (a .operation) (a .code) (a .mark) (a .late) (a .image .now) (a .marks .now) (a .check .now))
 
@@ -64,6 +70,7 @@ result-done-spec =
     put-result-check-requires
     result-body-requires
     end-operation-requires
+    carried-requires
     same-length
     same-length-2
     returns)

@@ -6,12 +6,12 @@ use mathlib.Core.Path.{_≡_, refl}
 use mathlib.Core.List.{List, [], _∷_}
 use types.Run.{OneOf, miss}
 use denote.Enum.Declared.{tagOf}
-use Rattle.controller.specs.declared.state.Phase.{Phase}
-use Rattle.controller.specs.declared.state.Phase.the-variants.{Collecting, AckOffered, Sending, GoOffered, DataAwaited, ResultAwaited, EndOffered}
-use Rattle.controller.specs.declared.state.Body.{Body}
-use Rattle.controller.specs.declared.state.Controller.{Controller}
-use Rattle.controller.specs.State.{refused}
-use Rattle.controller.proofs.state.Phase.{the-type}
+use Rattle.link.specs.declared.state.Phase.{Phase}
+use Rattle.link.specs.declared.state.Phase.the-variants.{Collecting, AckOffered, Sending, GoOffered, DataAwaited, ResultAwaited, EndOffered}
+use Rattle.link.specs.declared.state.Body.{Body}
+use Rattle.controller.specs.declared.controller.Controller.{Controller}
+use Rattle.controller.specs.Controller.{refused}
+use Rattle.link.proofs.state.Phase.{the-type}
 use Rattle.controller.specs.Machine.{takenIn}
 use Rattle.controller.proofs.machine.taken_in.Statement.{statement}
 use Rattle.controller.proofs.machine.taken_in.Tie as tie
@@ -36,14 +36,18 @@ enum-told c = search needs
 taken-body-requires : tie.Need-taken-body-requires
 taken-body-requires c κs = search needs
 
+carried-requires : tie.Need-carried-requires
+carried-requires c κs = search needs
+
 refuse-requires : tie.Need-refuse-requires
 refuse-requires c κs = search needs
 
 returns : tie.Need-returns
 unfolding takenIn
 returns c = simp (
-  c .taken-body .ensures,
-  c .before .enum-told .given .1,
+  c .carried .ensures,
+  c .before .taken-body .ensures,
+  c .before .before .enum-told .given .1,
 )
 
 returns-2 : tie.Need-returns-2
@@ -53,4 +57,4 @@ returns-2 c =
 
 pub taken-in-spec : {M : Type 1} → statement M
 taken-in-spec =
-    tie.close (tie.spec enum-told taken-body-requires refuse-requires returns returns-2)
+    tie.close (tie.spec enum-told taken-body-requires carried-requires refuse-requires returns returns-2)

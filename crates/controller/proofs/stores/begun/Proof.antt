@@ -10,7 +10,7 @@ use Rattle.operations.specs.declared.operation.Operation.{Operation}
 use Rattle.operations.specs.declared.operation.Operation.the-variants.{Read, CheckBytes, Write, Erase, Rewind, FastForward, SkipForward, SkipReverse, SearchForward, SearchReverse, WriteMark}
 use Rattle.operations.proofs.operation.Operation.{the-type}
 use Rattle.operations.specs.declared.store.Store.{Store}
-use Rattle.controller.specs.declared.state.Body.{Body}
+use Rattle.link.specs.declared.state.Body.{Body}
 use Rattle.controller.specs.Stores.{ordered, begun}
 use Rattle.controller.proofs.stores.begun.Statement.{statement}
 use Rattle.controller.proofs.stores.begun.Tie as tie

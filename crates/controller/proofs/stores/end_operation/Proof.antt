@@ -1,7 +1,7 @@
 -- `controller::stores::end_operation` meets its contract: it is its definition.
 -- Assumes nothing.
-use Rattle.common.specs.Pick.{pick}
 use borrow.Author.Needs.{needs}
+use Rattle.common.specs.Pick.{pick}
 use Rattle.controller.specs.Records.{ending}
 use Rattle.controller.proofs.stores.end_operation.Statement.{statement}
 use Rattle.controller.proofs.stores.end_operation.Tie as tie
@@ -12,16 +12,12 @@ asks-interrupt-requires c κs = search needs
 offers-end-requires : tie.Need-offers-end-requires
 offers-end-requires c κs = search needs
 
-reply-requires : tie.Need-reply-requires
-reply-requires c κs = search needs
-
 returns : tie.Need-returns
 unfolding ending pick
 returns c = simp (
-  c .reply .ensures,
-  c .before .if1 .taken,
-  ← c .before .before .offers-end .ensures,
-  c .before .before .before .asks-interrupt .ensures,
+  c .if1 .taken,
+  ← c .before .offers-end .ensures,
+  c .before .before .asks-interrupt .ensures,
 )
 
 complete-requires : tie.Need-complete-requires
@@ -39,10 +35,4 @@ returns-2 c = simp (
 pub end-operation-spec : {M : Type 1} → statement M
 end-operation-spec =
     tie.close
-    (tie.spec
-    asks-interrupt-requires
-    offers-end-requires
-    reply-requires
-    returns
-    complete-requires
-    returns-2)
+    (tie.spec asks-interrupt-requires offers-end-requires returns complete-requires returns-2)

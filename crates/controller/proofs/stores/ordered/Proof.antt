@@ -8,15 +8,9 @@ use Rattle.controller.proofs.stores.ordered.Tie as tie
 motion-order-requires : tie.Need-motion-order-requires
 motion-order-requires c κs = search needs
 
-reply-requires : tie.Need-reply-requires
-reply-requires c κs = search needs
-
 returns : tie.Need-returns
 unfolding ordered
-returns c = simp (
-  c .reply .ensures,
-  c .before .motion-order .ensures,
-)
+returns c = simp (c .motion-order .ensures)
 
 pub ordered-spec : {M : Type 1} → statement M
-ordered-spec = tie.close (tie.spec motion-order-requires reply-requires returns)
+ordered-spec = tie.close (tie.spec motion-order-requires returns)

@@ -1,0 +1,55 @@
+-- `controller::machine::tick_in` meets its contract: by the phase.
+-- Assumes nothing.
+use borrow.Author.Needs.{needs}
+use Prim.Native.Nat.{ℕ}
+use mathlib.Core.Path.{_≡_, refl}
+use mathlib.Core.List.{List, [], _∷_}
+use types.Run.{OneOf, miss}
+use denote.Enum.Declared.{tagOf}
+use Rattle.link.specs.declared.state.Phase.{Phase}
+use Rattle.link.specs.declared.state.Phase.the-variants.{Collecting, AckOffered, Sending, GoOffered, DataAwaited, ResultAwaited, EndOffered}
+use Rattle.link.specs.declared.state.Body.{Body}
+use Rattle.controller.specs.declared.controller.Controller.{Controller}
+use Rattle.controller.specs.Controller.{refused}
+use Rattle.link.proofs.state.Phase.{the-type}
+use Rattle.controller.specs.Machine.{tickIn}
+use Rattle.controller.proofs.machine.tick_in.Statement.{statement}
+use Rattle.controller.proofs.machine.tick_in.Tie as tie
+
+-- the phases of the last arm, by their numbers
+abbrev six : List ℕ
+six = 1 ∷ 2 ∷ 3 ∷ 4 ∷ 5 ∷ 6 ∷ []
+
+others : (c : Controller) (b : Body) (phase : Phase) → OneOf six (tagOf the-type phase) → tickIn c b phase ≡ refused 4 c
+unfolding tickIn
+others c b Collecting key = absurd (miss six 0 tt key)
+others c b AckOffered key = refl
+others c b (Sending send) key = refl
+others c b (GoOffered store) key = refl
+others c b (DataAwaited store) key = refl
+others c b (ResultAwaited operation store) key = refl
+others c b (EndOffered interrupt) key = refl
+
+enum-told : tie.Need-enum-told
+enum-told c = search needs
+
+collecting-tick-requires : tie.Need-collecting-tick-requires
+collecting-tick-requires c κs = search needs
+
+refuse-requires : tie.Need-refuse-requires
+refuse-requires c κs = search needs
+
+returns : tie.Need-returns
+returns c = simp (
+  c .collecting-tick .ensures,
+  c .before .enum-told .given .1,
+)
+
+returns-2 : tie.Need-returns-2
+returns-2 c =
+    let given = c .before .before .args .c in
+    simp (c .refuse .ensures, others given (given .body) (given .phase) (c .before .match .keys2))
+
+pub tick-in-spec : {M : Type 1} → statement M
+tick-in-spec =
+    tie.close (tie.spec enum-told collecting-tick-requires refuse-requires returns returns-2)

@@ -1,0 +1,22 @@
+-- The fresh controller, and what a call hands back (document 01, The link; Turned back).
+-- Assumes nothing.
+use Prim.Native.Nat.{ℕ}
+use Rattle.status.specs.Drives.{freshDrives}
+use Rattle.link.specs.declared.state.Phase.the-variants.{Collecting}
+use Rattle.link.specs.declared.state.Action.the-variants.{Nothing}
+use Rattle.link.specs.declared.state.Turn.{Turn}
+use Rattle.link.specs.State.{startBody}
+use Rattle.controller.specs.declared.controller.Controller.{Controller}
+use Rattle.controller.specs.declared.controller.Reply.{Reply}
+
+-- "Fresh: .. collecting."
+unfoldable pub fresh : Controller
+fresh = record { body = startBody freshDrives; phase = Collecting }
+
+-- a call that is carried out
+abbrev pub carried : Turn → Reply
+carried turn = record { controller = record { body = turn .body; phase = turn .phase }; action = turn .action; refusal = 0 }
+
+-- "state and buffers unchanged, no action"
+abbrev pub refused : ℕ → Controller → Reply
+refused number c = record { controller = c; action = Nothing; refusal = number }

@@ -1,0 +1,63 @@
+// The state, and what a call hands back. The state goes into a call by value and comes back.
+use link::body::start_body;
+use link::state::Action;
+use link::state::Body;
+use link::state::Phase;
+use link::state::Turn;
+use status::drives::fresh_drives;
+ghost use mathlib.Core.Path.{_≡_};
+ghost use Rattle.controller.specs.Controller.{fresh, carried, refused};
+
+pub struct Controller {
+    pub body: Body,
+    pub phase: Phase,
+}
+
+// What a call hands back. The refusal is document 01's number, 0 where the call is carried out.
+pub struct Reply {
+    pub controller: Controller,
+    pub action: Action,
+    pub refusal: u32,
+}
+
+// What a data or result call hands back: the reply, and how many bytes of the lent space it gives (the image's, or those delivered).
+pub struct Transfer {
+    pub reply: Reply,
+    pub bytes: usize,
+}
+
+// A fresh controller.
+pub fn fresh_controller() -> Controller
+    ensures { λ r. ⌜ r ≡ fresh ⌝ }
+{
+    let body = start_body(fresh_drives());
+    Controller {
+        body,
+        phase: Phase::Collecting,
+    }
+}
+
+// A call that is carried out.
+pub fn carried(turn: Turn) -> Reply
+    ensures { λ r. ⌜ r ≡ carried turn ⌝ }
+{
+    let body = turn.body;
+    let phase = turn.phase;
+    let action = turn.action;
+    Reply {
+        controller: Controller { body, phase },
+        action,
+        refusal: 0,
+    }
+}
+
+// A call that is refused.
+pub fn refuse(number: u32, c: Controller) -> Reply
+    ensures { λ r. ⌜ r ≡ refused number c ⌝ }
+{
+    Reply {
+        controller: c,
+        action: Action::Nothing,
+        refusal: number,
+    }
+}

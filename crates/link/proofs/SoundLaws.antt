@@ -1,0 +1,59 @@
+-- What a sound state says of the phase it is in: how long a string is that is being collected, and how many noes a send has.
+-- Assumes nothing.
+use Prim.Native.Nat.{ℕ, _≤_, _<_}
+use native.Mathlib.Omega.{arith}
+use mathlib.Core.Path.{_≡_, refl}
+use mathlib.Core.Bool.{Bool, true, false, _&&_, _||_}
+use lib.Dec.{ltb, eqb}
+use borrow.Author.Tests.{ltb-true, leb-true, eqb-true}
+use Rattle.common.proofs.PickLaws.{pick-by}
+use Rattle.records.specs.Count.{limit}
+use Rattle.operations.specs.declared.store.Store.{Store}
+use Rattle.operations.specs.Store.{heldCount}
+use Rattle.link.specs.declared.state.Collected.{Collected}
+use Rattle.link.specs.declared.state.Send.{Send}
+use Rattle.link.specs.declared.state.Phase.{Phase}
+use Rattle.link.specs.declared.state.Phase.the-variants.{Collecting, Sending, DataAwaited}
+use Rattle.link.specs.declared.state.Body.{Body}
+use Rattle.link.specs.Link.{wholeLength}
+use Rattle.link.specs.Damaged.{soundBody, soundLead, soundPart, soundCount, soundPhase, sound}
+
+-- the second of two tests that both hold
+second-holds : (a b : Bool) → (a && b) ≡ true → b ≡ true
+second-holds true b e = e
+second-holds false b e = cc
+
+-- what follows from either of two tests, one of which holds
+by-either : {P : Type 0} (a b : Bool) → (a ≡ true → P) → (b ≡ true → P) → (a || b) ≡ true → P
+by-either true b f g e = f refl
+by-either false b f g e = g e
+
+whole-at-most : (lead : ℕ) → wholeLength lead ≤ 8
+unfolding wholeLength
+whole-at-most lead = pick-by (λ n. n ≤ 8) (eqb lead 0x62) (λ load. omega arith) (λ store. omega arith)
+
+part-short : (s : Collected) → soundPart s ≡ true → s .length < 8
+unfolding soundPart
+part-short s =
+    let whole = wholeLength (s .c0) in
+    by-either (eqb (s .length) 0) (soundLead s && ltb (s .length) whole) (λ none. omega (arith, eqb-true (s .length) 0 none))
+    (λ some. omega (arith, ltb-true (s .length) whole (second-holds (soundLead s) (ltb (s .length) whole) some), whole-at-most (s .c0)))
+
+phase-holds : (b : Body) (phase : Phase) → sound b phase ≡ true → soundPhase (b .collected) phase ≡ true
+unfolding sound
+phase-holds b phase = second-holds (soundBody b) (soundPhase (b .collected) phase)
+
+-- a string that is being collected has room for a byte
+pub collecting-short : (b : Body) (phase : Phase) → sound b phase ≡ true → phase ≡ Collecting → b .collected .length < 8
+unfolding soundPhase
+collecting-short b phase whole told = part-short (b .collected) (rw told at (phase-holds b phase whole))
+
+-- a send has had four noes at most
+pub noes-few : (b : Body) (phase : Phase) (send : Send) → sound b phase ≡ true → phase ≡ Sending send → send .noes ≤ 4
+unfolding soundPhase
+noes-few b phase send whole told = leb-true _ _ (rw told at (phase-holds b phase whole))
+
+-- a count that is held for a data call is within the limit
+pub data-count : (b : Body) (phase : Phase) (store : Store) → sound b phase ≡ true → phase ≡ DataAwaited store → heldCount store ≤ limit
+unfolding soundPhase soundCount
+data-count b phase store whole told = leb-true _ _ (rw told at (phase-holds b phase whole))

@@ -1,0 +1,72 @@
+-- A damaged state (document 01, Turned back): "1 a field out of range (track, gap, selected drive, motion 0-3; density 0-1; code 0-31; noes so
+-- far 0-4; secondary 0-65,535; a held count 0-16,384; a held operation one of the eleven; a string's lead #62 or #64, its bytes fewer than
+-- its length, or all once ACK is offered; all else may have any value)". A held operation is one of the eleven by its type.
+-- Assumes nothing.
+use mathlib.Core.Bool.{Bool, true, _&&_, _||_}
+use lib.Dec.{leb, ltb, eqb}
+use Rattle.records.specs.Count.{limit}
+use Rattle.operations.specs.declared.operation.Operation.{Operation}
+use Rattle.operations.specs.declared.operation.Operation.the-variants.{Read, CheckBytes, Write, Erase, Rewind, FastForward, SkipForward, SkipReverse, SearchForward, SearchReverse, WriteMark}
+use Rattle.status.specs.declared.drives.Drive.{Drive}
+use Rattle.status.specs.declared.drives.Drives.{Drives}
+use Rattle.link.specs.declared.state.Collected.{Collected}
+use Rattle.operations.specs.declared.store.Store.{Store}
+use Rattle.link.specs.declared.state.Phase.{Phase}
+use Rattle.link.specs.declared.state.Phase.the-variants.{Collecting, AckOffered, Sending, GoOffered, DataAwaited, ResultAwaited, EndOffered}
+use Rattle.link.specs.declared.state.Body.{Body}
+use Rattle.link.specs.Link.{wholeLength}
+use Rattle.operations.specs.Store.{heldCount}
+
+-- "track, gap .. 0-3; density 0-1"
+unfoldable pub soundDrive : Drive → Bool
+soundDrive d = leb (d .track) 3 && (leb (d .gap) 3 && leb (d .density) 1)
+
+unfoldable pub soundDrives : Drives → Bool
+soundDrives d = soundDrive (d .d0) && (soundDrive (d .d1) && (soundDrive (d .d2) && soundDrive (d .d3)))
+
+-- "selected drive, motion 0-3; .. code 0-31; .. secondary 0-65,535"
+unfoldable pub soundBody : Body → Bool
+soundBody b =
+    soundDrives (b .drives) && (leb (b .selected) 3 && (leb (b .outcome .motion) 3 && (leb (b .outcome .code) 31 && leb (b .secondary) 65535)))
+
+-- "a string's lead #62 or #64"
+unfoldable pub soundLead : Collected → Bool
+soundLead s = eqb (s .c0) 0x62 || eqb (s .c0) 0x64
+
+-- "its bytes fewer than its length", nothing collected included
+unfoldable pub soundPart : Collected → Bool
+soundPart s = eqb (s .length) 0 || (soundLead s && ltb (s .length) (wholeLength (s .c0)))
+
+-- "or all once ACK is offered"
+unfoldable pub soundString : Collected → Bool
+soundString s = soundLead s && eqb (s .length) (wholeLength (s .c0))
+
+-- "a held count 0-16,384"
+unfoldable pub soundCount : Store → Bool
+soundCount store = leb (heldCount store) limit
+
+unfoldable pub soundHeld : Operation → Store → Bool
+soundHeld Write store = soundCount store
+soundHeld Read store = true
+soundHeld CheckBytes store = true
+soundHeld Erase store = true
+soundHeld Rewind store = true
+soundHeld FastForward store = true
+soundHeld SkipForward store = true
+soundHeld SkipReverse store = true
+soundHeld SearchForward store = true
+soundHeld SearchReverse store = true
+soundHeld WriteMark store = true
+
+unfoldable pub soundPhase : Collected → Phase → Bool
+soundPhase s Collecting = soundPart s
+soundPhase s AckOffered = soundString s
+soundPhase s (Sending send) = leb (send .noes) 4
+soundPhase s (GoOffered store) = soundCount store
+soundPhase s (DataAwaited store) = soundCount store
+soundPhase s (ResultAwaited operation store) = soundHeld operation store
+soundPhase s (EndOffered interrupt) = true
+
+-- no field out of range
+unfoldable pub sound : Body → Phase → Bool
+sound b phase = soundBody b && soundPhase (b .collected) phase

@@ -1,0 +1,5 @@
+pub mod State
+pub mod Completion
+pub mod Link
+pub mod Loads
+pub mod Damaged

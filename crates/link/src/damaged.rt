@@ -1,0 +1,101 @@
+// The test of a damaged state: refusal 1.
+use crate::link::whole_length;
+use crate::state::Body;
+use crate::state::Collected;
+use crate::state::Phase;
+use operations::operation::Operation;
+use operations::store::Store;
+use operations::store::held_count;
+use records::count::LIMIT;
+use status::drives::Drive;
+use status::drives::Drives;
+ghost use mathlib.Core.Path.{_≡_};
+ghost use Rattle.link.specs.Damaged.{soundDrive, soundDrives, soundBody, soundLead, soundPart, soundString, soundCount, soundHeld, soundPhase, sound};
+
+pub fn sound_drive(d: Drive) -> bool
+    ensures { λ r. ⌜ r ≡ soundDrive d ⌝ }
+{
+    (d.track <= 3) & ((d.gap <= 3) & (d.density <= 1))
+}
+
+pub fn sound_drives(d: Drives) -> bool
+    ensures { λ r. ⌜ r ≡ soundDrives d ⌝ }
+{
+    sound_drive(d.d0) & (sound_drive(d.d1) & (sound_drive(d.d2) & sound_drive(d.d3)))
+}
+
+pub fn sound_body(b: Body) -> bool
+    ensures { λ r. ⌜ r ≡ soundBody b ⌝ }
+{
+    sound_drives(b.drives)
+        & ((b.selected <= 3)
+            & ((b.outcome.motion <= 3) & ((b.outcome.code <= 31) & (b.secondary <= 65535))))
+}
+
+// A string begins with the lead of a load or of a store.
+pub fn sound_lead(s: Collected) -> bool
+    ensures { λ r. ⌜ r ≡ soundLead s ⌝ }
+{
+    (s.c0 == 0x62) | (s.c0 == 0x64)
+}
+
+// A string that is being collected.
+pub fn sound_part(s: Collected) -> bool
+    ensures { λ r. ⌜ r ≡ soundPart s ⌝ }
+{
+    (s.length == 0) | (sound_lead(s) & (s.length < whole_length(s.c0)))
+}
+
+// A whole string.
+pub fn sound_string(s: Collected) -> bool
+    ensures { λ r. ⌜ r ≡ soundString s ⌝ }
+{
+    sound_lead(s) & (s.length == whole_length(s.c0))
+}
+
+pub fn sound_count(store: Store) -> bool
+    ensures { λ r. ⌜ r ≡ soundCount store ⌝ }
+{
+    held_count(store) <= LIMIT
+}
+
+// A held operation with its store: a write holds a count.
+pub fn sound_held(operation: Operation, store: Store) -> bool
+    ensures { λ r. ⌜ r ≡ soundHeld operation store ⌝ }
+{
+    match operation {
+        Operation::Write => sound_count(store),
+        Operation::Read => true,
+        Operation::CheckBytes => true,
+        Operation::Erase => true,
+        Operation::Rewind => true,
+        Operation::FastForward => true,
+        Operation::SkipForward => true,
+        Operation::SkipReverse => true,
+        Operation::SearchForward => true,
+        Operation::SearchReverse => true,
+        Operation::WriteMark => true,
+    }
+}
+
+pub fn sound_phase(s: Collected, phase: Phase) -> bool
+    ensures { λ r. ⌜ r ≡ soundPhase s phase ⌝ }
+{
+    match phase {
+        Phase::Collecting => sound_part(s),
+        Phase::AckOffered => sound_string(s),
+        Phase::Sending(send) => send.noes <= 4,
+        Phase::GoOffered(store) => sound_count(store),
+        Phase::DataAwaited(store) => sound_count(store),
+        Phase::ResultAwaited(operation, store) => sound_held(operation, store),
+        Phase::EndOffered(_) => true,
+    }
+}
+
+// Whether no field is out of range.
+pub fn is_sound(b: Body, phase: Phase) -> bool
+    ensures { λ r. ⌜ r ≡ sound b phase ⌝ }
+{
+    let s = b.collected;
+    sound_body(b) & sound_phase(s, phase)
+}

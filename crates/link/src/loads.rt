@@ -1,0 +1,45 @@
+// Loads: which word a load asks for, and its reply.
+use crate::body::go_idle;
+use crate::completion::primary_now;
+use crate::completion::send_word;
+use crate::state::Action;
+use crate::state::Body;
+use crate::state::Kind;
+use crate::state::Turn;
+use status::strings::LOAD_REPLY;
+use status::words::Word;
+use status::words::reports_word;
+use status::words::secondary_word;
+ghost use mathlib.Core.Path.{_≡_};
+ghost use Rattle.link.specs.Loads.{loadWord, loaded};
+
+// By the operation, address bits 1-3; 6 and 7 are not asked.
+pub fn load_word(b: Body, operation: u8) -> Word
+    ensures { λ r. ⌜ r ≡ loadWord b operation ⌝ }
+{
+    match operation {
+        0 => Word {
+            b0: 0x0A,
+            b1: 0x20,
+            b2: 0x00,
+            b3: 0x00,
+        },
+        1 => primary_now(b),
+        2 => secondary_word(b.secondary),
+        3 => b.tertiary,
+        4 => reports_word(b.drives),
+        _ => b.quintary,
+    }
+}
+
+// A load is carried out: its word is sent, or there is no reply.
+pub fn loaded(b: Body, address: u8) -> Turn
+    ensures { λ r. ⌜ r ≡ loaded b address ⌝ }
+{
+    let operation = address / 16 % 8;
+    match operation {
+        6 => go_idle(b, Action::Nothing),
+        7 => go_idle(b, Action::Nothing),
+        _ => send_word(b, Kind::Load, LOAD_REPLY, load_word(b, operation)),
+    }
+}

@@ -1,0 +1,82 @@
+// The parts of the state, and what a step leaves.
+use operations::operation::Operation;
+use operations::store::Store;
+use status::drives::Drives;
+use status::strings::Six;
+use status::words::Outcome;
+use status::words::Word;
+
+// A string from the host as far as it has come: how many bytes, and the bytes.
+pub struct Collected {
+    pub length: u8,
+    pub c0: u8,
+    pub c1: u8,
+    pub c2: u8,
+    pub c3: u8,
+    pub c4: u8,
+    pub c5: u8,
+    pub c6: u8,
+    pub c7: u8,
+}
+
+// What is sent: a load's reply, the secondary update before an interrupt, the interrupt that ends a store, or the interrupt of a
+// drive that changed.
+pub enum Kind {
+    Load,
+    Secondary,
+    Completion,
+    Change,
+}
+
+// A string on its way to the host. The bytes are kept, since they go again after a no.
+pub struct Send {
+    pub kind: Kind,
+    pub bytes: Six,
+    pub noes: u8,
+}
+
+// What the controller waits for.
+pub enum Phase {
+    // a string
+    Collecting,
+    // the answer to ACK, with the whole string collected
+    AckOffered,
+    // the answer to a string
+    Sending(Send),
+    // the answer to GO
+    GoOffered(Store),
+    // the data call of a write
+    DataAwaited(Store),
+    // the result of an operation
+    ResultAwaited(Operation, Store),
+    // the answer to EOR, and whether the store asks an interrupt
+    EndOffered(bool),
+}
+
+// All but the phase.
+pub struct Body {
+    pub drives: Drives,
+    pub selected: u8,
+    pub changed: bool,
+    pub enable: bool,
+    pub outcome: Outcome,
+    pub secondary: u32,
+    pub tertiary: Word,
+    pub quintary: Word,
+    pub collected: Collected,
+}
+
+// What a step has the controller do: nothing, offer a byte, send a string, or order a motion.
+pub enum Action {
+    Nothing,
+    Byte(u8),
+    Text(Six),
+    Order(Six),
+}
+
+// What a step that is carried out leaves: the body, the phase, and what it has the controller do.
+pub struct Turn {
+    pub body: Body,
+    pub phase: Phase,
+    pub action: Action,
+}
