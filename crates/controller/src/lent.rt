@@ -251,10 +251,10 @@ pub fn data_in(c: Controller, host: &[u8], space: &mut [u8], check: &mut [u8]) -
     ensures { λ r. ⌜ answered r (now (space .exit)) (now (check .exit)) ≡ dataIn c (c .body) (now (host .entry)) (now (space .entry)) (now (check .entry)) (c .phase) ⌝ }
 {
     let drives = c.body.drives;
-    let drive = get(drives, c.body.selected);
+    let written = get(drives, c.body.selected);
     let phase = c.phase;
     match phase {
-        Phase::DataAwaited(store) => take_data(c, drive, store, host, space, check),
+        Phase::DataAwaited(store) => take_data(c, written, store, host, space, check),
         _ => refuse_transfer(3, c),
     }
 }
@@ -273,13 +273,13 @@ pub fn result_in(
     ensures { λ r. ⌜ answered r (now (space .exit)) (now (check .exit)) ≡ resultIn c (c .body) (resultOf code mark late (now (image .entry)) (now (marks .entry))) (now (space .entry)) (now (check .entry)) (c .phase) ⌝ }
 {
     let drives = c.body.drives;
-    let drive = get(drives, c.body.selected);
+    let moved = get(drives, c.body.selected);
     let phase = c.phase;
     match phase {
         Phase::ResultAwaited(operation, store) => {
             take_result(
                 c,
-                drive,
+                moved,
                 operation,
                 store,
                 code,
