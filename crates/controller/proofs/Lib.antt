@@ -5,4 +5,4 @@ pub mod Resting
 pub mod Following
 pub mod EachCall
 pub mod DrivesAreSeparate
-pub mod TheCalls
+pub mod Demands

@@ -1,5 +1,6 @@
--- Demands 2 and 3 of the calls themselves: a list of exchanges in which every answer is one that the contract of its call's own function allows
--- is the machine's run, and the drives are separate in any two such lists from a fresh controller.
+-- The three demands, of the calls themselves. 1: `calls-meet-their-contracts`. 2: `calls-run-the-machine`: a list of exchanges from a fresh
+-- controller in which every answer is one that the contract of its call's own function allows is the machine's run. 3:
+-- `calls-keep-drives-separate`: the drives are separate in any two such lists.
 -- Assumes nothing.
 use mathlib.Core.Path.{_≡_, refl, sym, ap, ap₂, subst₂, _∙_}
 use mathlib.Core.List.{List, [], _∷_}
