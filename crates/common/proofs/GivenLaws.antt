@@ -5,13 +5,23 @@ use Prim.Native.Nat.{ℕ, _+_, _-_, _≤_}
 use native.Mathlib.Nat.{sub-self}
 use native.Mathlib.Omega.{arith}
 use mathlib.Core.List.{List, _++_, append-nil, append-assoc}
-use lib.ListN.{length, drop, replicate, length-append, length-replicate, replicate-append-replicate, drop-of-length-le}
+use lib.ListN.{length, take, drop, replicate, length-append, length-replicate, replicate-append-replicate, drop-of-length-le}
+use lib.Seq.{take-append-seam}
 use Rattle.common.specs.Given.{given, filled}
 
 -- bytes that fill the whole space
 pub given-all : (bytes space : List ℕ) → length space ≤ length bytes → given bytes space ≡ bytes
 unfolding given
 given-all bytes space h = ap (λ (x : List ℕ). bytes ++ x) (drop-of-length-le space h) ∙ append-nil bytes
+
+-- bytes that are given stand at the start of the space
+pub given-front : (bytes space : List ℕ) → take (length bytes) (given bytes space) ≡ bytes
+unfolding given
+given-front bytes space = take-append-seam bytes (drop (length bytes) space)
+
+pub given-room : (bytes space : List ℕ) → length bytes ≤ length (given bytes space)
+unfolding given
+given-room bytes space = simp length-append (omega arith)
 
 pub filled-length : (bytes : List ℕ) (n : ℕ) → length bytes ≤ n → length (filled bytes n) ≡ n
 unfolding filled

@@ -1,11 +1,23 @@
--- Laws of `pick`: by its test, over a list of refusals, and of what a call leaves.
+-- Laws of tests and of `pick`: by its test, over a list of refusals, and of what a call leaves.
 -- Assumes nothing.
 use mathlib.Core.Path.{_≡_, refl}
 use Prim.Native.Nat.{ℕ}
-use mathlib.Core.Bool.{Bool, true, false}
+use mathlib.Core.Bool.{Bool, true, false, _&&_, false≢true}
 use lib.Dec.{eqb}
 use borrow.Author.Tests.{eq-eqb, ne-eqb}
 use Rattle.common.specs.Pick.{pick}
+
+-- ---- tests
+
+-- a claim, from the case that a test holds and the case that it fails
+pub by-test : {A : Type 0} (t : Bool) → (t ≡ true → A) → (t ≡ false → A) → A
+by-test true holds fails = holds refl
+by-test false holds fails = fails refl
+
+-- two tests that hold together
+pub both-hold : (a b : Bool) → (a && b) ≡ true → (a ≡ true) × (b ≡ true)
+both-hold true b e = (refl, e)
+both-hold false b e = absurd (false≢true e)
 
 -- ---- by the test
 
@@ -17,6 +29,12 @@ pick-yes x y e = rw e
 pub pick-no : {A : Type 0} {b : Bool} (x y : A) → b ≡ false → pick b x y ≡ y
 unfolding pick
 pick-no x y e = rw e
+
+-- a choice between the same
+pub pick-both : {A : Type 0} (b : Bool) (x : A) → pick b x x ≡ x
+unfolding pick
+pick-both true x = refl
+pick-both false x = refl
 
 -- choices that differ only where the test fails
 pub pick-same : {A : Type 0} (b : Bool) (z x y : A) → (b ≡ false → x ≡ y) → pick b z x ≡ pick b z y

@@ -1,10 +1,10 @@
 -- The starred bench cases of document 01 that speak of the machine, as one group over the definitions.
 -- Assumes nothing.
 use mathlib.Core.Path.{_≡_, refl}
-use mathlib.Core.Bool.{Bool, true, false, not, _&&_, _||_}
+use mathlib.Core.Bool.{Bool, true, false}
 use mathlib.Core.List.{List, [], _∷_, _++_}
 use Prim.Native.Nat.{ℕ}
-use lib.ListN.{length, take, getD, replicate}
+use lib.ListN.{getD, replicate}
 use Rattle.common.specs.Pick.{pick}
 use Rattle.common.specs.Given.{given, filled}
 use Rattle.blockettes.specs.Xor.{_⊕_, xorAll}
@@ -17,14 +17,12 @@ use Rattle.records.specs.Whole.{wholeRefusal, countRefusal, emptyRefusal, image
 use Rattle.operations.specs.Decode.{controlOf, readOf, writeOf, decodeOf}
 use Rattle.operations.specs.Test as test
 use Rattle.operations.specs.Answers.{forwardCodes, reverseCodes, endCodes, listedCodes, isIn, answerOf}
-use Rattle.operations.specs.After.{losesTape, usualMotion, motionOf, gapOf, gapAfter, retryOf}
-use Rattle.status.specs.declared.words.Word.{Word}
+use Rattle.operations.specs.After.{losesTape, motionOf, gapOf, gapAfter, retryOf}
 use Rattle.status.specs.Drives.{reports, driveOf, withDrive, reported, differs, reviewedAll, freshDrives, resetDrives}
 use Rattle.status.specs.Words.{bit, noOutcome, anyBit, primaryOf, secondaryWord, digits, tertiaryOf, quintaryOf, reportsWord}
 use Rattle.status.specs.Strings.{stringOf, orderOf}
 use Rattle.link.specs.declared.state.Body.{Body}
 use Rattle.controller.specs.declared.controller.Controller.{Controller}
-use Rattle.link.specs.declared.state.Action.{Action}
 use Rattle.link.specs.declared.state.Action.the-variants.{Nothing, Byte}
 use Rattle.link.specs.State.{startBody, resetOf, review, idle}
 use Rattle.link.specs.Completion.{primaryNow, sent, interrupts, completed, coded}
@@ -34,7 +32,7 @@ use Rattle.link.specs.Loads.{loadWord, loaded}
 use Rattle.controller.specs.Controller.{fresh}
 use Rattle.controller.specs.Stores.{storeOf, endedBy, settled, tracked, withDensity, motionOrder, pastTest, ordered, begun, operated, decoded, cleared, carriedOut}
 use Rattle.transfers.specs.Data.{isGcr, checkBytes, recordBytes, runsShort, withUnderflow, dataRefusal}
-use Rattle.transfers.specs.Results.{Result, takesMark, isSearch, markAgainst, wholeCode, expectedWhole, expectedOf, resultRefusal, movesTape, isGone, usesImage, scanCode, finalCode, readsGcr, resultTertiary, resultQuintary, resultCheck, readBytes, delivered, fitting, wroteWell, resultSecondary, resultBits, withRetry, withGap, resultDrive}
+use Rattle.transfers.specs.Results.{takesMark, isSearch, markAgainst, wholeCode, expectedWhole, expectedOf, resultRefusal, movesTape, isGone, usesImage, scanCode, finalCode, readsGcr, resultTertiary, resultQuintary, resultCheck, readBytes, delivered, fitting, wroteWell, resultSecondary, resultBits, withRetry, withGap, resultDrive}
 use Rattle.controller.specs.Records.{Answer, zeroedWords, dataDone, resultBody, ending, resultGiven, resultDone}
 use Rattle.link.specs.Damaged.{soundDrive, soundDrives, soundBody, soundLead, soundPart, soundString, soundCount, soundHeld, soundPhase, sound}
 use Rattle.controller.specs.Machine.{byteIn, brokenIn, tickIn, byteCall, brokenCall, tickCall, takenBody, takenIn, takenCall, reportCall, resetCall, dataFor, resultFor, dataIn, dataCall, resultIn, resultCall, Call, step}

@@ -5,6 +5,7 @@ use mathlib.Core.Path.{_≡_, refl, sym, ap, ap₂, _∙_}
 use Prim.Native.Nat.{ℕ, _≤_}
 use mathlib.Core.Bool.{true}
 use mathlib.Core.List.{List, [], _∷_, _++_, append-assoc}
+use Rattle.common.proofs.PickLaws.{both-hold}
 use Rattle.status.specs.declared.drives.Drive.{Drive}
 use Rattle.operations.specs.declared.store.Store.{Store}
 use Rattle.controller.specs.declared.controller.Controller.{Controller}
@@ -14,7 +15,7 @@ use Rattle.controller.specs.Separation.{Event, Output, lastStore, noStor
 use Rattle.controller.proofs.OneDrive.{View, told, gives, toldAll, givesAll}
 use Rattle.controller.proofs.Resting.{seen}
 use Rattle.controller.proofs.Following.{viewOf, InHand}
-use Rattle.controller.proofs.EachCall.{both-true, step-follows}
+use Rattle.controller.proofs.EachCall.{step-follows}
 
 -- ---- one event after another
 
@@ -44,14 +45,14 @@ unfolding run after historyFrom outputsFrom admittedFrom toldAll givesAll
 determined d low [] last c held admits = record { drive = refl; given = refl }
 determined d low (call ∷ calls) last c held admitted =
     let x : Exchange = record { call = call; answer = step c call } in
-    let c' = step c call .reply .controller in
-    let last' = lastStore last c x in
-    let (first, others) = both-true (admits c x) (admittedFrom c' (run c' calls)) admitted in
+    let next = step c call .reply .controller in
+    let later = lastStore last c x in
+    let (first, others) = both-hold (admits c x) (admittedFrom next (run next calls)) admitted in
     let follows = step-follows d low last c held call first in
-    let rest = determined d low calls last' c' (follows .held) others in
+    let rest = determined d low calls later next (follows .held) others in
     let v = viewOf d last c in
-    let events = eventsOf d last' c x in
-    let more = historyFrom d last' c' (run c' calls) in
+    let events = eventsOf d later c x in
+    let more = historyFrom d later next (run next calls) in
     record {
       drive =
           rest .drive
@@ -66,9 +67,9 @@ determined d low (call ∷ calls) last c held admitted =
 
 pub drives-are-separate : (calls others : List Call) → Separate (run fresh calls) (run fresh others)
 unfolding fresh InHand
-drives-are-separate calls others d low admitted admitted' same =
-    let one = determined d low calls noStore fresh tt admitted in
-    let two = determined d low others noStore fresh tt admitted' in
+drives-are-separate calls others d low admitted-one admitted-two same =
+    let one = determined d low calls noStore fresh tt admitted-one in
+    let two = determined d low others noStore fresh tt admitted-two in
     let drive = one .drive ∙ ap (λ (events : List Event). toldAll (viewOf d noStore fresh) events .drive) same ∙ sym (two .drive) in
     record {
       track = ap (λ (x : Drive). x .track) drive;

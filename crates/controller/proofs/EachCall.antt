@@ -9,7 +9,7 @@ use lib.Dec.{leb, eqb}
 use lib.ListN.{length}
 use borrow.Author.Tests.{leb-false, not-true}
 use Rattle.common.specs.Pick.{pick}
-use Rattle.common.proofs.PickLaws.{pick-by, pick-yes, pick-no}
+use Rattle.common.proofs.PickLaws.{both-hold, pick-by, pick-yes, pick-no}
 use Rattle.operations.specs.declared.store.Store.{Store}
 use Rattle.link.specs.declared.state.Phase.{Phase}
 use Rattle.link.specs.declared.state.Phase.the-variants.{Collecting, AckOffered, Sending, GoOffered, DataAwaited, ResultAwaited, EndOffered}
@@ -126,10 +126,6 @@ module _ (d : ℕ) (low : d ≤ 3) (last : Store) where
 
 -- ---- taken
 
-pub both-true : (a b : Bool) → (a && b) ≡ true → (a ≡ true) × (b ≡ true)
-both-true true b e = (refl, e)
-both-true false b e = absurd (false≢true e)
-
 module _ (d : ℕ) (low : d ≤ 3) (last : Store) where
   -- taken, with its last store settled by its own answer
   abbrev takes : Controller → Reply → Type 0
@@ -157,7 +153,7 @@ module _ (d : ℕ) (low : d ≤ 3) (last : Store) where
         let store = storeOf (b .collected) in
         let r = carried (carriedOut b store) in
         let holds = ap not lead in
-        let (names, keeps) = both-true (namesDrive store) (not (resets store)) (sym (pick-yes _ _ holds) ∙ admitted) in
+        let (names, keeps) = both-hold (namesDrive store) (not (resets store)) (sym (pick-yes _ _ holds) ∙ admitted) in
         subst (λ (next : Store). Follows d (viewOf d last acked) next acked (record { call = taken; answer = plain r })) (sym (pick-yes store last holds))
         (subst (λ v. Follows d v store acked (record { call = taken; answer = plain r })) (sym (free-view d last acked tt))
         (carried-follows d low acked store holds names (not-true (resets store) keeps)))

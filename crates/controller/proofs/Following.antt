@@ -7,11 +7,11 @@ use mathlib.Core.Bool.{Bool, true, false, not, _&&_, true≢false}
 use mathlib.Core.List.{List, [], _∷_, _++_, append-nil}
 use lib.Dec.{leb, eqb}
 use lib.ListN.{length, take}
-use lib.Seq.{take-append-seam}
 use borrow.Author.Tests.{eqb-true, eqb-false, eq-eqb, ne-eqb, leb-false, leb-true}
 use Rattle.common.specs.Pick.{pick}
 use Rattle.common.specs.Given.{given}
-use Rattle.common.proofs.PickLaws.{pick-by, pick-yes, pick-no}
+use Rattle.common.proofs.GivenLaws.{given-front}
+use Rattle.common.proofs.PickLaws.{by-test, pick-both, pick-by, pick-yes, pick-no}
 use Rattle.operations.specs.declared.operation.Operation.{Operation}
 use Rattle.operations.specs.declared.operation.Operation.the-variants.{Read, CheckBytes, Write, Erase, Rewind, FastForward, SkipForward, SkipReverse, SearchForward, SearchReverse, WriteMark}
 use Rattle.operations.specs.declared.decode.Decoded.{Decoded}
@@ -105,15 +105,10 @@ free-hand (GoOffered store) free = absurd free
 free-hand (DataAwaited store) free = absurd free
 free-hand (ResultAwaited operation store) free = absurd free
 
-both : {A : Type 0} (b : Bool) (x : A) → pick b x x ≡ x
-unfolding pick
-both true x = refl
-both false x = refl
-
 pub free-view : (d : ℕ) (last : Store) (c : Controller) → Free (c .phase) → viewOf d last c ≡ resting (seen d (c .body))
 free-view d last c free =
     ap (λ (hand : Hand). record { drive = seen d (c .body); hand = hand })
-    (ap (λ (hand : Hand). pick (isOf d last) hand empty) (free-hand (c .phase) free) ∙ both (isOf d last) empty)
+    (ap (λ (hand : Hand). pick (isOf d last) hand empty) (free-hand (c .phase) free) ∙ pick-both (isOf d last) empty)
 
 pub rests-view : (d : ℕ) (last : Store) (b : Body) (t : Turn) → Rests d b t → viewOf d last (carried t .controller) ≡ resting (seen d b)
 rests-view d last b t rests = free-view d last (carried t .controller) (rests .free) ∙ ap resting (rests .drive)
@@ -153,21 +148,17 @@ pub record Passes (d : ℕ) (v : View) (store : Store) (x : Exchange) : Type 0 w
 abbrev pub HeldBy : Store → Exchange → Type 0
 HeldBy store x = InHand store (x .answer .reply .controller .body .selected) (x .answer .reply .controller .phase)
 
-pub by-test : {A : Type 0} (t : Bool) → (t ≡ true → A) → (t ≡ false → A) → A
-by-test true holds fails = holds refl
-by-test false holds fails = fails refl
-
 module _ (d : ℕ) (store : Store) (c : Controller) (v : View) (x : Exchange) where
   -- a call that is no event of the drive
   pub passes-follows : eventOf d store c (x .call) ≡ [] → Passes d v store x → HeldBy store x → Follows d v store c x
   unfolding eventsOf outputsOf toldAll givesAll
   passes-follows made passes held =
       let test = notRefused x in
-      let none = ap (λ (l : List Event). pick test l []) made ∙ both test [] in
+      let none = ap (λ (l : List Event). pick test l []) made ∙ pick-both test [] in
       record {
         view = passes .view ∙ ap (toldAll v) (sym none);
         given =
-            ap₂ (λ (l m : List Output). l ++ m) (ap (λ (l : List Output). pick test l []) (passes .transfer) ∙ both test []) (passes .quiet)
+            ap₂ (λ (l m : List Output). l ++ m) (ap (λ (l : List Output). pick test l []) (passes .transfer) ∙ pick-both test []) (passes .quiet)
             ∙ ap (givesAll d v) (sym none);
         held = held;
       }
@@ -502,10 +493,6 @@ module _ (d : ℕ) (low : d ≤ 3) (last : Store) (b : Body) (store : Store) whe
 
 -- ---- the data call
 
-given-seam : (bytes space : List ℕ) → take (length bytes) (given bytes space) ≡ bytes
-unfolding given
-given-seam bytes space = take-append-seam bytes _
-
 module _ (d : ℕ) (last : Store) (b : Body) (store : Store) where
   abbrev writing : View
   writing = record { drive = seen d b; hand = resultAwaited Write (bare store) }
@@ -550,7 +537,7 @@ module _ (d : ℕ) (last : Store) (b : Body) (store : Store) (host space check :
         given =
             ap₂ (λ (l m : List Output). l ++ m)
             (pick-yes _ [] own ∙ ap (λ (l : List ℕ). image l ∷ [])
-            (given-seam written space ∙ ap (λ (n : ℕ). imageOf (recordBytes store host) (driveOf (b .drives) n .density)) e))
+            (given-front written space ∙ ap (λ (n : ℕ). imageOf (recordBytes store host) (driveOf (b .drives) n .density)) e))
             (starts .given)
             ∙ sym (ap (givenAtData d (seen d b) host) hand);
       })
@@ -607,7 +594,7 @@ module _ (d : ℕ) (low : d ≤ 3) (last : Store) (b : Body) (operation : Operat
             ap₂ (λ (l m : List Output). l ++ m)
             (ap₂ (λ (t : Bool) (asks : Decoded). pick (t && isRead asks) (delivery (take (length fits) (given fits space)) ∷ []) []) own (held .asks)
             ∙ ap (λ (l : List ℕ). pick (eqb (numberOf operation) (numberOf Read)) (delivery l ∷ []) [])
-            (given-seam fits space ∙ ap (λ (n : ℕ). fitting (delivered (driveOf (b .drives) n) operation r check) (length space)) e)
+            (given-front fits space ∙ ap (λ (n : ℕ). fitting (delivered (driveOf (b .drives) n) operation r check) (length space)) e)
             ∙ read-seen operation (driveOf (b .drives) d) r check (length space))
             (rests .quiet)
             ∙ append-nil _

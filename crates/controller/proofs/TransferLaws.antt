@@ -1,6 +1,6 @@
 -- The answers of the data call and of the result, from what their parts give.
 -- Assumes nothing.
-use mathlib.Core.Path.{_≡_, ap, ap₂, _∙_}
+use mathlib.Core.Path.{_≡_, ap, _∙_}
 use Prim.Native.Nat.{ℕ}
 use mathlib.Core.Bool.{Bool, false}
 use mathlib.Core.List.{List, []}
@@ -14,8 +14,8 @@ use Rattle.operations.specs.declared.operation.Operation.the-variants.{Write}
 use Rattle.operations.specs.declared.store.Store.{Store}
 use Rattle.operations.specs.Store.{heldCount}
 use Rattle.transfers.specs.Data.{isGcr, checkBytes, recordBytes, runsShort, withUnderflow}
-use Rattle.transfers.specs.Results.{resultOf, usesImage, resultCheck, delivered, fitting}
-use Rattle.transfers.proofs.DataLaws.{given-prefix}
+use Rattle.transfers.specs.Results.{resultOf, usesImage, resultCheck, fitting}
+use Rattle.common.proofs.GivenLaws.{given-front}
 use Rattle.link.specs.declared.state.Body.{Body}
 use Rattle.controller.specs.declared.controller.Reply.{Reply}
 use Rattle.link.specs.State.{setOutcome}
@@ -38,7 +38,7 @@ module _ (b : Body) (drive : Drive) (store : Store) (host space check : List ℕ
       → _≡_ {A = Answer} (record { reply = r; bytes = n; space = s; check = k }) (dataDone b drive store host space check)
   unfolding dataDone
   data-answer r n s k p q t u =
-      let part : take n s ≡ imageOf (recordBytes store host) (drive .density) = rw (q, t) (given-prefix _ space) in
+      let part : take n s ≡ imageOf (recordBytes store host) (drive .density) = rw (q, t) (given-front _ space) in
       answer-alike _ _ _ _ _ _ _ _ p q t (u ∙ ap (λ (x : List ℕ). pick (isGcr drive) (checkBytes x (heldCount store)) check) part)
 
 -- what a result does, from what its parts do

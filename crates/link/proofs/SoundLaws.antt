@@ -6,7 +6,7 @@ use mathlib.Core.Path.{_≡_, refl}
 use mathlib.Core.Bool.{Bool, true, false, _&&_, _||_}
 use lib.Dec.{ltb, eqb}
 use borrow.Author.Tests.{ltb-true, leb-true, eqb-true}
-use Rattle.common.proofs.PickLaws.{pick-by}
+use Rattle.common.proofs.PickLaws.{pick-by, both-hold}
 use Rattle.records.specs.Count.{limit}
 use Rattle.operations.specs.declared.store.Store.{Store}
 use Rattle.operations.specs.Store.{heldCount}
@@ -17,11 +17,6 @@ use Rattle.link.specs.declared.state.Phase.the-variants.{Collecting, Sen
 use Rattle.link.specs.declared.state.Body.{Body}
 use Rattle.link.specs.Link.{wholeLength}
 use Rattle.link.specs.Damaged.{soundBody, soundLead, soundPart, soundCount, soundPhase, sound}
-
--- the second of two tests that both hold
-second-holds : (a b : Bool) → (a && b) ≡ true → b ≡ true
-second-holds true b e = e
-second-holds false b e = cc
 
 -- what follows from either of two tests, one of which holds
 by-either : {P : Type 0} (a b : Bool) → (a ≡ true → P) → (b ≡ true → P) → (a || b) ≡ true → P
@@ -37,11 +32,11 @@ unfolding soundPart
 part-short s =
     let whole = wholeLength (s .c0) in
     by-either (eqb (s .length) 0) (soundLead s && ltb (s .length) whole) (λ none. omega (arith, eqb-true (s .length) 0 none))
-    (λ some. omega (arith, ltb-true (s .length) whole (second-holds (soundLead s) (ltb (s .length) whole) some), whole-at-most (s .c0)))
+    (λ some. omega (arith, ltb-true (s .length) whole (both-hold (soundLead s) (ltb (s .length) whole) some .1), whole-at-most (s .c0)))
 
 phase-holds : (b : Body) (phase : Phase) → sound b phase ≡ true → soundPhase (b .collected) phase ≡ true
 unfolding sound
-phase-holds b phase = second-holds (soundBody b) (soundPhase (b .collected) phase)
+phase-holds b phase whole = both-hold (soundBody b) (soundPhase (b .collected) phase) whole .1
 
 -- a string that is being collected has room for a byte
 pub collecting-short : (b : Body) (phase : Phase) → sound b phase ≡ true → phase ≡ Collecting → b .collected .length < 8

@@ -1,14 +1,12 @@
 -- Laws of the data call: the part of an image that its check bytes are, the record that a write makes, and the answer that its parts
 -- make.
 -- Assumes nothing.
-use mathlib.Core.Path.{_≡_, refl, sym, subst, ap, ap₂, _∙_}
+use mathlib.Core.Path.{_≡_, sym, ap, ap₂, _∙_}
 use Prim.Native.Nat.{ℕ, _+_, _-_, _*_, _≤_, min}
 use native.Mathlib.Omega.{arith}
-use mathlib.Core.Bool.{Bool, true, false, _&&_}
+use mathlib.Core.Bool.{true}
 use mathlib.Core.List.{List, _++_}
-use lib.Dec.{T}
-use lib.ListN.{length, take, drop, length-take, length-drop, length-append}
-use lib.Seq.{take-at}
+use lib.ListN.{length, take, drop, length-take, length-drop}
 use borrow.Author.Tests.{ne-eqb, eqb-true, ltb-false, not-false}
 use Rattle.common.specs.Given.{given, filled}
 use Rattle.common.proofs.GivenLaws.{given-all, filled-length}
@@ -61,11 +59,6 @@ data-ready drive store space check e =
     let b = not-refused _ _ _ (λ r. omega arith) (a .1) in
     (eqb-true _ _ (not-false _ (a .0)), ltb-false _ _ (b .0))
 
--- the second of two that hold
-pub and-right : (a b : Bool) → a && b ≡ true → b ≡ true
-and-right true b e = e
-and-right false b e = absurd (subst T (sym e) tt)
-
 -- ---- the record of a write
 
 module _ (store : Store) (host : List ℕ) where
@@ -85,15 +78,6 @@ module _ (store : Store) (host : List ℕ) where
       ∙ ap (λ (k : ℕ). filled (take k (drop (store .second) host)) k) is
 
 -- ---- what is given
-
--- bytes that are given stand at the start of the space
-pub given-prefix : (bytes space : List ℕ) → take (length bytes) (given bytes space) ≡ bytes
-unfolding given
-given-prefix bytes space = take-at bytes (drop (length bytes) space) (length bytes) refl
-
-pub given-room : (bytes space : List ℕ) → length bytes ≤ length (given bytes space)
-unfolding given
-given-room bytes space = simp length-append (omega arith)
 
 -- an image given at the start of a space
 pub image-given : (space image last : List ℕ) (needed : ℕ) → last ≡ image → needed ≡ length image → last ++ drop needed space ≡ given image space

@@ -10,7 +10,7 @@ use lib.ListN.{length, take, length-take}
 use borrow.Author.Tests.{eqb-true, eqb-false, ltb-false, not-true, not-false}
 use Rattle.common.specs.Pick.{pick}
 use Rattle.common.proofs.Parts.{part-least}
-use Rattle.common.proofs.PickLaws.{pick-by, not-refused}
+use Rattle.common.proofs.PickLaws.{both-hold, pick-by, not-refused}
 use Rattle.records.specs.declared.whole.Expected.{Expected}
 use Rattle.records.specs.declared.whole.Expected.the-variants.{Whole, Count, Nothing as NoImage}
 use Rattle.records.specs.Count.{limit, countOf, unrotated}
@@ -22,12 +22,12 @@ use Rattle.operations.specs.declared.operation.Operation.{Operation}
 use Rattle.operations.specs.declared.operation.Operation.the-variants.{Read, CheckBytes, Write, Erase, Rewind, FastForward, SkipForward, SkipReverse, SearchForward, SearchReverse, WriteMark}
 use Rattle.status.specs.declared.drives.Drive.{Drive}
 use Rattle.transfers.specs.Results.{Result, resultOf, wholeCode, expectedWhole, expectedOf, resultRefusal, isGone, usesImage, readsGcr, readBytes, delivered, fitting}
-use Rattle.transfers.proofs.DataLaws.{and-right, gcr-alike}
+use Rattle.transfers.proofs.DataLaws.{gcr-alike}
 
 -- an image that counts is not empty
 pub used-some : (drive : Drive) (operation : Operation) (r : Result) → usesImage drive operation r ≡ true → length (r .image) ≡ 0 → ⊥
 unfolding usesImage
-used-some drive operation r e = eqb-false _ _ (not-true _ (and-right (not (isGone drive operation)) _ e))
+used-some drive operation r e = eqb-false _ _ (not-true _ (both-hold (not (isGone drive operation)) _ e .1))
 
 -- ---- a result that is not refused
 

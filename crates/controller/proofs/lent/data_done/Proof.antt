@@ -12,7 +12,8 @@ use Rattle.link.specs.declared.state.Turn.{Turn}
 use Rattle.controller.specs.Controller.{carried}
 use Rattle.controller.specs.Stores.{ordered}
 use Rattle.link.specs.declared.state.Body.{Body}
-use Rattle.transfers.proofs.DataLaws.{given-prefix, given-room, record-image-length, data-ready}
+use Rattle.common.proofs.GivenLaws.{given-front, given-room}
+use Rattle.transfers.proofs.DataLaws.{record-image-length, data-ready}
 use Rattle.controller.proofs.TransferLaws.{data-answer}
 use Rattle.controller.proofs.lent.data_done.Statement.{statement}
 use Rattle.controller.proofs.lent.data_done.Tie as tie
@@ -22,7 +23,7 @@ given-image : (c : tie.After-put-record) → let a = c .before .before .before .
 given-image c =
     let a = c .before .before .before .before .before .args in (
       rw (c .put-record .ensures .0, c .put-record .ensures .1) (given-room _ (a .space .now)),
-      rw (c .put-record .ensures .0, c .put-record .ensures .1) (given-prefix _ (a .space .now)),
+      rw (c .put-record .ensures .0, c .put-record .ensures .1) (given-front _ (a .space .now)),
     )
 
 put-record-requires : tie.Need-put-record-requires
