@@ -1,0 +1,76 @@
+//! `machine [--mutant N]`: reads session lines to the end of standard input, prints the answers.
+
+use machine::lines::Session;
+use machine::mutants::MUTANTS;
+use std::io::{self, Read, Write};
+use std::process::ExitCode;
+
+/// Bytes asked of the system at once.
+const PIECE: usize = 1 << 18;
+
+fn main() -> ExitCode {
+    let arguments: Vec<String> = std::env::args().skip(1).collect();
+    let arguments: Vec<&str> = arguments.iter().map(String::as_str).collect();
+    let mutant = match arguments[..] {
+        [] => None,
+        ["--mutant", number] => {
+            let number = number.parse::<usize>().unwrap_or(0);
+            match MUTANTS.get(number.wrapping_sub(1)) {
+                Some(mutant) => Some(*mutant),
+                None => return usage(),
+            }
+        }
+        _ => return usage(),
+    };
+    match answer_all(Session::new(mutant)) {
+        Ok(()) => ExitCode::SUCCESS,
+        Err(error) => {
+            eprintln!("machine: {error}");
+            ExitCode::FAILURE
+        }
+    }
+}
+
+fn usage() -> ExitCode {
+    eprintln!("usage: machine [--mutant 1-{}]", MUTANTS.len());
+    ExitCode::from(2)
+}
+
+fn answer_all(mut session: Session) -> io::Result<()> {
+    let mut input = io::stdin().lock();
+    // Whole lines handed over together are written together.
+    let mut output = io::stdout().lock();
+    let mut piece = vec![0; PIECE];
+    let mut begun = Vec::new();
+    let mut answers = Vec::with_capacity(2 * PIECE);
+    loop {
+        let length = match input.read(&mut piece) {
+            Err(error) if error.kind() == io::ErrorKind::Interrupted => continue,
+            read => read?,
+        };
+        if length == 0 {
+            break;
+        }
+        // A line cut by the end of the last piece is put together in `begun`.
+        let mut rest = &piece[..length];
+        while let Some(end) = rest.iter().position(|&byte| byte == b'\n') {
+            if begun.is_empty() {
+                session.answer(&rest[..end], &mut answers);
+            } else {
+                begun.extend_from_slice(&rest[..end]);
+                session.answer(&begun, &mut answers);
+                begun.clear();
+            }
+            rest = &rest[end + 1..];
+        }
+        begun.extend_from_slice(rest);
+        // All that can be answered is out before the next read waits.
+        output.write_all(&answers)?;
+        answers.clear();
+    }
+    if !begun.is_empty() {
+        session.answer(&begun, &mut answers);
+        output.write_all(&answers)?;
+    }
+    output.flush()
+}

@@ -1,0 +1,12 @@
+//! The cartridge controller of document 01, written from that document and READING.md alone,
+//! with a generator of sessions and a comparison of another program with it.
+//!
+//! `machine < SESSION` answers a session, `generate SEED LINES` prints a random one, and
+//! `compare PROGRAM` runs both programs on many and shrinks the first difference.
+
+pub mod comparison;
+pub mod generator;
+pub mod lines;
+pub mod machine;
+pub mod mutants;
+pub mod records;

@@ -1,0 +1,236 @@
+//! Session lines: reading a call, printing its answer.
+
+use crate::machine::{Action, Machine, Refusal, Reported};
+use crate::mutants::Mutant;
+use crate::records::{CHECK_BYTES, IMAGE_LIMIT, MARKS_LIMIT, RECORD_LIMIT};
+
+/// Host bytes of a data call, and host space of a result.
+pub const HOST_LIMIT: usize = RECORD_LIMIT;
+
+#[derive(Clone, Debug, PartialEq, Eq)]
+pub enum Line {
+    Byte(u8),
+    Taken,
+    Broken,
+    Report {
+        drive: u8,
+        report: u8,
+    },
+    Data(Vec<u8>),
+    Result {
+        code: u8,
+        mark: bool,
+        late: u8,
+        image: Vec<u8>,
+        marks: Vec<u8>,
+        space: usize,
+    },
+    Tick,
+    Reset,
+}
+
+/// Reads a line, without its #0A; none if it is unreadable.
+pub fn read(line: &[u8]) -> Option<Line> {
+    let mut fields = line.split(|&byte| byte == b',');
+    let read = match fields.next()? {
+        b"B" => Line::Byte(hex_byte(fields.next()?)?),
+        b"T" => Line::Taken,
+        b"X" => Line::Broken,
+        b"S" => Line::Report {
+            drive: decimal(fields.next()?, 255)? as u8,
+            report: hex_byte(fields.next()?)?,
+        },
+        b"D" => Line::Data(hex_bytes(fields.next()?, HOST_LIMIT)?),
+        b"R" => Line::Result {
+            code: hex_byte(fields.next()?)?,
+            mark: decimal(fields.next()?, 1)? == 1,
+            late: decimal(fields.next()?, 255)? as u8,
+            image: hex_bytes(fields.next()?, IMAGE_LIMIT)?,
+            marks: hex_bytes(fields.next()?, MARKS_LIMIT)?,
+            space: decimal(fields.next()?, HOST_LIMIT)?,
+        },
+        b"K" => Line::Tick,
+        b"Z" => Line::Reset,
+        _ => return None,
+    };
+    fields.next().is_none().then_some(read)
+}
+
+/// One digit or more; leading zeros are readable and the value counts.
+fn decimal(field: &[u8], limit: usize) -> Option<usize> {
+    let mut value = 0usize;
+    for byte in field {
+        if !byte.is_ascii_digit() {
+            return None;
+        }
+        value = value * 10 + (byte - b'0') as usize;
+        if value > limit {
+            return None;
+        }
+    }
+    (!field.is_empty()).then_some(value)
+}
+
+fn hex_byte(field: &[u8]) -> Option<u8> {
+    match hex_bytes(field, 1)?[..] {
+        [byte] => Some(byte),
+        _ => None,
+    }
+}
+
+/// Two capital hexadecimal digits a byte.
+fn hex_bytes(field: &[u8], limit: usize) -> Option<Vec<u8>> {
+    if !field.len().is_multiple_of(2) || field.len() / 2 > limit {
+        return None;
+    }
+    // Any byte that is no digit has high bits set in the table; they gather in `seen`.
+    let mut seen = 0;
+    let bytes = field
+        .chunks_exact(2)
+        .map(|pair| {
+            let (high, low) = (DIGIT[pair[0] as usize], DIGIT[pair[1] as usize]);
+            seen |= high | low;
+            high << 4 | low & 15
+        })
+        .collect();
+    (seen < 16).then_some(bytes)
+}
+
+/// The value of a digit, or 255.
+const DIGIT: [u8; 256] = {
+    let mut table = [255; 256];
+    let mut value = 0;
+    while value < 16 {
+        table[DIGITS[value] as usize] = value as u8;
+        value += 1;
+    }
+    table
+};
+
+const DIGITS: &[u8; 16] = b"0123456789ABCDEF";
+
+pub fn write_hex(bytes: &[u8], out: &mut Vec<u8>) {
+    out.extend(
+        bytes
+            .iter()
+            .flat_map(|&byte| [DIGITS[(byte >> 4) as usize], DIGITS[(byte & 15) as usize]]),
+    );
+}
+
+/// The machine with the spaces that the session program lends it.
+#[derive(Clone)]
+pub struct Session {
+    pub machine: Machine,
+    /// Z keeps it: it is the program's, not the machine's.
+    pub check_store: [u8; CHECK_BYTES],
+    image_space: Vec<u8>,
+    host_space: Vec<u8>,
+}
+
+impl Session {
+    pub fn new(mutant: Option<Mutant>) -> Session {
+        Session {
+            machine: Machine {
+                mutant,
+                ..Machine::fresh()
+            },
+            check_store: [0; CHECK_BYTES],
+            image_space: vec![0; IMAGE_LIMIT],
+            host_space: vec![0; HOST_LIMIT],
+        }
+    }
+
+    /// Answers one line, given without its #0A, and prints the answer with one.
+    pub fn answer(&mut self, line: &[u8], out: &mut Vec<u8>) {
+        match read(line) {
+            Some(line) => self.call(&line, out),
+            None => out.extend_from_slice(b"?,-,,\n"),
+        }
+    }
+
+    fn call(&mut self, line: &Line, out: &mut Vec<u8>) {
+        let machine = &mut self.machine;
+        let answer = match line {
+            Line::Byte(byte) => machine.byte(*byte),
+            Line::Taken => machine.taken(),
+            Line::Broken => machine.broken(),
+            Line::Report { drive, report } => machine.report(*drive, *report),
+            Line::Tick => machine.tick(),
+            Line::Reset => machine.reset(),
+            Line::Data(host) => {
+                let answer = machine.data(host, &mut self.image_space, &mut self.check_store);
+                return match answer {
+                    Ok((action, length)) => print(action, &self.image_space[..length], out),
+                    Err(refusal) => print_refusal(refusal, out),
+                };
+            }
+            Line::Result {
+                code,
+                mark,
+                late,
+                image,
+                marks,
+                space,
+            } => {
+                let (code, mark, late) = (*code, *mark, *late);
+                let reported = Reported {
+                    code,
+                    mark,
+                    late,
+                    image,
+                    marks,
+                };
+                let host_space = &mut self.host_space[..*space];
+                return match machine.result(reported, host_space, &mut self.check_store) {
+                    Ok((action, length)) => print(action, &self.host_space[..length], out),
+                    Err(refusal) => print_refusal(refusal, out),
+                };
+            }
+        };
+        match answer {
+            Ok(action) => print(action, &[], out),
+            Err(refusal) => print_refusal(refusal, out),
+        }
+    }
+}
+
+fn print(action: Action, transferred: &[u8], out: &mut Vec<u8>) {
+    match action {
+        Action::None => out.extend_from_slice(b"0,-,"),
+        Action::Byte(byte) => {
+            out.extend_from_slice(b"0,A,");
+            write_hex(&[byte], out);
+        }
+        Action::String(string) => {
+            out.extend_from_slice(b"0,P,");
+            write_hex(&string, out);
+        }
+        Action::Order(order) => {
+            out.extend_from_slice(b"0,M,");
+            write_hex(&order, out);
+        }
+    }
+    out.push(b',');
+    write_hex(transferred, out);
+    out.push(b'\n');
+}
+
+fn print_refusal(refusal: Refusal, out: &mut Vec<u8>) {
+    out.extend_from_slice(format!("{},-,,\n", refusal as u8).as_bytes());
+}
+
+/// The answers to a whole session.
+pub fn run(session: &[u8], mutant: Option<Mutant>) -> Vec<u8> {
+    let mut machine = Session::new(mutant);
+    let mut out = Vec::new();
+    for line in split(session) {
+        machine.answer(line, &mut out);
+    }
+    out
+}
+
+/// Lines end with #0A; a last one without it counts, and nothing stands after the last #0A.
+pub fn split(text: &[u8]) -> impl Iterator<Item = &[u8]> {
+    text.split_inclusive(|&byte| byte == b'\n')
+        .map(|line| line.strip_suffix(b"\n").unwrap_or(line))
+}

@@ -1,0 +1,1097 @@
+//! The controller: its state and the eight calls, as document 01 has them.
+//!
+//! Refusal 1, a damaged state, is not here: the state's types and the calls keep it whole.
+
+use crate::mutants::Mutant;
+use crate::records::{self, Density, Verdict};
+
+// ---------------------------------------------------------------------------------------------
+// Registers, bits and bytes, with document 01's numbers
+// ---------------------------------------------------------------------------------------------
+
+/// Bytes on the link.
+pub mod link {
+    pub const LOAD: u8 = 0x62;
+    pub const STORE: u8 = 0x64;
+    pub const ACK: u8 = 0x06;
+    pub const NACK: u8 = 0x15;
+    pub const GO: u8 = 0x47;
+    pub const EOR: u8 = 0x45;
+    pub const LOAD_REPLY: u8 = 0x66;
+    pub const SECONDARY_UPDATE: u8 = 0x68;
+    pub const INTERRUPT: u8 = 0x69;
+    /// Lead, address, unused, check.
+    pub const LOAD_LENGTH: usize = 4;
+    /// Lead, address, four operand bytes, unused, check.
+    pub const STORE_LENGTH: usize = 8;
+    /// A sent string is given up at this no.
+    pub const LAST_NO: u8 = 5;
+}
+
+/// The address byte of a load or store.
+pub mod address {
+    pub const INTERRUPT: u8 = 0x80;
+    pub const NAMES_DRIVE: u8 = 0x08;
+    pub const DRIVE: u8 = 0x07;
+
+    /// Bits 1-3.
+    pub fn operation(address: u8) -> u8 {
+        address >> 4 & 7
+    }
+}
+
+/// Bits of a drive's report.
+pub mod report {
+    pub const EOT: u8 = 128;
+    pub const EOT_WARNING: u8 = 64;
+    pub const INSTALLED: u8 = 32;
+    pub const BOT_WARNING: u8 = 16;
+    pub const PROTECTED: u8 = 8;
+    pub const POSITION_UNKNOWN: u8 = 4;
+    pub const SELECTABLE: u8 = 2;
+    pub const BOT: u8 = 1;
+}
+
+/// Bits of the primary status word, 0 the most significant, and its fields by their last bit.
+pub mod primary {
+    const fn bit(number: u32) -> u32 {
+        1 << (31 - number)
+    }
+    pub const CHANGED: u32 = bit(0);
+    pub const ENABLE: u32 = bit(1);
+    pub const RETRY: u32 = bit(2);
+    pub const TRACK: u32 = bit(5);
+    pub const DRIVE: u32 = bit(7);
+    pub const MARK: u32 = bit(8);
+    pub const MOTION: u32 = bit(10);
+    pub const CODE: u32 = bit(15);
+    pub const OVERFLOW: u32 = bit(17);
+    pub const UNDERFLOW: u32 = bit(18);
+    pub const LATE_1: u32 = bit(19);
+    pub const LATE_2: u32 = bit(20);
+    pub const COUNT_VALID: u32 = bit(22);
+    pub const DENSITY: u32 = bit(23);
+    /// Bits 16-20: each of them asks a retry.
+    pub const TROUBLE: u32 = 0x0000_F800;
+}
+
+/// The two bits of the motion field.
+pub mod motion {
+    pub const NONE: u8 = 0b00;
+    pub const FORWARD: u8 = 0b01;
+    pub const REVERSE: u8 = 0b10;
+    pub const LOST: u8 = 0b11;
+}
+
+/// Result codes that the controller itself gives.
+pub mod code {
+    pub const GOOD: u8 = 0x00;
+    pub const NO_SUCH_DRIVE: u8 = 0x01;
+    pub const NO_SUCH_OPERATION: u8 = 0x02;
+    pub const NO_SUCH_TRACK: u8 = 0x03;
+    pub const NOT_READY: u8 = 0x04;
+    pub const NO_GO: u8 = 0x05;
+    pub const TAPE_GONE: u8 = 0x07;
+    pub const RECOVERABLE: u8 = 0x15;
+    pub const UNRECOVERABLE: u8 = 0x16;
+}
+
+/// What load 0 answers.
+pub const IDENTITY: u32 = 0x0A20_0000;
+
+// ---------------------------------------------------------------------------------------------
+// Operations and the state
+// ---------------------------------------------------------------------------------------------
+
+/// The gap under the head.
+#[derive(Clone, Copy, Debug, PartialEq, Eq)]
+pub enum Gap {
+    Proper = 0,
+    Improper = 1,
+    UnfinishedWrite = 2,
+    Lost = 3,
+}
+
+/// The eleven operations that await a result.
+#[derive(Clone, Copy, Debug, PartialEq, Eq, Hash, PartialOrd, Ord)]
+pub enum Operation {
+    Read,
+    CheckBytes,
+    Write,
+    Erase,
+    Rewind,
+    FastForward,
+    SkipForward,
+    SkipReverse,
+    SearchForward,
+    SearchReverse,
+    WriteMark,
+}
+
+pub const OPERATIONS: [Operation; 11] = [
+    Operation::Read,
+    Operation::CheckBytes,
+    Operation::Write,
+    Operation::Erase,
+    Operation::Rewind,
+    Operation::FastForward,
+    Operation::SkipForward,
+    Operation::SkipReverse,
+    Operation::SearchForward,
+    Operation::SearchReverse,
+    Operation::WriteMark,
+];
+
+impl Operation {
+    /// First byte of the motion order. Check bytes give no order.
+    pub fn order(self) -> u8 {
+        match self {
+            Operation::Read | Operation::CheckBytes => 0x40,
+            Operation::Write => 0x50,
+            Operation::Erase => 0x60,
+            Operation::Rewind => 0x10,
+            Operation::FastForward => 0x11,
+            Operation::SkipForward => 0x20,
+            Operation::SkipReverse => 0x21,
+            Operation::SearchForward => 0x22,
+            Operation::SearchReverse => 0x23,
+            Operation::WriteMark => 0x24,
+        }
+    }
+
+    /// Codes that the drive's side may report.
+    pub fn listed(self) -> &'static [u8] {
+        match self {
+            Operation::Read | Operation::SkipForward | Operation::SearchForward => &[
+                0x00, 0x07, 0x08, 0x09, 0x0A, 0x0C, 0x0D, 0x0E, 0x0F, 0x10, 0x11, 0x12, 0x13, 0x17,
+            ],
+            Operation::Write => &[
+                0x00, 0x07, 0x08, 0x09, 0x0B, 0x0C, 0x0D, 0x0E, 0x0F, 0x10, 0x11, 0x12, 0x13, 0x14,
+                0x17,
+            ],
+            Operation::WriteMark => &[0x00, 0x07, 0x08, 0x09, 0x0B, 0x0C, 0x0D, 0x17],
+            Operation::SkipReverse | Operation::SearchReverse => {
+                &[0x00, 0x07, 0x09, 0x0C, 0x0D, 0x0E, 0x18]
+            }
+            Operation::Erase => &[0x00, 0x06, 0x07, 0x08, 0x17],
+            Operation::Rewind | Operation::FastForward => &[0x00, 0x06, 0x07],
+            Operation::CheckBytes => &[0x00],
+        }
+    }
+
+    pub fn moves_tape(self) -> bool {
+        self != Operation::CheckBytes
+    }
+
+    pub fn is_forward_move(self) -> bool {
+        matches!(
+            self,
+            Operation::Read | Operation::SkipForward | Operation::SearchForward
+        )
+    }
+
+    pub fn is_reverse_move(self) -> bool {
+        matches!(self, Operation::SkipReverse | Operation::SearchReverse)
+    }
+
+    pub fn is_search(self) -> bool {
+        matches!(self, Operation::SearchForward | Operation::SearchReverse)
+    }
+
+    pub fn is_skip(self) -> bool {
+        matches!(self, Operation::SkipForward | Operation::SkipReverse)
+    }
+
+    /// Whether it changes what is on the tape.
+    pub fn is_recording(self) -> bool {
+        matches!(
+            self,
+            Operation::Write | Operation::WriteMark | Operation::Erase
+        )
+    }
+
+    /// Whether it reads a whole record, so that a good result brings a whole image.
+    pub fn reads_record(self) -> bool {
+        matches!(self, Operation::Read | Operation::SkipForward)
+    }
+
+    pub fn offers_eor(self) -> bool {
+        matches!(
+            self,
+            Operation::Read | Operation::Write | Operation::CheckBytes
+        )
+    }
+
+    /// What a drive must report before the operation may start.
+    pub fn may_start(self, drive: &Drive) -> bool {
+        let wind = matches!(self, Operation::Rewind | Operation::FastForward);
+        let toward_end = self.is_forward_move() || self.is_recording();
+        !self.moves_tape()
+            || drive.reports(report::INSTALLED)
+                && drive.reports(report::SELECTABLE)
+                && (wind || !drive.reports(report::POSITION_UNKNOWN))
+                && !(toward_end && drive.reports(report::EOT))
+                && !(self.is_reverse_move() && drive.reports(report::BOT))
+                && !(self.is_recording() && drive.reports(report::PROTECTED))
+    }
+
+    /// The motion field after a result with this final code.
+    pub fn motion(self, code: u8) -> u8 {
+        match (code, self) {
+            (0x06..=0x09 | 0x17 | 0x18, _) => motion::LOST,
+            (_, Operation::Erase | Operation::CheckBytes) => motion::NONE,
+            (_, Operation::SkipReverse | Operation::SearchReverse | Operation::Rewind) => {
+                motion::REVERSE
+            }
+            _ => motion::FORWARD,
+        }
+    }
+
+    /// The gap after a result, or none where the old one stays.
+    pub fn gap(self, code: u8) -> Option<Gap> {
+        match (self.motion(code), self) {
+            (motion::NONE, _) => None,
+            (motion::LOST, _) => Some(Gap::Lost),
+            (motion::REVERSE, _) => Some(Gap::Proper),
+            (_, Operation::FastForward) => Some(Gap::Lost),
+            _ if code == code::GOOD => Some(Gap::Proper),
+            (_, Operation::Write | Operation::WriteMark) => Some(Gap::UnfinishedWrite),
+            _ => Some(Gap::Improper),
+        }
+    }
+}
+
+/// Why a call was turned back.
+#[derive(Clone, Copy, Debug, PartialEq, Eq, Hash, PartialOrd, Ord)]
+pub enum Refusal {
+    LinkCall = 2,
+    NotAwaited = 3,
+    NotIdle = 4,
+    DriveNumber = 5,
+    CheckStore = 6,
+    CodeNotListed = 7,
+    Flags = 8,
+    Length = 9,
+    MarkValue = 10,
+    ImageSpace = 11,
+}
+
+/// What a call has the controller do.
+#[derive(Clone, Copy, Debug, PartialEq, Eq)]
+pub enum Action {
+    None,
+    Byte(u8),
+    String([u8; 6]),
+    Order([u8; 6]),
+}
+
+pub type Answer = Result<Action, Refusal>;
+/// With the number of bytes that were written to the lent image or host space.
+pub type TransferAnswer = Result<(Action, usize), Refusal>;
+
+#[derive(Clone, Copy, Debug, PartialEq, Eq)]
+pub struct Drive {
+    pub report: u8,
+    /// The report as the last review saw it.
+    pub reviewed: u8,
+    pub track: u8,
+    pub density: Density,
+    pub gap: Gap,
+}
+
+impl Drive {
+    fn fresh(report: u8) -> Drive {
+        Drive {
+            report,
+            reviewed: report,
+            track: 0,
+            density: Density::Mfm,
+            gap: Gap::Lost,
+        }
+    }
+
+    pub fn reports(&self, bit: u8) -> bool {
+        self.report & bit != 0
+    }
+}
+
+/// An operation under way.
+#[derive(Clone, Copy, Debug, PartialEq, Eq)]
+pub struct Job {
+    pub operation: Operation,
+    pub operand: [u8; 4],
+    pub interrupt: bool,
+}
+
+impl Job {
+    /// Data bytes of a write.
+    pub fn count(&self) -> usize {
+        u16::from_be_bytes([self.operand[2], self.operand[3]]) as usize
+    }
+
+    /// Host bytes of a write that come first and are thrown away.
+    pub fn thrown_away(&self) -> usize {
+        self.operand[1] as usize
+    }
+}
+
+/// What a sent string is for, which decides what its end brings.
+#[derive(Clone, Copy, Debug, PartialEq, Eq)]
+pub enum Send {
+    LoadReply,
+    /// The secondary update of a completion; primary follows.
+    Secondary,
+    /// The interrupt of a completion.
+    Completion,
+    /// The interrupt of an idle tick.
+    DriveChange,
+}
+
+#[derive(Clone, Copy, Debug, PartialEq, Eq)]
+pub enum Phase {
+    Collecting {
+        string: [u8; 8],
+        length: usize,
+    },
+    AckOffered {
+        string: [u8; 8],
+    },
+    /// The bytes are held: they go again as they were, whatever was reported meanwhile.
+    Sending {
+        send: Send,
+        string: [u8; 6],
+        noes: u8,
+    },
+    GoOffered(Job),
+    DataAwaited(Job),
+    ResultAwaited(Job),
+    EorOffered {
+        interrupt: bool,
+    },
+}
+
+const IDLE: Phase = Phase::Collecting {
+    string: [0; 8],
+    length: 0,
+};
+
+/// A result as the drive's side hands it in.
+#[derive(Clone, Copy, Debug)]
+pub struct Reported<'a> {
+    pub code: u8,
+    pub mark: bool,
+    pub late: u8,
+    pub image: &'a [u8],
+    pub marks: &'a [u8],
+}
+
+#[derive(Clone, Debug, PartialEq, Eq)]
+pub struct Machine {
+    pub drives: [Drive; 4],
+    pub selected: usize,
+    pub changed: bool,
+    pub enable: bool,
+    /// Bits 2 and 8-22 of primary: what became of the last store.
+    pub outcome: u32,
+    pub secondary: u16,
+    pub tertiary: u32,
+    pub quintary: u32,
+    pub phase: Phase,
+    pub mutant: Option<Mutant>,
+}
+
+// ---------------------------------------------------------------------------------------------
+// Decode: what a store asks, and whether a result may be taken
+// ---------------------------------------------------------------------------------------------
+
+/// What a store asks, before any look at the drive.
+enum Decoded {
+    Reset,
+    Code(u8),
+    Track(u8),
+    Enable(bool),
+    Density(Density),
+    Operation(Operation),
+}
+
+fn decode(operation: u8, operand: [u8; 4]) -> Decoded {
+    match operation {
+        0 => Decoded::Reset,
+        3 => match operand[3] {
+            track @ 0x00..=0x03 => Decoded::Track(track),
+            0x04..=0x07 => Decoded::Code(code::NO_SUCH_TRACK),
+            0x08 => Decoded::Enable(false),
+            0x09 => Decoded::Enable(true),
+            0x0C => Decoded::Density(Density::Mfm),
+            0x0D => Decoded::Density(Density::Gcr),
+            0x10 => Decoded::Operation(Operation::Rewind),
+            0x11 => Decoded::Operation(Operation::FastForward),
+            0x20 => Decoded::Operation(Operation::SkipForward),
+            0x21 => Decoded::Operation(Operation::SkipReverse),
+            0x22 => Decoded::Operation(Operation::SearchForward),
+            0x23 => Decoded::Operation(Operation::SearchReverse),
+            0x24 => Decoded::Operation(Operation::WriteMark),
+            _ => Decoded::Code(code::NO_SUCH_OPERATION),
+        },
+        4 => match operand[0] {
+            0x00 => Decoded::Operation(Operation::Read),
+            0x40 => Decoded::Operation(Operation::CheckBytes),
+            _ => Decoded::Code(code::NO_SUCH_OPERATION),
+        },
+        5 if u16::from_be_bytes([operand[2], operand[3]]) as usize <= records::RECORD_LIMIT => {
+            Decoded::Operation(Operation::Write)
+        }
+        6 => Decoded::Operation(Operation::Erase),
+        _ => Decoded::Code(code::NO_SUCH_OPERATION),
+    }
+}
+
+/// Refusals 7 to 10, which look at the result as it was handed in, tape or no tape.
+fn check_reported(
+    operation: Operation,
+    density: Density,
+    reported: &Reported,
+) -> Result<(), Refusal> {
+    let Reported {
+        code,
+        mark,
+        late,
+        image,
+        marks,
+    } = *reported;
+    if !operation.listed().contains(&code) {
+        return Err(Refusal::CodeNotListed);
+    }
+    let good = code == code::GOOD;
+    let may_find_mark =
+        operation == Operation::Read || operation.is_skip() || operation.is_search();
+    if mark && !(good && may_find_mark) || operation.is_search() && good && !mark || late > 3 {
+        return Err(Refusal::Flags);
+    }
+    let whole = operation.reads_record() && matches!(code, 0x00 | 0x10 | 0x11 | 0x12) && !mark;
+    let count_alone =
+        operation == Operation::SkipReverse && density == Density::Gcr && good && !mark;
+    if whole || count_alone {
+        let count = records::count_of(image).ok_or(Refusal::Length)?;
+        let lengths = if whole {
+            (
+                records::image_length(count, density),
+                records::marks_length(count, density),
+            )
+        } else {
+            (2, 0)
+        };
+        if count > records::RECORD_LIMIT || (image.len(), marks.len()) != lengths {
+            return Err(Refusal::Length);
+        }
+    } else if !image.is_empty() || !marks.is_empty() {
+        return Err(Refusal::Length);
+    }
+    if !marks.iter().all(|&mark| records::is_mark(mark)) {
+        return Err(Refusal::MarkValue);
+    }
+    Ok(())
+}
+
+// ---------------------------------------------------------------------------------------------
+// Execute: the eight calls, loads and stores
+// ---------------------------------------------------------------------------------------------
+
+impl Default for Machine {
+    fn default() -> Machine {
+        Machine::fresh()
+    }
+}
+
+impl Machine {
+    pub fn fresh() -> Machine {
+        Machine {
+            drives: [Drive::fresh(report::POSITION_UNKNOWN); 4],
+            selected: 0,
+            changed: true,
+            enable: false,
+            outcome: 0,
+            secondary: 0,
+            tertiary: 0,
+            quintary: 0,
+            phase: IDLE,
+            mutant: None,
+        }
+    }
+
+    // -----------------------------------------------------------------------------------------
+    // The eight calls
+    // -----------------------------------------------------------------------------------------
+
+    /// A byte came over the link.
+    pub fn byte(&mut self, byte: u8) -> Answer {
+        match self.phase {
+            Phase::Collecting { string, length } => Ok(self.collect(string, length, byte)),
+            // The string is dropped and the byte swallowed, whichever it is.
+            Phase::AckOffered { .. } => Ok(self.rest()),
+            Phase::Sending { send, string, noes } => {
+                if byte == link::ACK {
+                    Ok(self.accepted(send))
+                } else {
+                    Ok(self.said_no(send, string, noes + 1))
+                }
+            }
+            Phase::GoOffered(job) => {
+                if byte == link::ACK {
+                    self.phase = Phase::DataAwaited(job);
+                    Ok(Action::None)
+                } else {
+                    Ok(self.no_go(job))
+                }
+            }
+            // Yes or no, the completion goes on.
+            Phase::EorOffered { interrupt } => Ok(self.complete(interrupt)),
+            Phase::DataAwaited(_) | Phase::ResultAwaited(_) => Err(Refusal::LinkCall),
+        }
+    }
+
+    /// The offered ACK was taken: the string is carried out.
+    pub fn taken(&mut self) -> Answer {
+        let Phase::AckOffered { string } = self.phase else {
+            return Err(Refusal::LinkCall);
+        };
+        if string[0] == link::LOAD {
+            Ok(self.load(string[1]))
+        } else {
+            let operand = [string[2], string[3], string[4], string[5]];
+            Ok(self.store(string[1], operand))
+        }
+    }
+
+    /// The exchange was broken off.
+    pub fn broken(&mut self) -> Answer {
+        match self.phase {
+            Phase::Collecting { .. } | Phase::AckOffered { .. } => Ok(self.rest()),
+            Phase::Sending { send, .. } => Ok(self.given_up(send)),
+            Phase::GoOffered(job) => Ok(self.no_go(job)),
+            Phase::EorOffered { interrupt } => Ok(self.complete(interrupt)),
+            Phase::DataAwaited(_) | Phase::ResultAwaited(_) => Err(Refusal::LinkCall),
+        }
+    }
+
+    /// A drive reports. Accepted in every phase: tape may go while a result is awaited.
+    pub fn report(&mut self, drive: u8, report: u8) -> Answer {
+        let Some(drive) = self.drives.get_mut(drive as usize) else {
+            return Err(Refusal::DriveNumber);
+        };
+        drive.report = report;
+        if !drive.reports(report::INSTALLED) {
+            drive.gap = Gap::Lost;
+        }
+        Ok(Action::None)
+    }
+
+    /// The host's bytes for a write: the image is built and the move ordered.
+    pub fn data(
+        &mut self,
+        host: &[u8],
+        image: &mut [u8],
+        check_store: &mut [u8],
+    ) -> TransferAnswer {
+        let Phase::DataAwaited(job) = self.phase else {
+            return Err(Refusal::NotAwaited);
+        };
+        if check_store.len() != records::CHECK_BYTES {
+            return Err(Refusal::CheckStore);
+        }
+        let density = self.drive().density;
+        if image.len() < records::image_length(job.count(), density) {
+            return Err(Refusal::ImageSpace);
+        }
+
+        let needed = job.thrown_away() + job.count();
+        let meant = &host[job.thrown_away().min(host.len())..needed.min(host.len())];
+        let mut missing = host.len() < needed;
+        if self.wrong(Mutant::ThrownAwayNotMissed) {
+            missing = meant.len() < job.count();
+        }
+        if missing {
+            self.outcome |= primary::UNDERFLOW;
+        }
+        let mut record = meant.to_vec();
+        record.resize(job.count(), 0);
+        let length = records::build(&record, density, image);
+        if density == Density::Gcr {
+            self.clear_correction(check_store);
+            keep_check_blockettes(&image[..length], check_store);
+        }
+        self.phase = Phase::ResultAwaited(job);
+        Ok((Action::Order(self.order(job)), length))
+    }
+
+    /// What became of the operation under way.
+    pub fn result(
+        &mut self,
+        reported: Reported,
+        host_space: &mut [u8],
+        check_store: &mut [u8],
+    ) -> TransferAnswer {
+        let Phase::ResultAwaited(job) = self.phase else {
+            return Err(Refusal::NotAwaited);
+        };
+        if check_store.len() != records::CHECK_BYTES {
+            return Err(Refusal::CheckStore);
+        }
+        let density = self.drive().density;
+        check_reported(job.operation, density, &reported)?;
+
+        // The tape may have gone meanwhile: then nothing that was reported is used.
+        let tape_gone = job.operation.moves_tape()
+            && !self.drive().reports(report::INSTALLED)
+            && !self.wrong(Mutant::TapeGoneUnnoticed);
+        let mut code = if tape_gone {
+            code::TAPE_GONE
+        } else {
+            reported.code
+        };
+        let mark = reported.mark && !tape_gone;
+        // The count of an image, where one came and is used.
+        let used = if tape_gone {
+            None
+        } else {
+            records::count_of(reported.image)
+        };
+
+        // Errors of a GCR record replace the code.
+        let mut verdict = Verdict::Clean;
+        if job.operation.reads_record() && density == Density::Gcr {
+            let keep = self.wrong(Mutant::CheckStoreKeptByMark) && mark;
+            if !keep {
+                self.clear_correction(check_store);
+            }
+            if used.is_some() {
+                keep_check_blockettes(reported.image, check_store);
+                let scan = records::scan(reported.marks, self.mutant);
+                self.tertiary = scan.tertiary;
+                self.quintary = scan.quintary;
+                verdict = scan.verdict;
+            }
+        }
+        match verdict {
+            Verdict::Clean => {}
+            Verdict::Recoverable => code = code::RECOVERABLE,
+            Verdict::StoppedAt(_) => code = code::UNRECOVERABLE,
+        }
+
+        // Delivery, as far as the host has space.
+        let mut flags = 0;
+        let delivered = {
+            let bytes: &[u8] = match (job.operation, used) {
+                (Operation::Read, Some(count)) => {
+                    &reported.image[2..2 + records::readable(count, verdict)]
+                }
+                (Operation::CheckBytes, _) => check_store,
+                _ => &[],
+            };
+            let fitting = bytes.len().min(host_space.len());
+            host_space[..fitting].copy_from_slice(&bytes[..fitting]);
+            let wanted = match used {
+                Some(count) if self.wrong(Mutant::OverflowAgainstCount) => count,
+                _ => bytes.len(),
+            };
+            if host_space.len() < wanted {
+                flags |= primary::OVERFLOW;
+            }
+            fitting
+        };
+
+        // The rest of the outcome, and the gap.
+        if reported.late & 1 != 0 {
+            flags |= primary::LATE_1;
+        }
+        if reported.late & 2 != 0 {
+            flags |= primary::LATE_2;
+        }
+        let written = job.operation == Operation::Write && code == code::GOOD;
+        if let Some(count) = used.or(written.then(|| job.count())) {
+            flags |= primary::COUNT_VALID;
+            self.secondary = count as u16;
+        }
+        if mark {
+            flags |= primary::MARK;
+        }
+        self.outcome |= flags;
+        self.settle(code, job.operation.motion(code));
+        if let Some(gap) = job.operation.gap(code) {
+            self.drive_mut().gap = gap;
+        }
+        Ok((self.end(job), delivered))
+    }
+
+    /// Time passes while nothing is collected.
+    pub fn tick(&mut self) -> Answer {
+        if self.phase != IDLE {
+            return Err(Refusal::NotIdle);
+        }
+        self.review();
+        if self.changed && self.enable {
+            let word = self.primary();
+            Ok(self.send(Send::DriveChange, link::INTERRUPT, word))
+        } else {
+            Ok(Action::None)
+        }
+    }
+
+    /// Fresh, but for the reports, which count as reviewed.
+    pub fn reset(&mut self) -> Answer {
+        let drives = self.drives.map(|drive| Drive::fresh(drive.report));
+        *self = Machine {
+            drives,
+            mutant: self.mutant,
+            ..Machine::fresh()
+        };
+        Ok(Action::None)
+    }
+
+    // -----------------------------------------------------------------------------------------
+    // Strings from the link
+    // -----------------------------------------------------------------------------------------
+
+    fn collect(&mut self, mut string: [u8; 8], length: usize, byte: u8) -> Action {
+        if length == 0 && byte == link::NACK {
+            return Action::None;
+        }
+        if length == 0 && byte != link::LOAD && byte != link::STORE {
+            return self.nack();
+        }
+        string[length] = byte;
+        let length = length + 1;
+        let whole = if string[0] == link::LOAD {
+            link::LOAD_LENGTH
+        } else {
+            link::STORE_LENGTH
+        };
+        if length < whole {
+            self.phase = Phase::Collecting { string, length };
+            Action::None
+        } else if string[..whole].iter().fold(0, |sum, byte| sum ^ byte) == 0 {
+            self.phase = Phase::AckOffered { string };
+            Action::Byte(link::ACK)
+        } else {
+            self.nack()
+        }
+    }
+
+    fn nack(&mut self) -> Action {
+        if self.wrong(Mutant::NoReviewAfterNack) {
+            self.phase = IDLE;
+        } else {
+            self.rest();
+        }
+        Action::Byte(link::NACK)
+    }
+
+    // -----------------------------------------------------------------------------------------
+    // Loads
+    // -----------------------------------------------------------------------------------------
+
+    fn load(&mut self, address: u8) -> Action {
+        let word = match address::operation(address) {
+            0 => IDENTITY,
+            1 => self.primary(),
+            2 => self.secondary as u32,
+            3 => self.tertiary,
+            4 => u32::from_be_bytes(self.drives.map(|drive| drive.report)),
+            5 => self.quintary,
+            _ => return self.rest(),
+        };
+        self.send(Send::LoadReply, link::LOAD_REPLY, word)
+    }
+
+    /// The primary status word, made from what holds now.
+    pub fn primary(&self) -> u32 {
+        let drive = self.drive();
+        let mut word = self.outcome;
+        if self.changed {
+            word |= primary::CHANGED;
+        }
+        if self.enable {
+            word |= primary::ENABLE;
+        }
+        if drive.density == Density::Gcr {
+            word |= primary::DENSITY;
+        }
+        word |= drive.track as u32 * primary::TRACK;
+        word |= self.selected as u32 * primary::DRIVE;
+        word | drive.report as u32
+    }
+
+    /// The code field of primary.
+    pub fn code(&self) -> u8 {
+        ((self.outcome / primary::CODE) & 0x1F) as u8
+    }
+
+    // -----------------------------------------------------------------------------------------
+    // Stores
+    // -----------------------------------------------------------------------------------------
+
+    fn store(&mut self, address: u8, operand: [u8; 4]) -> Action {
+        let interrupt = address & address::INTERRUPT != 0;
+        let names_drive = address & address::NAMES_DRIVE != 0;
+        let number = (address & address::DRIVE) as usize;
+
+        if self.wrong(Mutant::CountValidLeft) {
+            self.outcome &= primary::COUNT_VALID;
+        } else {
+            self.outcome = 0;
+        }
+        if names_drive {
+            if number > 3 {
+                return self.end_with(code::NO_SUCH_DRIVE, interrupt);
+            }
+            if self.wrong(Mutant::DensityOfLastDrive) {
+                self.drives[number].density = self.drive().density;
+            }
+            self.selected = number;
+        }
+        let decoded = decode(address::operation(address), operand);
+        if self.wrong(Mutant::TestBeforeDecode)
+            && address::operation(address) == 5
+            && !Operation::Write.may_start(self.drive())
+        {
+            return self.end_with(code::NOT_READY, interrupt);
+        }
+        match decoded {
+            Decoded::Code(code) => self.end_with(code, interrupt),
+            Decoded::Reset => {
+                let _ = self.reset();
+                Action::None
+            }
+            Decoded::Track(track) => {
+                let drive = self.drive_mut();
+                if drive.track != track {
+                    drive.track = track;
+                    drive.gap = if drive.reports(report::BOT) {
+                        Gap::Proper
+                    } else {
+                        Gap::Lost
+                    };
+                }
+                self.complete(interrupt)
+            }
+            Decoded::Enable(enable) => {
+                self.enable = enable;
+                self.complete(interrupt)
+            }
+            Decoded::Density(density) => {
+                self.drive_mut().density = density;
+                self.complete(interrupt)
+            }
+            Decoded::Operation(operation) => self.start(Job {
+                operation,
+                operand,
+                interrupt,
+            }),
+        }
+    }
+
+    fn start(&mut self, job: Job) -> Action {
+        let operation = job.operation;
+        if !operation.may_start(self.drive()) {
+            return self.end_with(code::NOT_READY, job.interrupt);
+        }
+        let keeps =
+            self.wrong(Mutant::SecondaryKeptByReverseSkip) && operation == Operation::SkipReverse;
+        // A count may be read or written, so the old one goes.
+        if (matches!(operation, Operation::Read | Operation::Write) || operation.is_skip())
+            && !keeps
+        {
+            self.secondary = 0;
+        }
+        match operation {
+            Operation::Write => {
+                self.phase = Phase::GoOffered(job);
+                Action::Byte(link::GO)
+            }
+            Operation::CheckBytes => {
+                self.phase = Phase::ResultAwaited(job);
+                Action::None
+            }
+            _ => {
+                self.phase = Phase::ResultAwaited(job);
+                Action::Order(self.order(job))
+            }
+        }
+    }
+
+    /// The motion order: operation, drive, track, density, last two operand bytes.
+    fn order(&self, job: Job) -> [u8; 6] {
+        let drive = self.drive();
+        [
+            job.operation.order(),
+            self.selected as u8,
+            drive.track,
+            (drive.density == Density::Gcr) as u8,
+            job.operand[2],
+            job.operand[3],
+        ]
+    }
+
+    fn no_go(&mut self, job: Job) -> Action {
+        self.settle(code::NO_GO, motion::NONE);
+        self.end(job)
+    }
+
+    /// Puts code and motion in the outcome, and the retry bit that follows from it.
+    fn settle(&mut self, code: u8, motion: u8) {
+        self.outcome |= code as u32 * primary::CODE;
+        self.outcome |= motion as u32 * primary::MOTION;
+        if code != code::GOOD || self.outcome & primary::TROUBLE != 0 {
+            self.outcome |= primary::RETRY;
+        }
+    }
+
+    // -----------------------------------------------------------------------------------------
+    // Complete: EOR, review, interrupt, sends
+    // -----------------------------------------------------------------------------------------
+
+    /// A code found before anything started ends the store, without EOR.
+    fn end_with(&mut self, code: u8, interrupt: bool) -> Action {
+        self.settle(code, motion::NONE);
+        self.complete(interrupt)
+    }
+
+    /// A result came or GO failed: EOR where the operation offers it.
+    fn end(&mut self, job: Job) -> Action {
+        if job.operation.offers_eor() {
+            if self.wrong(Mutant::ReviewAtEorOffer) {
+                self.review();
+            }
+            self.phase = Phase::EorOffered {
+                interrupt: job.interrupt,
+            };
+            Action::Byte(link::EOR)
+        } else {
+            self.complete(job.interrupt)
+        }
+    }
+
+    fn complete(&mut self, interrupt: bool) -> Action {
+        self.rest();
+        if !interrupt {
+            return Action::None;
+        }
+        if !self.wrong(Mutant::EnableKeptAtCompletion) {
+            self.enable = false;
+        }
+        if self.outcome & primary::COUNT_VALID != 0 {
+            let word = self.secondary as u32;
+            self.send(Send::Secondary, link::SECONDARY_UPDATE, word)
+        } else {
+            self.interrupt_completion()
+        }
+    }
+
+    fn interrupt_completion(&mut self) -> Action {
+        let word = self.primary();
+        self.send(Send::Completion, link::INTERRUPT, word)
+    }
+
+    fn send(&mut self, send: Send, lead: u8, word: u32) -> Action {
+        let string = sent_string(lead, word);
+        self.phase = Phase::Sending {
+            send,
+            string,
+            noes: 0,
+        };
+        Action::String(string)
+    }
+
+    fn accepted(&mut self, send: Send) -> Action {
+        match send {
+            Send::LoadReply => self.rest(),
+            // No review between: primary shows the changed bit of the completion.
+            Send::Secondary => {
+                if self.wrong(Mutant::ReviewBeforePrimary) {
+                    self.review();
+                }
+                self.interrupt_completion()
+            }
+            Send::Completion => {
+                self.changed = false;
+                self.rest()
+            }
+            Send::DriveChange => {
+                self.enable = false;
+                self.changed = false;
+                self.rest()
+            }
+        }
+    }
+
+    fn said_no(&mut self, send: Send, mut string: [u8; 6], noes: u8) -> Action {
+        let last = link::LAST_NO - (self.wrong(Mutant::FourthNoGivesUp)) as u8;
+        if noes == last {
+            return self.given_up(send);
+        }
+        if self.wrong(Mutant::SendMadeAnew) && string[0] == link::INTERRUPT {
+            string = sent_string(link::INTERRUPT, self.primary());
+        }
+        self.phase = Phase::Sending { send, string, noes };
+        Action::String(string)
+    }
+
+    fn given_up(&mut self, send: Send) -> Action {
+        if send == Send::DriveChange {
+            self.enable = false;
+        }
+        if self.wrong(Mutant::ChangedClearedUnaccepted)
+            && matches!(send, Send::Completion | Send::DriveChange)
+        {
+            self.changed = false;
+        }
+        self.rest()
+    }
+
+    /// Review, then collecting.
+    fn rest(&mut self) -> Action {
+        self.review();
+        self.phase = IDLE;
+        Action::None
+    }
+
+    fn review(&mut self) {
+        for drive in &mut self.drives {
+            self.changed |= drive.report != drive.reviewed;
+            drive.reviewed = drive.report;
+        }
+    }
+
+    /// Whether this rule is to be broken, so that a comparison has something to find.
+    fn wrong(&self, mutant: Mutant) -> bool {
+        self.mutant == Some(mutant)
+    }
+
+    fn drive(&self) -> &Drive {
+        &self.drives[self.selected]
+    }
+
+    fn drive_mut(&mut self) -> &mut Drive {
+        &mut self.drives[self.selected]
+    }
+
+    /// Zeroes what is known of a GCR record's errors before the next one.
+    fn clear_correction(&mut self, check_store: &mut [u8]) {
+        self.tertiary = 0;
+        self.quintary = 0;
+        check_store.fill(0);
+    }
+}
+
+/// Check bytes of a record without bytes are zeros, which the store was cleared to.
+fn keep_check_blockettes(image: &[u8], check_store: &mut [u8]) {
+    if let Some(checks) = records::check_blockettes(image) {
+        check_store.copy_from_slice(checks);
+    }
+}
+
+/// Lead, four status bytes, and the check byte that makes the XOR zero.
+pub fn sent_string(lead: u8, word: u32) -> [u8; 6] {
+    let [a, b, c, d] = word.to_be_bytes();
+    [lead, a, b, c, d, lead ^ a ^ b ^ c ^ d]
+}

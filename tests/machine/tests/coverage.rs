@@ -1,0 +1,264 @@
+//! What generated sessions reach, and that they are the same for the same seed.
+
+use machine::generator;
+use machine::lines::{self, Line, Session};
+use machine::machine::{link, primary, Action, Operation, Phase, Send, OPERATIONS};
+use machine::records::{self, Density};
+use std::collections::BTreeMap;
+
+const SESSIONS: u64 = 200;
+const LINES: usize = 500;
+
+type Counts = BTreeMap<String, usize>;
+
+fn phase_name(phase: &Phase) -> String {
+    match phase {
+        Phase::Collecting { length: 0, .. } => "idle".to_string(),
+        Phase::Collecting { .. } => "collecting".to_string(),
+        Phase::AckOffered { .. } => "ACK offered".to_string(),
+        Phase::Sending { send, noes, .. } => format!("sending {send:?} after {noes} noes"),
+        Phase::GoOffered(_) => "GO offered".to_string(),
+        Phase::DataAwaited(_) => "data awaited".to_string(),
+        Phase::ResultAwaited(_) => "result awaited".to_string(),
+        Phase::EorOffered { .. } => "EOR offered".to_string(),
+    }
+}
+
+fn count_session(seed: u64, counts: &mut Counts) {
+    let mut count = |name: String| *counts.entry(name).or_insert(0) += 1;
+    let text = generator::session(seed, LINES);
+    let mut session = Session::new(None);
+    let mut out = Vec::new();
+    let mut number = 0;
+    for line in lines::split(&text) {
+        number += 1;
+        let before = session.machine.clone();
+        let density = before.drives[before.selected].density;
+        out.clear();
+        session.answer(line, &mut out);
+        let after = &session.machine;
+        let refusal = String::from_utf8_lossy(out.split(|&byte| byte == b',').next().unwrap());
+        count(format!("phase {}", phase_name(&after.phase)));
+        count(format!("refusal {refusal}"));
+        if refusal != "0" {
+            assert!(
+                before == *after,
+                "a line that was refused changed the state"
+            );
+            continue;
+        }
+        match (before.phase, lines::read(line)) {
+            (
+                Phase::ResultAwaited(job),
+                Some(Line::Result {
+                    code, mark, image, ..
+                }),
+            ) => {
+                let operation = job.operation;
+                count(format!("result {operation:?} {code:02X}"));
+                count(format!("result {operation:?} {density:?}"));
+                if mark {
+                    count(format!("mark {operation:?}"));
+                }
+                let last = after.code();
+                if last != code {
+                    count(format!(
+                        "code {last:02X} in place of {operation:?} {code:02X}"
+                    ));
+                }
+                let delivered = out.rsplit(|&byte| byte == b',').next().unwrap().len() / 2;
+                let whole = records::count_of(&image).unwrap_or(0);
+                let fits = after.outcome & primary::OVERFLOW == 0;
+                if operation == Operation::Read && delivered < whole && fits && last != code {
+                    count(format!(
+                        "code {last:02X} that delivers less than the record"
+                    ));
+                }
+                for bit in [17, 18, 19, 20, 22] {
+                    if after.outcome & 1 << (31 - bit) != 0 {
+                        count(format!("bit {bit} after {operation:?}"));
+                    }
+                }
+            }
+            (Phase::AckOffered { string }, Some(Line::Taken)) => {
+                let operation = string[1] >> 4 & 7;
+                if string[0] == link::LOAD {
+                    count(format!("load {operation}"));
+                } else {
+                    count(format!("store {operation}"));
+                    if operation == 3 {
+                        count(format!("control {:02X}", string[5]));
+                    }
+                    if operation != 0 && after.code() != 0 {
+                        count(format!("store ends with code {:02X}", after.code()));
+                    }
+                }
+            }
+            (Phase::DataAwaited(_), Some(Line::Data(_))) => {
+                count(format!("data {density:?}"));
+            }
+            (Phase::GoOffered(_), Some(Line::Byte(_) | Line::Broken)) => {
+                let yes = matches!(after.phase, Phase::DataAwaited(_));
+                count(format!("GO {}", if yes { "yes" } else { "no" }));
+            }
+            (Phase::Sending { send, .. }, Some(Line::Byte(byte))) => {
+                let ended = !matches!(after.phase, Phase::Sending { .. });
+                if byte == link::ACK {
+                    count(format!("accepted {send:?}"));
+                } else if ended {
+                    count(format!("given up at the fifth no {send:?}"));
+                }
+            }
+            (Phase::Sending { send, .. }, Some(Line::Broken)) => {
+                count(format!("broken {send:?}"));
+            }
+            (_, Some(Line::Reset)) => count("reset".to_string()),
+            _ => {}
+        }
+    }
+    assert_eq!(number, LINES, "seed {seed}");
+}
+
+#[test]
+fn sessions_reach_everything() {
+    let mut counts = Counts::new();
+    for seed in 1..=SESSIONS {
+        count_session(seed, &mut counts);
+    }
+    for (name, count) in &counts {
+        println!("{count:7} {name}");
+    }
+    let mut wanted: Vec<String> = (2..=10)
+        .filter(|number| *number != 6)
+        .map(|number| format!("refusal {number}"))
+        .collect();
+    wanted.extend(["0", "?"].map(|refusal| format!("refusal {refusal}")));
+    for operation in OPERATIONS {
+        for code in operation.listed() {
+            wanted.push(format!("result {operation:?} {code:02X}"));
+        }
+        for density in [Density::Mfm, Density::Gcr] {
+            wanted.push(format!("result {operation:?} {density:?}"));
+            wanted.push(format!("data {density:?}"));
+        }
+        if operation.is_search() || operation.is_skip() {
+            wanted.push(format!("mark {operation:?}"));
+        }
+        if operation.moves_tape() {
+            wanted.push(format!("code 07 in place of {operation:?} 00"));
+        }
+    }
+    wanted.push("mark Read".to_string());
+    for operation in ["Read", "SkipForward"] {
+        for code in ["15", "16"] {
+            for reported in ["00", "10", "11", "12"] {
+                wanted.push(format!("code {code} in place of {operation} {reported}"));
+            }
+        }
+    }
+    wanted.extend((0..8).map(|number| format!("load {number}")));
+    wanted.extend((0..8).map(|number| format!("store {number}")));
+    for value in (0..=9).chain([0x0C, 0x0D, 0x10, 0x11]).chain(0x20..=0x24) {
+        wanted.push(format!("control {value:02X}"));
+    }
+    wanted.extend((1..=4).map(|code| format!("store ends with code {code:02X}")));
+    for phase in [
+        "idle",
+        "collecting",
+        "ACK offered",
+        "GO offered",
+        "EOR offered",
+    ] {
+        wanted.push(format!("phase {phase}"));
+    }
+    wanted.extend(["data", "result"].map(|what| format!("phase {what} awaited")));
+    for send in [
+        Send::LoadReply,
+        Send::Secondary,
+        Send::Completion,
+        Send::DriveChange,
+    ] {
+        wanted.extend((0..5).map(|noes| format!("phase sending {send:?} after {noes} noes")));
+        wanted.push(format!("accepted {send:?}"));
+        wanted.push(format!("given up at the fifth no {send:?}"));
+        wanted.push(format!("broken {send:?}"));
+    }
+    for name in [
+        "GO yes",
+        "GO no",
+        "reset",
+        "bit 17 after Read",
+        "bit 17 after CheckBytes",
+        "bit 18 after Write",
+        "bit 22 after Read",
+        "bit 22 after Write",
+        "bit 22 after SkipForward",
+        "bit 22 after SkipReverse",
+        "code 16 that delivers less than the record",
+    ] {
+        wanted.push(name.to_string());
+    }
+    let missing: Vec<&String> = wanted
+        .iter()
+        .filter(|name| !counts.contains_key(*name))
+        .collect();
+    assert!(missing.is_empty(), "not reached: {missing:?}");
+    // The program's check store has always 512 bytes, so no session shows refusal 6 (nor 11).
+    assert!(!counts.contains_key("refusal 6") && !counts.contains_key("refusal 11"));
+}
+
+#[test]
+fn refusals_that_no_session_reaches() {
+    use machine::machine::{Machine, Refusal, Reported};
+    let mut machine = Machine::fresh();
+    let mut image = [0; 1];
+    let empty = Reported {
+        code: 0x1F,
+        mark: true,
+        late: 9,
+        image: &[1],
+        marks: &[0],
+    };
+    assert_eq!(
+        machine.data(&[], &mut image, &mut []),
+        Err(Refusal::NotAwaited)
+    );
+    assert_eq!(
+        machine.result(empty, &mut [], &mut []),
+        Err(Refusal::NotAwaited)
+    );
+    machine.report(0, 0x22).unwrap();
+    // A write of no bytes, MFM: its image has two.
+    for byte in [0x64, 0x50, 0, 0, 0, 0, 0, 0x34] {
+        machine.byte(byte).unwrap();
+    }
+    assert_eq!(machine.taken(), Ok(Action::Byte(link::GO)));
+    assert_eq!(machine.byte(link::ACK), Ok(Action::None));
+    let before = machine.clone();
+    assert_eq!(
+        machine.data(&[], &mut image, &mut [0; 511]),
+        Err(Refusal::CheckStore)
+    );
+    assert_eq!(
+        machine.data(&[], &mut image, &mut [0; 512]),
+        Err(Refusal::ImageSpace)
+    );
+    assert_eq!(machine, before);
+    assert!(machine.data(&[], &mut [0; 2], &mut [0; 512]).is_ok());
+    assert_eq!(
+        machine.result(empty, &mut [], &mut [0; 513]),
+        Err(Refusal::CheckStore)
+    );
+    assert_eq!(
+        machine.result(empty, &mut [], &mut [0; 512]),
+        Err(Refusal::CodeNotListed)
+    );
+}
+
+#[test]
+fn a_seed_gives_one_session() {
+    for seed in [0, 1, 2, 77, u64::MAX] {
+        assert_eq!(generator::session(seed, 300), generator::session(seed, 300));
+    }
+    assert_ne!(generator::session(1, 300), generator::session(2, 300));
+}

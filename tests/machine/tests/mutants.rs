@@ -1,0 +1,91 @@
+//! The comparison finds each wrong rule, a crash and a hang, and nothing where nothing is wrong.
+
+use machine::lines;
+use machine::mutants::MUTANTS;
+use std::process::{Command, Output};
+
+fn compare(program: &str, options: &[&str]) -> (Output, String) {
+    let output = Command::new(env!("CARGO_BIN_EXE_compare"))
+        .arg(program)
+        .args(options)
+        .output()
+        .unwrap();
+    let text = String::from_utf8_lossy(&output.stdout).into_owned();
+    (output, text)
+}
+
+const MACHINE: &str = env!("CARGO_BIN_EXE_machine");
+
+#[test]
+fn each_mutant_is_found() {
+    for (index, mutant) in MUTANTS.iter().enumerate() {
+        let number = (index + 1).to_string();
+        let options = ["--sessions", "400", "--", "--mutant", &number];
+        let (output, text) = compare(MACHINE, &options);
+        assert_eq!(output.status.code(), Some(1), "{mutant:?}: {text}");
+        assert!(text.starts_with("seed "), "{mutant:?}: {text}");
+        // The shrunk session replays: it still tells the two apart, at its last line.
+        let heading = b"the shrunk session, to be replayed:\n";
+        let at = output
+            .stdout
+            .windows(heading.len())
+            .position(|window| window == heading)
+            .unwrap();
+        let session = &output.stdout[at + heading.len()..];
+        let right = lines::run(session, None);
+        let wrong = lines::run(session, Some(*mutant));
+        let right: Vec<&[u8]> = lines::split(&right).collect();
+        let wrong: Vec<&[u8]> = lines::split(&wrong).collect();
+        let last = right.len() - 1;
+        assert_eq!(right[..last], wrong[..last], "{mutant:?}");
+        assert_ne!(right[last], wrong[last], "{mutant:?}");
+        println!(
+            "{mutant:?}: {}, shrunk to {} lines",
+            text.lines().next().unwrap(),
+            last + 1
+        );
+    }
+}
+
+#[test]
+fn the_machine_is_like_itself() {
+    let (output, text) = compare(
+        MACHINE,
+        &["--seed", "900", "--sessions", "20", "--lines", "300"],
+    );
+    assert_eq!(output.status.code(), Some(0), "{text}");
+    assert_eq!(text, "compared 20 sessions, 6000 lines: no difference\n");
+}
+
+#[test]
+fn a_crash_and_a_hang_are_differences() {
+    let (output, text) = compare("/bin/false", &["--sessions", "1", "--lines", "20"]);
+    assert_eq!(output.status.code(), Some(1), "{text}");
+    assert!(
+        text.contains("(nothing more)") && text.contains("exit status: 1"),
+        "{text}"
+    );
+    // Right to the last answer, but it ends badly.
+    let script = ["-c", "\"$0\"; exit 3", MACHINE];
+    let mut options = vec!["--sessions", "1", "--lines", "20", "--"];
+    options.extend(script);
+    let (output, text) = compare("/bin/sh", &options);
+    assert_eq!(output.status.code(), Some(1), "{text}");
+    assert!(text.contains("exit status: 3"), "{text}");
+    let options = [
+        "--sessions",
+        "1",
+        "--lines",
+        "3",
+        "--seconds",
+        "1",
+        "--",
+        "30",
+    ];
+    let (output, text) = compare("/bin/sleep", &options);
+    assert_eq!(output.status.code(), Some(1), "{text}");
+    assert!(text.contains("hangs"), "{text}");
+    // A program that is not there is no difference but a failure of the comparison.
+    let (output, _) = compare("/nowhere/at/all", &["--sessions", "1"]);
+    assert_eq!(output.status.code(), Some(2));
+}
