@@ -1,0 +1,122 @@
+-- Laws of digits: a loop over them, the bytes and the number that they spell.
+-- Assumes nothing.
+use mathlib.Core.Path.{_≡_, refl, sym, ap, _∙_}
+use Prim.Native.Nat.{ℕ, zero, suc, _+_, _*_, _/_, _%_, _≤_, _<_, min}
+use native.Mathlib.Numerals.{add-one}
+use native.Mathlib.Nat.{lt-of-not-le}
+use native.Mathlib.Decide.{decLe}
+use native.Mathlib.Omega.{arith}
+use mathlib.Core.Bool.{Bool, true, false, not, _&&_}
+use mathlib.Core.List.{List, [], _∷_}
+use lib.Dec.{leb, eqb}
+use lib.ListN.{length, getD, take, drop}
+use lib.Seq.{drop-cons, take-at}
+use Rattle.common.specs.Given.{given}
+use borrow.Author.Tests.{le-leb, lt-leb, eqb-true, leb-true}
+use Rattle.lines.specs.Digits.{digitValue, isDigit, allDigits, byteValue, isByte, isBytes, bytesOf, decimalFrom, decimalOf, isDecimal}
+
+-- ---- tests
+
+not-so : false ≡ true → ⊥
+not-so h = let z : _≡_ {A = ℕ} 0 1 = cc in omega arith
+
+pub and-left : (a b : Bool) → (a && b) ≡ true → a ≡ true
+and-left true b e = refl
+and-left false b e = e
+
+pub and-right : (a b : Bool) → (a && b) ≡ true → b ≡ true
+and-right true b e = e
+and-right false b e = absurd (not-so e)
+
+pub and-six : (a b c d e f : Bool) → (a && (b && (c && (d && (e && f))))) ≡ true
+    → (a ≡ true) × (b ≡ true) × (c ≡ true) × (d ≡ true) × (e ≡ true) × (f ≡ true)
+and-six true true true true true true h = (refl, refl, refl, refl, refl, refl)
+and-six true true true true true false h = absurd (not-so h)
+and-six true true true true false f h = absurd (not-so h)
+and-six true true true false e f h = absurd (not-so h)
+and-six true true false d e f h = absurd (not-so h)
+and-six true false c d e f h = absurd (not-so h)
+and-six false b c d e f h = absurd (not-so h)
+
+-- a byte that is no digit decides, and a digit is passed
+pub digits-stop : (base : ℕ) (s : List ℕ) (at : ℕ) → at < length s → isDigit base (getD s at 0) ≡ false → allDigits base (drop at s) ≡ false
+unfolding allDigits
+digits-stop base s at below bad = rw (drop-cons s at 0, bad)
+
+pub digits-pass : (base : ℕ) (s : List ℕ) (at : ℕ) → at < length s → isDigit base (getD s at 0) ≡ true
+    → allDigits base (drop (at + 1) s) ≡ allDigits base (drop at s)
+unfolding allDigits
+digits-pass base s at below good = rw (add-one, drop-cons s at 0, good)
+
+-- ---- bytes
+
+pub is-byte-length : (s : List ℕ) → isByte s ≡ true → length s ≡ 2
+unfolding isByte
+is-byte-length s e = eqb-true _ _ (and-left _ _ e)
+
+pub is-bytes-length : (limit : ℕ) (s : List ℕ) → isBytes limit s ≡ true → length s ≤ 2 * limit
+unfolding isBytes
+is-bytes-length limit s e =
+    let both : (leb (length s) (2 * limit) && allDigits 16 s) ≡ true = and-right (eqb (length s % 2) 0) _ e in
+    leb-true _ _ (and-left _ (allDigits 16 s) both)
+
+pub bytes-length : (s : List ℕ) → length (bytesOf s) ≡ length s / 2
+unfolding bytesOf
+bytes-length [] = refl
+bytes-length (high ∷ []) = refl
+bytes-length (high ∷ low ∷ s) = omega (arith, bytes-length s)
+
+double : (i : ℕ) → 2 * suc i ≡ suc (suc (2 * i))
+double i = omega arith
+
+double-next : (i : ℕ) → 2 * suc i + 1 ≡ suc (suc (2 * i + 1))
+double-next i = omega arith
+
+pub bytes-at : (s : List ℕ) (i : ℕ) → i < length s / 2 → getD (bytesOf s) i 0 ≡ byteValue (getD s (2 * i) 0) (getD s (2 * i + 1) 0)
+unfolding bytesOf
+bytes-at [] i p = let none : ⊥ = omega arith in absurd none
+bytes-at (high ∷ []) i p = let none : ⊥ = omega arith in absurd none
+bytes-at (high ∷ low ∷ s) zero p = refl
+bytes-at (high ∷ low ∷ s) (suc i) p = rw (double-next i, double i) (bytes-at s i (omega arith))
+
+-- the bytes as they stand in a space that they were put into
+pub bytes-given : (s space : List ℕ) → take (length s / 2) (given (bytesOf s) space) ≡ bytesOf s
+unfolding given
+bytes-given s space = take-at (bytesOf s) (drop (length (bytesOf s)) space) (length s / 2) (bytes-length s)
+
+-- ---- decimals
+
+-- a number that is cut at the most stays there
+cut-twice : (v digit : ℕ) → min (10 * min v 65535 + digit) 65535 ≡ min (10 * v + digit) 65535
+cut-twice v digit = omega arith
+
+capped-from : (value : ℕ) (s : List ℕ) → min (decimalFrom (min value 65535) s) 65535 ≡ min (decimalFrom value s) 65535
+unfolding decimalFrom
+capped-from value [] = omega arith
+capped-from value (d ∷ s) =
+    sym (capped-from (10 * min value 65535 + digitValue d) s)
+    ∙ ap (λ (x : ℕ). min (decimalFrom x s) 65535) (cut-twice value (digitValue d))
+    ∙ capped-from (10 * value + digitValue d) s
+
+-- one digit more
+pub decimal-next : (s : List ℕ) (at value : ℕ) → at < length s
+    → min (decimalFrom (min (10 * value + digitValue (getD s at 0)) 65535) (drop (at + 1) s)) 65535 ≡ min (decimalFrom value (drop at s)) 65535
+unfolding decimalFrom
+decimal-next s at value below = rw (add-one, drop-cons s at 0) (capped-from (10 * value + digitValue (getD s at 0)) (drop (suc at) s))
+
+-- a limit below the most sees no cut
+pub limit-capped : (x limit : ℕ) → limit < 65535 → leb (min x 65535) limit ≡ leb x limit
+limit-capped x limit h =
+    elim (decLe x limit) [
+      | yes within ↦ let fits : min x 65535 ≤ limit = omega arith in le-leb _ _ fits ∙ sym (le-leb _ _ within)
+      | no over ↦
+          let past : limit < x = lt-of-not-le over in
+          let cut : limit < min x 65535 = omega arith in
+          lt-leb _ _ cut ∙ sym (lt-leb _ _ past)
+    ]
+
+pub is-decimal-limit : (limit : ℕ) (s : List ℕ) → isDecimal limit s ≡ true → decimalOf s ≤ limit
+unfolding isDecimal
+is-decimal-limit limit s e =
+    let both : (allDigits 10 s && leb (decimalOf s) limit) ≡ true = and-right (not (eqb (length s) 0)) _ e in
+    leb-true _ _ (and-right (allDigits 10 s) _ both)

@@ -1,0 +1,85 @@
+-- Laws of fields: a loop that looks for a comma.
+-- Assumes nothing.
+use mathlib.Core.Path.{_≡_, refl, sym, ap, _∙_}
+use Prim.Native.Nat.{ℕ, suc, _+_, _≤_, _<_}
+use native.Mathlib.Numerals.{add-one}
+use native.Mathlib.Omega.{arith}
+use mathlib.Core.Bool.{Bool, true, false}
+use mathlib.Core.List.{List, [], _∷_, _++_, append-nil}
+use lib.Dec.{eqb}
+use lib.ListN.{length, getD, take, drop, drop-of-length-le}
+use lib.Seq.{drop-cons, take-suc, append-snoc}
+use Rattle.common.specs.Pick.{pick}
+use Rattle.lines.specs.Line.{fieldOf, afterField, afterFields, resultFields, resultLine}
+
+-- a comma ends the field
+pub field-stop : (s : List ℕ) (at : ℕ) → at < length s → eqb (getD s at 0) 44 ≡ true → take at s ≡ take at s ++ fieldOf (drop at s)
+unfolding fieldOf pick
+field-stop s at below comma = rw (drop-cons s at 0, comma) (sym (append-nil (take at s)))
+
+-- any other byte is a byte of the field
+pub field-pass : (s : List ℕ) (at : ℕ) → at < length s → eqb (getD s at 0) 44 ≡ false
+    → take (at + 1) s ++ fieldOf (drop (at + 1) s) ≡ take at s ++ fieldOf (drop at s)
+unfolding fieldOf pick
+field-pass s at below other =
+    rw (add-one, take-suc s at 0, drop-cons s at 0, other) (append-snoc (take at s) (getD s at 0) (fieldOf (drop (suc at) s)))
+
+-- the field goes to the end
+pub field-all : (s : List ℕ) (at : ℕ) → at ≡ length s → take at s ++ fieldOf (drop at s) ≡ fieldOf s → take (length s) s ≡ fieldOf s
+unfolding fieldOf
+field-all s at e passed =
+    let past : length s ≤ at = omega arith in
+    ap (λ (n : ℕ). take n s) (sym e)
+    ∙ sym (append-nil (take at s))
+    ∙ ap (λ (x : List ℕ). take at s ++ fieldOf x) (sym (drop-of-length-le s past))
+    ∙ passed
+
+-- a field is no longer than what it stands in
+within : (b : ℕ) (s : List ℕ) (comma : Bool) → length (fieldOf s) ≤ length s → length (pick comma [] (b ∷ fieldOf s)) ≤ suc (length s)
+unfolding pick
+within b s true h = omega arith
+within b s false h = omega arith
+
+pub field-within : (s : List ℕ) → length (fieldOf s) ≤ length s
+unfolding fieldOf
+field-within [] = omega arith
+field-within (b ∷ s) = within b s (eqb b 44) (field-within s)
+
+pub field-fits : (s : List ℕ) {f : List ℕ} → f ≡ fieldOf s → length f ≤ length s
+field-fits s e = rw e (field-within s)
+
+-- what comes after one field, and after one field more
+pub after-is : (s f : List ℕ) {a : List ℕ} → f ≡ fieldOf s → a ≡ drop (length f + 1) s → a ≡ afterField s
+unfolding afterField
+after-is s f e d = d ∙ ap (λ (x : List ℕ). drop (length x + 1) s) e
+
+start : (s : List ℕ) → s ≡ afterFields 0 s
+unfolding afterFields
+start s = refl
+
+after-next : (k : ℕ) (s t f : List ℕ) {a : List ℕ} → t ≡ afterFields k s → f ≡ fieldOf t → a ≡ drop (length f + 1) t → a ≡ afterFields (suc k) s
+unfolding afterFields
+after-next k s t f so e d = after-is t f e d ∙ ap afterField so
+
+-- a result's fields, cut off one after the other
+pub result-cut : (s code s1 mark s2 late s3 image s4 marks space : List ℕ)
+    → code ≡ fieldOf s
+    → s1 ≡ drop (length code + 1) s
+    → mark ≡ fieldOf s1
+    → s2 ≡ drop (length mark + 1) s1
+    → late ≡ fieldOf s2
+    → s3 ≡ drop (length late + 1) s2
+    → image ≡ fieldOf s3
+    → s4 ≡ drop (length image + 1) s3
+    → marks ≡ fieldOf s4
+    → space ≡ drop (length marks + 1) s4
+    → resultFields code mark late image marks space ≡ resultLine s
+unfolding resultLine
+result-cut s code s1 mark s2 late s3 image s4 marks space f1 d1 f2 d2 f3 d3 f4 d4 f5 d5 =
+    let none : s ≡ afterFields 0 s = start s in
+    let e1 : s1 ≡ afterFields 1 s = after-next 0 s s code none f1 d1 in
+    let e2 : s2 ≡ afterFields 2 s = after-next 1 s s1 mark e1 f2 d2 in
+    let e3 : s3 ≡ afterFields 3 s = after-next 2 s s2 late e2 f3 d3 in
+    let e4 : s4 ≡ afterFields 4 s = after-next 3 s s3 image e3 f4 d4 in
+    let e5 : space ≡ afterFields 5 s = after-next 4 s s4 marks e4 f5 d5 in
+    rw (f1, f2, f3, f4, f5, e1, e2, e3, e4, e5)

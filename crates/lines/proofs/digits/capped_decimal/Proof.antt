@@ -1,0 +1,83 @@
+-- `lines::digits::capped_decimal` meets its contract: before each turn the number so far, with the digits that are left, is the number, both cut at the most.
+-- Assumes nothing.
+
+use borrow.Author.Needs.{needs}
+use mathlib.Core.Path.{_≡_, refl, sym, ap, _∙_}
+use mathlib.Core.List.{List}
+use Prim.Native.Nat.{ℕ, _+_, _*_, _≤_, _<_, _-_, min}
+use native.Mathlib.Omega.{arith}
+use lib.ListN.{length, drop, drop-of-length-le}
+use Rattle.lines.specs.Digits.{decimalFrom, decimalOf}
+use Rattle.lines.proofs.DigitLaws.{decimal-next}
+use Rattle.lines.proofs.digits.capped_decimal.Statement.{statement}
+use Rattle.lines.proofs.digits.capped_decimal.Tie as tie
+
+uncut : (value : ℕ) → value ≤ 65535 → value ≡ min value 65535
+uncut value h = omega arith
+
+abbrev Inv-loop : tie.InvT-loop
+Inv-loop s end value₀ at₀ value at = (at ≤ length s) × (value ≤ 65535) × (min (decimalFrom value (drop at s)) 65535 ≡ min (decimalOf s) 65535)
+
+abbrev μ-loop : tie.MeasureT-loop
+μ-loop s end value₀ at₀ value at = length s - at
+
+loop-holds : tie.Need-loop-holds Inv-loop μ-loop
+unfolding decimalOf
+loop-holds c = (omega arith, omega arith, refl)
+
+shared-slice-read-digit-value : tie.Need-shared-slice-read-digit-value Inv-loop μ-loop
+shared-slice-read-digit-value c = search needs
+
+digit-value-requires : tie.Need-digit-value-requires Inv-loop μ-loop
+digit-value-requires c κs = search needs
+
+cast-digit : tie.Need-cast-digit Inv-loop μ-loop
+cast-digit c = search needs
+
+mul-least : tie.Need-mul-least Inv-loop μ-loop
+mul-least c = search needs
+
+add-least : tie.Need-add-least Inv-loop μ-loop
+add-least c = search needs
+
+least-requires : tie.Need-least-requires Inv-loop μ-loop
+least-requires c κs = search needs
+
+add-at : tie.Need-add-at Inv-loop μ-loop
+add-at c = search needs
+
+loop-less : tie.Need-loop-less Inv-loop μ-loop
+loop-less c = search needs
+
+loop-again : tie.Need-loop-again Inv-loop μ-loop
+loop-again c = 
+    let l = c .before .before .before .before .loop in
+    let s = c .before .before .before .before .before .before .args .s .now in
+    let below : l .at < length s = omega arith in
+    (omega arith, omega (arith, c .least .ensures), rw (c .least .ensures, c .before .digit-value .ensures .0) (decimal-next s (l .at) (l .value) below) ∙ l .inv .2)
+
+returns : tie.Need-returns Inv-loop μ-loop
+unfolding decimalFrom
+returns c = 
+    let l = c .before .loop in
+    let s = c .before .before .before .args .s .now in
+    let done : length s ≤ l .at = omega arith in
+    uncut (l .value) (l .inv .1) ∙ (rw (drop-of-length-le s done) at (l .inv .2))
+
+pub capped-decimal-spec : {M : Type 1} → statement M
+capped-decimal-spec =
+    tie.close
+    (tie.spec
+    Inv-loop
+    μ-loop
+    loop-holds
+    shared-slice-read-digit-value
+    digit-value-requires
+    cast-digit
+    mul-least
+    add-least
+    least-requires
+    add-at
+    loop-less
+    loop-again
+    returns)

@@ -1,0 +1,67 @@
+-- `lines::line::field_end` meets its contract: before each turn what is passed and the field of what is left are the field.
+-- Assumes nothing.
+
+use borrow.Author.Needs.{needs}
+use borrow.Author.Tests.{eq-eqb, ne-eqb}
+use mathlib.Core.Path.{_≡_, refl, sym, ap, _∙_}
+use mathlib.Core.List.{List, _++_, append-nil}
+use Prim.Native.Nat.{ℕ, _+_, _≤_, _<_, _-_}
+use native.Mathlib.Omega.{arith}
+use lib.ListN.{length, take, drop, getD, drop-of-length-le}
+use Rattle.lines.specs.Line.{fieldOf}
+use Rattle.lines.proofs.FieldLaws.{field-stop, field-pass, field-all}
+use Rattle.lines.proofs.line.field_end.Statement.{statement}
+use Rattle.lines.proofs.line.field_end.Tie as tie
+
+abbrev Inv-loop : tie.InvT-loop
+Inv-loop s end at₀ at = (at ≤ length s) × (take at s ++ fieldOf (drop at s) ≡ fieldOf s)
+
+abbrev μ-loop : tie.MeasureT-loop
+μ-loop s end at₀ at = length s - at
+
+loop-holds : tie.Need-loop-holds Inv-loop μ-loop
+loop-holds c = (omega arith, refl)
+
+shared-slice-read-if1 : tie.Need-shared-slice-read-if1 Inv-loop μ-loop
+shared-slice-read-if1 c = search needs
+
+returns : tie.Need-returns Inv-loop μ-loop
+returns c = 
+    let l = c .before .before .before .loop in
+    let s = c .before .before .before .before .args .s .now in
+    let below : l .at < length s = omega arith in
+    (field-stop s (l .at) below (eq-eqb _ _ (c .if1 .taken)) ∙ l .inv .1, l .inv .0)
+
+add-at : tie.Need-add-at Inv-loop μ-loop
+add-at c = search needs
+
+loop-less : tie.Need-loop-less Inv-loop μ-loop
+loop-less c = search needs
+
+loop-again : tie.Need-loop-again Inv-loop μ-loop
+loop-again c = 
+    let l = c .before .before .before .loop in
+    let s = c .before .before .before .before .args .s .now in
+    let below : l .at < length s = omega arith in
+    (omega arith, field-pass s (l .at) below (ne-eqb _ _ (c .if1 .left)) ∙ l .inv .1)
+
+returns-2 : tie.Need-returns-2 Inv-loop μ-loop
+returns-2 c = 
+    let l = c .before .loop in
+    let s = c .before .before .args .s .now in
+    let all : l .at ≡ length s = omega arith in
+    (field-all s (l .at) all (l .inv .1), omega arith)
+
+pub field-end-spec : {M : Type 1} → statement M
+field-end-spec =
+    tie.close
+    (tie.spec
+    Inv-loop
+    μ-loop
+    loop-holds
+    shared-slice-read-if1
+    returns
+    add-at
+    loop-less
+    loop-again
+    returns-2)

@@ -1,0 +1,52 @@
+-- What the session prints for a line (document 01, Loads, restorer, session): "It prints refusal,action (- none, A byte, P string, M
+-- order),its bytes,bytes delivered or image. An unreadable line prints ?,-,,". Each text ends with its #0A.
+-- Assumes nothing.
+use Prim.Native.Nat.{ℕ, _+_, _/_, _%_}
+use mathlib.Core.List.{List, [], _∷_, _++_}
+use lib.Dec.{ltb}
+use Rattle.common.specs.Pick.{pick}
+use Rattle.status.specs.declared.strings.Six.{Six}
+use Rattle.link.specs.declared.state.Action.{Action}
+use Rattle.link.specs.declared.state.Action.the-variants.{Nothing, Byte, Text, Order}
+
+-- a digit below 16: "letters capital"
+unfoldable pub digitOf : ℕ → ℕ
+digitOf n = pick (ltb n 10) (48 + n) (55 + n)
+
+-- "bytes and codes in hexadecimal. Each of these has two digits"
+unfoldable pub byteText : ℕ → List ℕ
+byteText b = digitOf (b / 16) ∷ digitOf (b % 16) ∷ []
+
+unfoldable pub bytesText : List ℕ → List ℕ
+bytesText [] = []
+bytesText (b ∷ bytes) = byteText b ++ bytesText bytes
+
+-- the number of a refusal, which is 0 to 12, in decimal
+unfoldable pub refusalText : ℕ → List ℕ
+refusalText n = pick (ltb n 10) (digitOf n ∷ []) (digitOf (n / 10 % 10) ∷ digitOf (n % 10) ∷ [])
+
+-- "action (- none, A byte, P string, M order)"
+unfoldable pub actionLetter : Action → ℕ
+actionLetter Nothing = 45
+actionLetter (Byte b) = 65
+actionLetter (Text s) = 80
+actionLetter (Order s) = 77
+
+unfoldable pub sixBytes : Six → List ℕ
+sixBytes s = s .b0 ∷ s .b1 ∷ s .b2 ∷ s .b3 ∷ s .b4 ∷ s .b5 ∷ []
+
+-- "its bytes"
+unfoldable pub actionBytes : Action → List ℕ
+actionBytes Nothing = []
+actionBytes (Byte b) = b ∷ []
+actionBytes (Text s) = sixBytes s
+actionBytes (Order s) = sixBytes s
+
+-- "refusal,action .. ,its bytes,bytes delivered or image"
+unfoldable pub printed : ℕ → Action → List ℕ → List ℕ
+printed refusal action bytes =
+    refusalText refusal ++ (44 ∷ actionLetter action ∷ 44 ∷ (bytesText (actionBytes action) ++ (44 ∷ (bytesText bytes ++ (10 ∷ [])))))
+
+-- "An unreadable line prints ?,-,,"
+unfoldable pub unreadableText : List ℕ
+unreadableText = 63 ∷ 44 ∷ 45 ∷ 44 ∷ 44 ∷ 10 ∷ []

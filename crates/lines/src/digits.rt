@@ -1,0 +1,124 @@
+// Digits in text, and the numbers and bytes that they spell.
+use common::least;
+ghost use mathlib.Core.Path.{_≡_};
+ghost use Prim.Native.Nat.{_≤_, _<_, min, _/_};
+ghost use mathlib.Core.Bool.{true};
+ghost use lib.ListN.{length};
+ghost use Rattle.common.specs.Given.{given};
+ghost use Rattle.lines.specs.Digits.{digitValue, isDigit, allDigits, byteValue, isByte, byteOf, isBytes, bytesOf, decimalOf, isDecimal};
+
+// Above every limit of a decimal. A longer number stays here.
+pub const MOST: usize = 65535;
+
+// The value of a digit.
+pub fn digit_value(d: u8) -> u8
+    ensures { λ r. ⌜ (r ≡ digitValue d) × (r < 16) ⌝ }
+{
+    if d < 58 {
+        return d % 16;
+    }
+    (d % 16 + 9) % 16
+}
+
+// Whether a byte is a digit of a base.
+pub fn is_digit(base: u8, d: u8) -> bool
+    ensures { λ r. ⌜ r ≡ isDigit base d ⌝ }
+{
+    let value = digit_value(d);
+    (((48 <= d) & (d <= 57)) | ((65 <= d) & (d <= 70))) & (value < base)
+}
+
+// Whether every byte is.
+pub fn all_digits(base: u8, s: &[u8]) -> bool
+    ensures { λ r. ⌜ r ≡ allDigits base (now (s .entry)) ⌝ }
+{
+    let end = s.len();
+    let mut at = 0;
+    while at < end {
+        if !is_digit(base, s[at]) {
+            return false;
+        }
+        at += 1;
+    }
+    true
+}
+
+// The byte that two digits spell.
+pub fn byte_value(high: u8, low: u8) -> u8
+    ensures { λ r. ⌜ r ≡ byteValue high low ⌝ }
+{
+    let h = digit_value(high);
+    let l = digit_value(low);
+    16 * h + l
+}
+
+// Whether a field is one byte.
+pub fn is_byte(s: &[u8]) -> bool
+    ensures { λ r. ⌜ r ≡ isByte (now (s .entry)) ⌝ }
+{
+    let digits = all_digits(16, s);
+    (s.len() == 2) & digits
+}
+
+// The byte of such a field.
+pub fn byte_of(s: &[u8]) -> u8
+    requires { ⌜ isByte (now s) ≡ true ⌝ }
+    ensures { λ r. ⌜ r ≡ byteOf (now (s .entry)) ⌝ }
+{
+    byte_value(s[0], s[1])
+}
+
+// Whether a field is a string of at most so many bytes.
+pub fn is_bytes(limit: usize, s: &[u8]) -> bool
+    requires { ⌜ limit ≤ 65535 ⌝ }
+    ensures { λ r. ⌜ r ≡ isBytes limit (now (s .entry)) ⌝ }
+{
+    let digits = all_digits(16, s);
+    let n = s.len();
+    (n % 2 == 0) & ((n <= 2 * limit) & digits)
+}
+
+// Puts the bytes of such a field at the start of a space.
+pub fn put_bytes(s: &[u8], space: &mut [u8])
+    requires { ⌜ length (now s) / 2 ≤ length (now space) ⌝ }
+    ensures { λ _. ⌜ now (space .exit) ≡ given (bytesOf (now (s .entry))) (now (space .entry)) ⌝ }
+{
+    let count = s.len() / 2;
+    for i in 0..count {
+        space[i] = byte_value(s[2 * i], s[2 * i + 1]);
+    }
+}
+
+// The number that digits spell, or MOST where it is more.
+pub fn capped_decimal(s: &[u8]) -> usize
+    ensures { λ r. ⌜ r ≡ min (decimalOf (now (s .entry))) 65535 ⌝ }
+{
+    let end = s.len();
+    let mut value = 0;
+    let mut at = 0;
+    while at < end {
+        let digit = digit_value(s[at]) as usize;
+        value = least(10 * value + digit, MOST);
+        at += 1;
+    }
+    value
+}
+
+// Whether a field is a decimal up to a limit.
+pub fn is_decimal(limit: usize, s: &[u8]) -> bool
+    requires { ⌜ limit < 65535 ⌝ }
+    ensures { λ r. ⌜ r ≡ isDecimal limit (now (s .entry)) ⌝ }
+{
+    let digits = all_digits(10, s);
+    let value = capped_decimal(s);
+    !(s.len() == 0) & (digits & (value <= limit))
+}
+
+// The number of such a field.
+pub fn decimal_of(limit: usize, s: &[u8]) -> usize
+    requires { ⌜ limit < 65535 ⌝ }
+    requires { ⌜ isDecimal limit (now s) ≡ true ⌝ }
+    ensures { λ r. ⌜ (r ≡ decimalOf (now (s .entry))) × (r ≤ limit) ⌝ }
+{
+    capped_decimal(s)
+}
