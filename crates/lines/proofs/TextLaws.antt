@@ -48,3 +48,9 @@ pub answer-text : (number bytes last : List ℕ) (letter : ℕ) {t1 t2 t3 : List
     → t3 ≡ t2 ++ (10 ∷ [])
     → t3 ≡ number ++ (44 ∷ letter ∷ 44 ∷ (bytes ++ (44 ∷ (last ++ (10 ∷ [])))))
 answer-text number bytes last letter e1 e2 e3 = simp (e3, e2, e1, append-assoc)
+
+pub reply-text : (number bytes : List ℕ) (letter : ℕ) {t1 t2 : List ℕ}
+    → t1 ≡ number ++ (44 ∷ letter ∷ 44 ∷ (bytes ++ (44 ∷ [])))
+    → t2 ≡ t1 ++ (10 ∷ [])
+    → t2 ≡ number ++ (44 ∷ letter ∷ 44 ∷ (bytes ++ (44 ∷ 10 ∷ [])))
+reply-text number bytes letter e1 e2 = simp (e2, e1, append-assoc)

@@ -2,3 +2,4 @@
 pub mod digits;
 pub mod line;
 pub mod print;
+pub mod session;

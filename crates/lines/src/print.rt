@@ -120,6 +120,15 @@ pub fn print_answer(refusal: u32, action: Action, bytes: &[u8], out: &mut [u8]) 
     put(b'\n', out, end)
 }
 
+// A call's answer that gives no bytes.
+pub fn print_reply(refusal: u32, action: Action, out: &mut [u8]) -> usize
+    requires { ⌜ 19 ≤ length (now out) ⌝ }
+    ensures { λ r. ⌜ (r ≤ 19) × (take r (now (out .exit)) ≡ printed refusal action []) ⌝ }
+{
+    let head = print_head(refusal, action, out);
+    put(b'\n', out, head)
+}
+
 // The answer to an unreadable line.
 pub fn print_unreadable(out: &mut [u8]) -> usize
     requires { ⌜ 6 ≤ length (now out) ⌝ }

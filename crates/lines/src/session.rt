@@ -1,0 +1,147 @@
+// A line's answer: the call that it makes, and the text that is printed for it.
+use crate::line::Reading;
+use crate::line::read_line;
+use crate::print::print_answer;
+use crate::print::print_reply;
+use crate::print::print_unreadable;
+use common::least;
+use controller::controller::Controller;
+use controller::controller::Reply;
+ghost use mathlib.Core.Path.{_≡_};
+ghost use Prim.Native.Nat.{_+_, _*_, _≤_};
+ghost use lib.ListN.{length};
+ghost use Rattle.transfers.specs.Results.{resultOf};
+ghost use Rattle.controller.specs.Machine.{dataCall, resultCall};
+ghost use Rattle.lines.specs.Line.{Line, lineOf, lineRead};
+ghost use Rattle.lines.specs.Session.{replyLeft, transferLeft, lineLeft, left};
+
+// The next state, and how many bytes of text there are.
+pub struct Answered {
+    pub controller: Controller,
+    pub count: usize,
+}
+
+// A call that gives no bytes.
+pub fn answer_reply(reply: Reply, space: &[u8], check: &[u8], out: &mut [u8]) -> Answered
+    requires { ⌜ 19 ≤ length (now out) ⌝ }
+    ensures { λ r. ⌜ (r .count ≤ 19) × (left r (now (space .entry)) (now (check .entry)) (now (out .exit)) ≡ replyLeft reply (now (space .entry)) (now (check .entry))) ⌝ }
+{
+    let controller = reply.controller;
+    let action = reply.action;
+    let count = print_reply(reply.refusal, action, out);
+    Answered { controller, count }
+}
+
+// An unreadable line.
+pub fn answer_unreadable(c: Controller, space: &[u8], check: &[u8], out: &mut [u8]) -> Answered
+    requires { ⌜ 19 ≤ length (now out) ⌝ }
+    ensures { λ r. ⌜ (r .count ≤ 19) × (left r (now (space .entry)) (now (check .entry)) (now (out .exit)) ≡ lineLeft c Line.unreadable (now (space .entry)) (now (check .entry))) ⌝ }
+{
+    let count = print_unreadable(out);
+    Answered { controller: c, count }
+}
+
+// Host bytes.
+pub fn answer_data(
+    c: Controller,
+    host: &[u8],
+    space: &mut [u8],
+    check: &mut [u8],
+    out: &mut [u8],
+) -> Answered
+    requires { ⌜ 19 + 2 * length (now space) ≤ length (now out) ⌝ }
+    ensures { λ r. ⌜ (r .count ≤ 19 + 2 * length (now (space .entry))) × (left r (now (space .exit)) (now (check .exit)) (now (out .exit)) ≡ transferLeft (dataCall c (now (host .entry)) (now (space .entry)) (now (check .entry)))) ⌝ }
+{
+    let transfer = c.data(host, space, check);
+    let given = least(transfer.bytes, space.len());
+    let reply = transfer.reply;
+    let controller = reply.controller;
+    let action = reply.action;
+    let count = print_answer(reply.refusal, action, &space[..given], out);
+    Answered { controller, count }
+}
+
+// A result, with as much space as it is lent.
+pub fn answer_result(
+    c: Controller,
+    code: u8,
+    mark: bool,
+    late: u8,
+    image: &[u8],
+    marks: &[u8],
+    space: &mut [u8],
+    check: &mut [u8],
+    out: &mut [u8],
+) -> Answered
+    requires { ⌜ 19 + 2 * length (now space) ≤ length (now out) ⌝ }
+    ensures { λ r. ⌜ (r .count ≤ 19 + 2 * length (now (space .entry))) × (left r (now (space .exit)) (now (check .exit)) (now (out .exit)) ≡ transferLeft (resultCall c (resultOf code mark late (now (image .entry)) (now (marks .entry))) (now (space .entry)) (now (check .entry)))) ⌝ }
+{
+    let transfer = c.result(code, mark, late, image, marks, space, check);
+    let given = least(transfer.bytes, space.len());
+    let reply = transfer.reply;
+    let controller = reply.controller;
+    let action = reply.action;
+    let count = print_answer(reply.refusal, action, &space[..given], out);
+    Answered { controller, count }
+}
+
+// A line that was read.
+pub fn answer_reading(
+    c: Controller,
+    reading: Reading,
+    bytes: &[u8],
+    marks: &[u8],
+    space: &mut [u8],
+    check: &mut [u8],
+    out: &mut [u8],
+) -> Answered
+    requires { ⌜ 19 + 2 * length (now space) ≤ length (now out) ⌝ }
+    ensures { λ r. ⌜ (r .count ≤ 19 + 2 * length (now (space .entry))) × (left r (now (space .exit)) (now (check .exit)) (now (out .exit)) ≡ lineLeft c (lineRead reading (now (bytes .entry)) (now (marks .entry))) (now (space .entry)) (now (check .entry))) ⌝ }
+{
+    match reading {
+        Reading::Unreadable => answer_unreadable(c, space, check, out),
+        Reading::Byte(byte) => answer_reply(c.byte(byte), space, check, out),
+        Reading::Taken => answer_reply(c.taken(), space, check, out),
+        Reading::Broken => answer_reply(c.broken(), space, check, out),
+        Reading::Report(drive, report) => answer_reply(c.report(drive, report), space, check, out),
+        Reading::HostData(count) => {
+            let end = least(count, bytes.len());
+            answer_data(c, &bytes[..end], space, check, out)
+        }
+        Reading::Result(code, mark, late, image_count, mark_count, lent) => {
+            let image_end = least(image_count, bytes.len());
+            let marks_end = least(mark_count, marks.len());
+            let end = least(lent, space.len());
+            answer_result(
+                c,
+                code,
+                mark,
+                late,
+                &bytes[..image_end],
+                &marks[..marks_end],
+                &mut space[..end],
+                check,
+                out,
+            )
+        }
+        Reading::Tick => answer_reply(c.tick(), space, check, out),
+        Reading::Reset => answer_reply(c.reset(), space, check, out),
+    }
+}
+
+// A line, without its #0A.
+pub fn answer_line(
+    c: Controller,
+    line: &[u8],
+    bytes: &mut [u8; 16898],
+    marks: &mut [u8; 66],
+    space: &mut [u8; 16898],
+    check: &mut [u8; 512],
+    out: &mut [u8],
+) -> Answered
+    requires { ⌜ 33815 ≤ length (now out) ⌝ }
+    ensures { λ r. ⌜ (r .count ≤ 33815) × (left r (now (space .exit)) (now (check .exit)) (now (out .exit)) ≡ lineLeft c (lineOf (now (line .entry))) (now (space .entry)) (now (check .entry))) ⌝ }
+{
+    let reading = read_line(line, bytes, marks);
+    answer_reading(c, reading, bytes, marks, space, check, out)
+}
