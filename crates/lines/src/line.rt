@@ -165,12 +165,7 @@ pub fn read_result(s: &[u8], bytes: &mut [u8; 16898], marks: &mut [u8; 66]) -> R
 }
 
 // A letter and a comma, and what comes after them.
-pub fn read_call(
-    letter: u8,
-    s: &[u8],
-    bytes: &mut [u8; 16898],
-    marks: &mut [u8; 66],
-) -> Reading
+pub fn read_call(letter: u8, s: &[u8], bytes: &mut [u8; 16898], marks: &mut [u8; 66]) -> Reading
     ensures { λ r. ⌜ lineRead r (now (bytes .exit)) (now (marks .exit)) ≡ callLine letter (now (s .entry)) ⌝ }
 {
     match letter {

@@ -38,7 +38,10 @@ pub fn answer_unreadable(c: Controller, space: &[u8], check: &[u8], out: &mut [u
     ensures { λ r. ⌜ (r .count ≤ 19) × (left r (now (space .entry)) (now (check .entry)) (now (out .exit)) ≡ lineLeft c Line.unreadable (now (space .entry)) (now (check .entry))) ⌝ }
 {
     let count = print_unreadable(out);
-    Answered { controller: c, count }
+    Answered {
+        controller: c,
+        count,
+    }
 }
 
 // Host bytes.

@@ -50,7 +50,7 @@ loop-less : tie.Need-loop-less Inv-loop μ-loop
 loop-less c = search needs
 
 loop-again : tie.Need-loop-again Inv-loop μ-loop
-loop-again c = 
+loop-again c =
     let l = c .before .before .before .before .loop in
     let s = c .before .before .before .before .before .before .args .s .now in
     let below : l .at < length s = omega arith in
@@ -58,7 +58,7 @@ loop-again c =
 
 returns : tie.Need-returns Inv-loop μ-loop
 unfolding decimalFrom
-returns c = 
+returns c =
     let l = c .before .loop in
     let s = c .before .before .before .args .s .now in
     let done : length s ≤ l .at = omega arith in

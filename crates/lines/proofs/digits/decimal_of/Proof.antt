@@ -13,7 +13,7 @@ capped-decimal-requires : tie.Need-capped-decimal-requires
 capped-decimal-requires c κs = search needs
 
 returns : tie.Need-returns
-returns c = 
+returns c =
     let e = c .before .before in
     let within : decimalOf (e .args .s .now) ≤ e .args .limit = is-decimal-limit (e .args .limit) (e .args .s .now) (e .pre .1) in
     (omega (arith, c .capped-decimal .ensures, e .pre .0), omega (arith, c .capped-decimal .ensures, e .pre .0))

@@ -14,7 +14,7 @@ capped-decimal-requires c κs = search needs
 
 returns : tie.Need-returns
 unfolding isDecimal
-returns c = 
+returns c =
     let e = c .before .before .before in
     simp (c .before .all-digits .ensures, c .capped-decimal .ensures, limit-capped (decimalOf (e .args .s .now)) (e .args .limit) (e .pre))
 

@@ -52,14 +52,13 @@ loop-less : tie.Need-loop-less Inv-loop μ-loop
 loop-less c = search needs
 
 loop-again : tie.Need-loop-again Inv-loop μ-loop
-loop-again c = 
+loop-again c =
     let l = c .before .before .before .before .loop in
     let e = c .before .before .before .before .before .before .before in
     let s = e .args .s .now in
     let within : l .i < length s / 2 = omega arith in
     let below : l .i < length (bytesOf s) = omega (arith, bytes-length s) in
-    let room : l .i < length (e .args .space .now) = omega (arith, e .pre) in
-    (
+    let room : l .i < length (e .args .space .now) = omega (arith, e .pre) in (
       omega arith,
       simp length-set (l .inv .1),
       rw (l .inv .2) (written-more (e .args .space .now) (bytesOf s) (l .i) 0 _ (bytes-at s (l .i) within ∙ sym (c .byte-value .ensures)) below room),
@@ -70,7 +69,7 @@ same-length c = c .before .loop .inv .1
 
 returns : tie.Need-returns Inv-loop μ-loop
 unfolding given
-returns c = 
+returns c =
     let l = c .before .loop in
     let s = c .before .before .before .before .args .s .now in
     let all : l .i ≡ length (bytesOf s) = omega (arith, bytes-length s) in

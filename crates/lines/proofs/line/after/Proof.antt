@@ -20,7 +20,7 @@ part-result-end : tie.Need-part-result-end
 part-result-end c = search needs
 
 returns : tie.Need-returns
-returns c = 
+returns c =
     let e = c .before .before in
     let s = e .args .s .now in
     let end : length s ≤ e .args .count = omega arith in
@@ -40,7 +40,7 @@ part-result-end-2 : tie.Need-part-result-end-2
 part-result-end-2 c = search needs
 
 returns-2 : tie.Need-returns-2
-returns-2 c = 
+returns-2 c =
     let e = c .before .before in
     let s = e .args .s .now in
     take-all (length s - (e .args .count + 1)) (drop (e .args .count + 1) s) (simp length-drop (omega arith))

@@ -15,14 +15,14 @@ is-bytes-requires : tie.Need-is-bytes-requires
 is-bytes-requires c κs = search needs
 
 put-bytes-requires : tie.Need-put-bytes-requires
-put-bytes-requires c κs = 
+put-bytes-requires c κs =
     let s = c .before .before .before .before .args .s .now in
     let readable : isBytes 16384 s ≡ true = sym (c .before .before .is-bytes .ensures) ∙ c .before .if1 .taken in
     omega (arith, is-bytes-length 16384 s readable)
 
 returns : tie.Need-returns
 unfolding dataLine lineRead pick
-returns c marks = 
+returns c marks =
     let a = c .before .before .before .before .before .args in
     simp (c .put-bytes .ensures, bytes-given (a .s .now) (a .bytes .now), ← c .before .before .before .is-bytes .ensures, c .before .before .if1 .taken)
 

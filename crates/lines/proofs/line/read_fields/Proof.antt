@@ -20,8 +20,7 @@ readable : (i : tie.Then1)
     × (isBytes 66 (i .before .before .before .before .before .before .before .before .before .before .before .before .before .args .errors .now) ≡ true)
     × (isDecimal 16384 (i .before .before .before .before .before .before .before .before .before .before .before .before .before .args .space .now) ≡ true)
 readable i =
-    let h = and-six (i .before .before .before .before .before .before .is-byte .result) (i .before .before .before .before .before .is-decimal .result) (i .before .before .before .before .is-decimal2 .result) (i .before .before .before .is-bytes .result) (i .before .before .is-bytes2 .result) (i .before .is-decimal3 .result) (i .if1 .taken) in
-    (
+    let h = and-six (i .before .before .before .before .before .before .is-byte .result) (i .before .before .before .before .before .is-decimal .result) (i .before .before .before .before .is-decimal2 .result) (i .before .before .before .is-bytes .result) (i .before .before .is-bytes2 .result) (i .before .is-decimal3 .result) (i .if1 .taken) in (
       sym (i .before .before .before .before .before .before .is-byte .ensures) ∙ h .0,
       sym (i .before .before .before .before .before .is-decimal .ensures) ∙ h .1,
       sym (i .before .before .before .before .is-decimal2 .ensures) ∙ h .2,
@@ -71,7 +70,7 @@ byte-of-requires c κs = readable (c .before .before .before .before .before .be
 
 returns : tie.Need-returns
 unfolding resultFields lineRead pick
-returns c = 
+returns c =
     let a = c .before .before .before .before .before .before .before .before .before .before .before .before .before .before .before .before .before .before .before .before .before .args in
     let h = readable (c .before .before .before .before .before .before .before .before) in
     simp (
@@ -94,14 +93,14 @@ returns c =
 returns-2 : tie.Need-returns-2
 unfolding resultFields lineRead pick
 returns-2 c = simp (
-      ← c .before .before .before .before .before .before .is-byte .ensures,
-      ← c .before .before .before .before .before .is-decimal .ensures,
-      ← c .before .before .before .before .is-decimal2 .ensures,
-      ← c .before .before .before .is-bytes .ensures,
-      ← c .before .before .is-bytes2 .ensures,
-      ← c .before .is-decimal3 .ensures,
-      c .if1 .left,
-    )
+  ← c .before .before .before .before .before .before .is-byte .ensures,
+  ← c .before .before .before .before .before .is-decimal .ensures,
+  ← c .before .before .before .before .is-decimal2 .ensures,
+  ← c .before .before .before .is-bytes .ensures,
+  ← c .before .before .is-bytes2 .ensures,
+  ← c .before .is-decimal3 .ensures,
+  c .if1 .left,
+)
 
 pub read-fields-spec : {M : Type 1} → statement M
 read-fields-spec =

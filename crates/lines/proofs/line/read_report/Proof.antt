@@ -35,7 +35,7 @@ byte-of-requires c κs = sym (c .before .before .is-byte .ensures) ∙ and-right
 
 returns : tie.Need-returns
 unfolding reportLine lineRead pick
-returns c bytes marks = 
+returns c bytes marks =
     let s = c .before .before .before .before .before .before .before .before .args .s .now in
     let drive : c .before .before .before .before .before .before .field .result .now ≡ fieldOf s = c .before .before .before .before .before .before .field .ensures in
     let rest : c .before .before .before .before .before .after .result .now ≡ afterField s = after-is s (c .before .before .before .before .before .before .field .result .now) drive (c .before .before .before .before .before .after .ensures) in
@@ -51,7 +51,7 @@ returns c bytes marks =
 
 returns-2 : tie.Need-returns-2
 unfolding reportLine lineRead pick
-returns-2 c bytes marks = 
+returns-2 c bytes marks =
     let s = c .before .before .before .before .before .before .args .s .now in
     let drive : c .before .before .before .before .field .result .now ≡ fieldOf s = c .before .before .before .before .field .ensures in
     let rest : c .before .before .before .after .result .now ≡ afterField s = after-is s (c .before .before .before .before .field .result .now) drive (c .before .before .before .after .ensures) in

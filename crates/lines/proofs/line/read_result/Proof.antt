@@ -40,7 +40,7 @@ read-fields-requires : tie.Need-read-fields-requires
 read-fields-requires c κs = search needs
 
 returns : tie.Need-returns
-returns c = 
+returns c =
     c .read-fields .ensures
     ∙ result-cut (c .before .before .before .before .before .before .before .before .before .before .before .before .before .before .args .s .now)
     (c .before .before .before .before .before .before .before .before .before .before .before .before .field .result .now)

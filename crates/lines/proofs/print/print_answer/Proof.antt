@@ -21,14 +21,13 @@ same-length c = search needs
 
 returns : tie.Need-returns
 unfolding printed
-returns c = 
-    let a = c .before .before .before .before .before .before .before .before .before .before .before .before .before .before .args in
-    (
+returns c =
+    let a = c .before .before .before .before .before .before .before .before .before .before .before .before .before .before .args in (
       omega (arith, c .before .before .put .ensures .0, c .before .before .before .before .before .before .put-text .ensures .0, c .before .before .before .before .before .before .before .before .before .before .print-head .ensures .0),
       answer-text (refusalText (a .refusal)) (bytesText (actionBytes (a .action))) (bytesText (a .bytes .now)) (actionLetter (a .action))
-      (c .before .before .before .before .before .before .before .before .before .before .print-head .ensures .1)
-      (c .before .before .before .before .before .before .put-text .ensures .1)
-      (c .before .before .put .ensures .1),
+          (c .before .before .before .before .before .before .before .before .before .before .print-head .ensures .1)
+          (c .before .before .before .before .before .before .put-text .ensures .1)
+          (c .before .before .put .ensures .1),
     )
 
 pub print-answer-spec : {M : Type 1} → statement M

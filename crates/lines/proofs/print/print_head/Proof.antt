@@ -33,18 +33,17 @@ same-length : tie.Need-same-length
 same-length c = search needs
 
 returns : tie.Need-returns
-returns c = 
-    let a = c .before .before .before .before .before .before .before .before .before .before .before .before .before .before .before .before .before .before .before .before .before .before .before .before .before .before .args in
-    (
+returns c =
+    let a = c .before .before .before .before .before .before .before .before .before .before .before .before .before .before .before .before .before .before .before .before .before .before .before .before .before .before .args in (
       omega (arith, c .before .before .put4 .ensures .0, c .before .before .before .before .before .before .put-action .ensures .0, c .before .before .before .before .before .before .before .before .before .before .put3 .ensures .0, c .before .before .before .before .before .before .before .before .before .before .before .before .before .before .put2 .ensures .0, c .before .before .before .before .before .before .before .before .before .before .before .before .before .before .before .before .before .before .before .put .ensures .0, c .before .before .before .before .before .before .before .before .before .before .before .before .before .before .before .before .before .before .before .before .before .before .before .put-refusal .ensures .0),
       head-text (refusalText (a .refusal)) (bytesText (actionBytes (a .action))) (c .before .before .before .before .before .before .before .before .before .before .before .before .before .before .before .before .action-letter .result)
-      (c .before .before .before .before .before .before .before .before .before .before .before .before .before .before .before .before .before .before .before .before .before .before .before .put-refusal .ensures .1)
-      (c .before .before .before .before .before .before .before .before .before .before .before .before .before .before .before .before .before .before .before .put .ensures .1)
-      (c .before .before .before .before .before .before .before .before .before .before .before .before .before .before .put2 .ensures .1)
-      (c .before .before .before .before .before .before .before .before .before .before .put3 .ensures .1)
-      (c .before .before .before .before .before .before .put-action .ensures .1)
-      (c .before .before .put4 .ensures .1)
-      ∙ simp (c .before .before .before .before .before .before .before .before .before .before .before .before .before .before .before .before .action-letter .ensures),
+          (c .before .before .before .before .before .before .before .before .before .before .before .before .before .before .before .before .before .before .before .before .before .before .before .put-refusal .ensures .1)
+          (c .before .before .before .before .before .before .before .before .before .before .before .before .before .before .before .before .before .before .before .put .ensures .1)
+          (c .before .before .before .before .before .before .before .before .before .before .before .before .before .before .put2 .ensures .1)
+          (c .before .before .before .before .before .before .before .before .before .before .put3 .ensures .1)
+          (c .before .before .before .before .before .before .put-action .ensures .1)
+          (c .before .before .put4 .ensures .1)
+          ∙ simp (c .before .before .before .before .before .before .before .before .before .before .before .before .before .before .before .before .action-letter .ensures),
     )
 
 pub print-head-spec : {M : Type 1} → statement M

@@ -18,9 +18,8 @@ same-length c = search needs
 
 returns : tie.Need-returns
 unfolding printed bytesText
-returns c = 
-    let a = c .before .before .before .before .before .before .before .before .before .args in
-    (
+returns c =
+    let a = c .before .before .before .before .before .before .before .before .before .args in (
       omega (arith, c .before .before .put .ensures .0, c .before .before .before .before .before .before .print-head .ensures .0),
       reply-text (refusalText (a .refusal)) (bytesText (actionBytes (a .action))) (actionLetter (a .action)) (c .before .before .before .before .before .before .print-head .ensures .1) (c .before .before .put .ensures .1),
     )

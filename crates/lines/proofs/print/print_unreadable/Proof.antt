@@ -30,11 +30,10 @@ same-length c = search needs
 
 returns : tie.Need-returns
 unfolding unreadableText
-returns c = 
-    (
-      omega (arith, c .before .before .put6 .ensures .0, c .before .before .before .before .before .before .put5 .ensures .0, c .before .before .before .before .before .before .before .before .before .before .put4 .ensures .0, c .before .before .before .before .before .before .before .before .before .before .before .before .before .before .put3 .ensures .0, c .before .before .before .before .before .before .before .before .before .before .before .before .before .before .before .before .before .before .put2 .ensures .0, c .before .before .before .before .before .before .before .before .before .before .before .before .before .before .before .before .before .before .before .before .before .before .put .ensures .0),
-      simp (c .before .before .put6 .ensures .1, c .before .before .before .before .before .before .put5 .ensures .1, c .before .before .before .before .before .before .before .before .before .before .put4 .ensures .1, c .before .before .before .before .before .before .before .before .before .before .before .before .before .before .put3 .ensures .1, c .before .before .before .before .before .before .before .before .before .before .before .before .before .before .before .before .before .before .put2 .ensures .1, c .before .before .before .before .before .before .before .before .before .before .before .before .before .before .before .before .before .before .before .before .before .before .put .ensures .1),
-    )
+returns c = (
+  omega (arith, c .before .before .put6 .ensures .0, c .before .before .before .before .before .before .put5 .ensures .0, c .before .before .before .before .before .before .before .before .before .before .put4 .ensures .0, c .before .before .before .before .before .before .before .before .before .before .before .before .before .before .put3 .ensures .0, c .before .before .before .before .before .before .before .before .before .before .before .before .before .before .before .before .before .before .put2 .ensures .0, c .before .before .before .before .before .before .before .before .before .before .before .before .before .before .before .before .before .before .before .before .before .before .put .ensures .0),
+  simp (c .before .before .put6 .ensures .1, c .before .before .before .before .before .before .put5 .ensures .1, c .before .before .before .before .before .before .before .before .before .before .put4 .ensures .1, c .before .before .before .before .before .before .before .before .before .before .before .before .before .before .put3 .ensures .1, c .before .before .before .before .before .before .before .before .before .before .before .before .before .before .before .before .before .before .put2 .ensures .1, c .before .before .before .before .before .before .before .before .before .before .before .before .before .before .before .before .before .before .before .before .before .before .put .ensures .1),
+)
 
 pub print-unreadable-spec : {M : Type 1} → statement M
 print-unreadable-spec =

@@ -40,33 +40,30 @@ same-length c = search needs
 
 returns-2 : tie.Need-returns-2
 unfolding actionBytes
-returns-2 c = 
-    (
-      omega (arith, c .before .before .put-byte .ensures .0),
-      c .before .before .put-byte .ensures .1 ∙ simp (c .before .before .before .before .before .action .given .1, bytes-text-one),
-    )
+returns-2 c = (
+  omega (arith, c .before .before .put-byte .ensures .0),
+  c .before .before .put-byte .ensures .1 ∙ simp (c .before .before .before .before .before .action .given .1, bytes-text-one),
+)
 
 same-length-2 : tie.Need-same-length-2
 same-length-2 c = search needs
 
 returns-3 : tie.Need-returns-3
 unfolding actionBytes
-returns-3 c = 
-    (
-      omega (arith, c .before .before .put-six .ensures .0),
-      c .before .before .put-six .ensures .1 ∙ simp (c .before .before .before .before .before .action2 .given .1),
-    )
+returns-3 c = (
+  omega (arith, c .before .before .put-six .ensures .0),
+  c .before .before .put-six .ensures .1 ∙ simp (c .before .before .before .before .before .action2 .given .1),
+)
 
 same-length-3 : tie.Need-same-length-3
 same-length-3 c = search needs
 
 returns-4 : tie.Need-returns-4
 unfolding actionBytes
-returns-4 c = 
-    (
-      omega (arith, c .before .before .put-six2 .ensures .0),
-      c .before .before .put-six2 .ensures .1 ∙ simp (c .before .before .before .before .before .action3 .given .1),
-    )
+returns-4 c = (
+  omega (arith, c .before .before .put-six2 .ensures .0),
+  c .before .before .put-six2 .ensures .1 ∙ simp (c .before .before .before .before .before .action3 .given .1),
+)
 
 pub put-action-spec : {M : Type 1} → statement M
 put-action-spec =

@@ -27,12 +27,11 @@ same-length c = search needs
 
 returns : tie.Need-returns
 unfolding byteText
-returns c = 
-    let a = c .before .before .before .before .before .before .before .before .before .before .before .args in
-    (
+returns c =
+    let a = c .before .before .before .before .before .before .before .before .before .before .before .args in (
       omega (arith, c .before .before .put2 .ensures .0, c .before .before .before .before .before .before .before .put .ensures .0),
       after-text (take (a .at) (a .out .now)) (c .before .before .before .before .before .before .before .before .before .digit-of .result ∷ []) (c .before .before .before .before .digit-of2 .result ∷ []) (c .before .before .put2 .ensures .1) (c .before .before .before .before .before .before .before .put .ensures .1)
-      ∙ simp (c .before .before .before .before .digit-of2 .ensures, c .before .before .before .before .before .before .before .before .before .digit-of .ensures),
+          ∙ simp (c .before .before .before .before .digit-of2 .ensures, c .before .before .before .before .before .before .before .before .before .digit-of .ensures),
     )
 
 pub put-byte-spec : {M : Type 1} → statement M

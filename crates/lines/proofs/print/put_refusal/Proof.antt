@@ -30,9 +30,8 @@ same-length c = search needs
 
 returns : tie.Need-returns
 unfolding refusalText pick
-returns c = 
-    let n = c .before .before .before .before .before .before .before .args .number in
-    (
+returns c =
+    let n = c .before .before .before .before .before .before .before .args .number in (
       omega (arith, c .before .before .put .ensures .0),
       simp (c .before .before .put .ensures .1, lt-ltb _ _ (c .before .before .before .before .if1 .taken), c .before .before .before .before .before .digit-of .ensures, below-ten n (c .before .before .before .before .if1 .taken)),
     )
@@ -54,12 +53,11 @@ same-length-2 c = search needs
 
 returns-2 : tie.Need-returns-2
 unfolding refusalText pick
-returns-2 c = 
-    let a = c .before .before .before .before .before .before .before .before .before .before .before .before .args in
-    (
+returns-2 c =
+    let a = c .before .before .before .before .before .before .before .before .before .before .before .before .args in (
       omega (arith, c .before .before .put3 .ensures .0, c .before .before .before .before .before .before .put2 .ensures .0),
       after-text (take (a .at) (a .out .now)) (c .before .before .before .before .before .before .before .before .digit-of2 .result ∷ []) (c .before .before .before .before .before .before .before .before .before .before .digit-of .result ∷ []) (c .before .before .put3 .ensures .1) (c .before .before .before .before .before .before .put2 .ensures .1)
-      ∙ simp (le-ltb _ _ (c .before .before .before .before .before .before .before .before .before .if1 .left), c .before .before .before .before .before .before .before .before .before .before .digit-of .ensures, c .before .before .before .before .before .before .before .before .digit-of2 .ensures),
+          ∙ simp (le-ltb _ _ (c .before .before .before .before .before .before .before .before .before .if1 .left), c .before .before .before .before .before .before .before .before .before .before .digit-of .ensures, c .before .before .before .before .before .before .before .before .digit-of2 .ensures),
     )
 
 pub put-refusal-spec : {M : Type 1} → statement M

@@ -35,12 +35,11 @@ loop-less : tie.Need-loop-less Inv-loop μ-loop
 loop-less c = search needs
 
 loop-again : tie.Need-loop-again Inv-loop μ-loop
-loop-again c = 
+loop-again c =
     let l = c .before .before .before .before .before .before .loop in
     let a = c .before .before .before .before .before .before .before .before .before .args in
     let p = c .before .before .put-byte in
-    let below : l .i < length (a .bytes .now) = omega arith in
-    (
+    let below : l .i < length (a .bytes .now) = omega arith in (
       omega arith,
       omega (arith, p .ensures .0, l .inv .1),
       p .kept .1 .0 ∙ l .inv .2,
@@ -51,7 +50,7 @@ same-length : tie.Need-same-length Inv-loop μ-loop
 same-length c = search needs
 
 returns : tie.Need-returns Inv-loop μ-loop
-returns c = 
+returns c =
     let l = c .before .loop in
     let bytes = c .before .before .before .before .args .bytes .now in
     let all : l .i ≡ length bytes = omega arith in

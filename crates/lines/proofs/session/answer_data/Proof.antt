@@ -23,7 +23,7 @@ slice-aggregate-print-answer : tie.Need-slice-aggregate-print-answer
 slice-aggregate-print-answer c = length-least (c .before .before .before .before .before .before .before .before .«data» .last .1 .1 .0) (c .before .before .before .before .before .before .before .before .«data» .result .bytes) (c .before .before .before .least .result) (c .before .before .before .least .ensures)
 
 print-answer-requires : tie.Need-print-answer-requires
-print-answer-requires c κs = 
+print-answer-requires c κs =
     let k = c .before .before .before .before .least in
     let t = c .before .before .before .before .before .before .before .before .before .«data» in
     let many : k .result ≡ length (take (k .result) (t .last .1 .1 .0)) = length-least (t .last .1 .1 .0) (t .result .bytes) (k .result) (k .ensures) in
@@ -39,15 +39,14 @@ same-length-3 : tie.Need-same-length-3
 same-length-3 c = search needs
 
 returns : tie.Need-returns
-returns c = 
+returns c =
     let k = c .before .before .before .before .before .before .before .least in
     let t = c .before .before .before .before .before .before .before .before .before .before .before .before .«data» in
     let p = c .before .before .print-answer in
-    let many : k .result ≡ length (take (k .result) (t .last .1 .1 .0)) = length-least (t .last .1 .1 .0) (t .result .bytes) (k .result) (k .ensures) in
-    (
+    let many : k .result ≡ length (take (k .result) (t .last .1 .1 .0)) = length-least (t .last .1 .1 .0) (t .result .bytes) (k .result) (k .ensures) in (
       omega (arith, p .ensures .0, many, k .ensures, t .kept .1 .1 .0),
       transfer-left (t .result) (t .last .1 .1 .0) (t .last .1 .1 .1 .0) (p .last .1 .1 .1 .0) (k .result) (p .result) (k .ensures) (p .ensures .1)
-      ∙ ap transferLeft (t .ensures),
+          ∙ ap transferLeft (t .ensures),
     )
 
 pub answer-data-spec : {M : Type 1} → statement M

@@ -18,10 +18,9 @@ same-length : tie.Need-same-length
 same-length c = search needs
 
 returns : tie.Need-returns
-returns c = 
+returns c =
     let a = c .before .before .before .before .before .before .before .before .before .before .before .before .before .before .before .args in
-    let r = c .before .before .answer-reading in
-    (
+    let r = c .before .before .answer-reading in (
       omega (arith, r .ensures .0),
       r .ensures .1 ∙ ap (λ (l : Line). lineLeft (a .c) l (a .space .now) (a .check .now)) (c .before .before .before .before .before .before .before .before .before .before .read-line .ensures),
     )

@@ -90,7 +90,7 @@ slice-aggregate-answer-result-3 : tie.Need-slice-aggregate-answer-result-3
 slice-aggregate-answer-result-3 c = length-least (c .before .before .before .before .before .before .before .before .before .before .before .before .before .before .args .space .now) _ _ (c .before .before .before .least4 .ensures)
 
 answer-result-requires : tie.Need-answer-result-requires
-answer-result-requires c κs = 
+answer-result-requires c κs =
     let e = c .before .before .before .before .before .before .before .before .before .before .before .before .before .before .before .before in
     let k = c .before .before .before .before .before .least4 in
     let many : k .result ≡ length (take (k .result) (e .args .space .now)) = length-least (e .args .space .now) _ _ (k .ensures) in
@@ -125,11 +125,10 @@ same-length-3 c = search needs
 
 returns : tie.Need-returns
 unfolding lineLeft lineRead
-returns c = 
-    (
-      omega (arith, c .before .before .answer-unreadable .ensures .0),
-      c .before .before .answer-unreadable .ensures .1 ∙ simp (c .before .before .before .before .before .before .enum-told .given .1),
-    )
+returns c = (
+  omega (arith, c .before .before .answer-unreadable .ensures .0),
+  c .before .before .answer-unreadable .ensures .1 ∙ simp (c .before .before .before .before .before .before .enum-told .given .1),
+)
 
 same-length-4 : tie.Need-same-length-4
 same-length-4 c = search needs
@@ -142,11 +141,10 @@ same-length-6 c = search needs
 
 returns-2 : tie.Need-returns-2
 unfolding lineLeft lineRead
-returns-2 c = 
-    (
-      omega (arith, c .before .before .answer-reply .ensures .0),
-      c .before .before .answer-reply .ensures .1 ∙ simp (c .before .before .before .before .before .before .byte .ensures, c .before .before .before .before .before .before .before .before .reading .given .1),
-    )
+returns-2 c = (
+  omega (arith, c .before .before .answer-reply .ensures .0),
+  c .before .before .answer-reply .ensures .1 ∙ simp (c .before .before .before .before .before .before .byte .ensures, c .before .before .before .before .before .before .before .before .reading .given .1),
+)
 
 same-length-7 : tie.Need-same-length-7
 same-length-7 c = search needs
@@ -159,11 +157,10 @@ same-length-9 c = search needs
 
 returns-3 : tie.Need-returns-3
 unfolding lineLeft lineRead
-returns-3 c = 
-    (
-      omega (arith, c .before .before .answer-reply2 .ensures .0),
-      c .before .before .answer-reply2 .ensures .1 ∙ simp (c .before .before .before .before .before .before .taken .ensures, c .before .before .before .before .before .before .before .enum-told2 .given .1),
-    )
+returns-3 c = (
+  omega (arith, c .before .before .answer-reply2 .ensures .0),
+  c .before .before .answer-reply2 .ensures .1 ∙ simp (c .before .before .before .before .before .before .taken .ensures, c .before .before .before .before .before .before .before .enum-told2 .given .1),
+)
 
 same-length-10 : tie.Need-same-length-10
 same-length-10 c = search needs
@@ -176,11 +173,10 @@ same-length-12 c = search needs
 
 returns-4 : tie.Need-returns-4
 unfolding lineLeft lineRead
-returns-4 c = 
-    (
-      omega (arith, c .before .before .answer-reply3 .ensures .0),
-      c .before .before .answer-reply3 .ensures .1 ∙ simp (c .before .before .before .before .before .before .broken .ensures, c .before .before .before .before .before .before .before .enum-told3 .given .1),
-    )
+returns-4 c = (
+  omega (arith, c .before .before .answer-reply3 .ensures .0),
+  c .before .before .answer-reply3 .ensures .1 ∙ simp (c .before .before .before .before .before .before .broken .ensures, c .before .before .before .before .before .before .before .enum-told3 .given .1),
+)
 
 same-length-13 : tie.Need-same-length-13
 same-length-13 c = search needs
@@ -193,11 +189,10 @@ same-length-15 c = search needs
 
 returns-5 : tie.Need-returns-5
 unfolding lineLeft lineRead
-returns-5 c = 
-    (
-      omega (arith, c .before .before .answer-reply4 .ensures .0),
-      c .before .before .answer-reply4 .ensures .1 ∙ simp (c .before .before .before .before .before .before .report .ensures, c .before .before .before .before .before .before .before .before .reading2 .given .1),
-    )
+returns-5 c = (
+  omega (arith, c .before .before .answer-reply4 .ensures .0),
+  c .before .before .answer-reply4 .ensures .1 ∙ simp (c .before .before .before .before .before .before .report .ensures, c .before .before .before .before .before .before .before .before .reading2 .given .1),
+)
 
 same-length-16 : tie.Need-same-length-16
 same-length-16 c = search needs
@@ -210,9 +205,8 @@ same-length-18 c = search needs
 
 returns-6 : tie.Need-returns-6
 unfolding lineLeft lineRead
-returns-6 c = 
-    let a = c .before .before .before .before .before .before .before .before .before .before .before .before .before .before .before .before .before .before .before .before .args in
-    (
+returns-6 c =
+    let a = c .before .before .before .before .before .before .before .before .before .before .before .before .before .before .before .before .before .before .before .before .args in (
       omega (arith, c .before .before .before .before .before .before .answer-data .ensures .0),
       c .before .before .before .before .before .before .answer-data .ensures .1 ∙ simp (take-least (a .bytes .now) _ _ (c .before .before .before .before .before .before .before .before .before .before .before .least .ensures), c .before .before .before .before .before .before .before .before .before .before .before .before .before .reading3 .given .1),
     )
@@ -228,21 +222,20 @@ same-length-21 c = search needs
 
 returns-7 : tie.Need-returns-7
 unfolding lineLeft lineRead
-returns-7 c = 
+returns-7 c =
     let a = c .before .before .before .before .before .before .before .before .before .before .before .before .before .before .before .before .before .before .before .before .before .before .before .args in
     let r = c .before .before .before .before .before .before .answer-result in
     let k = c .before .before .before .before .before .before .before .before .before .before .before .before .least4 in
-    let many : k .result ≡ length (take (k .result) (a .space .now)) = length-least (a .space .now) _ _ (k .ensures) in
-    (
+    let many : k .result ≡ length (take (k .result) (a .space .now)) = length-least (a .space .now) _ _ (k .ensures) in (
       omega (arith, r .ensures .0, many, k .ensures),
       left-rest (r .result) (r .last .1 .1 .1 .1 .1 .1 .0) (drop (k .result) (a .space .now)) (r .last .1 .1 .1 .1 .1 .1 .1 .0) (r .last .1 .1 .1 .1 .1 .1 .1 .1 .0) (r .ensures .1)
-      ∙ simp (
-        take-least (a .bytes .now) _ _ (c .before .before .before .before .before .before .before .before .before .before .before .before .before .before .least2 .ensures),
-        take-least (a .marks .now) _ _ (c .before .before .before .before .before .before .before .before .before .before .before .before .before .least3 .ensures),
-        take-least (a .space .now) _ _ (k .ensures),
-        drop-least (a .space .now) _ _ (k .ensures),
-        c .before .before .before .before .before .before .before .before .before .before .before .before .before .before .before .before .reading4 .given .1,
-      ),
+          ∙ simp (
+            take-least (a .bytes .now) _ _ (c .before .before .before .before .before .before .before .before .before .before .before .before .before .before .least2 .ensures),
+            take-least (a .marks .now) _ _ (c .before .before .before .before .before .before .before .before .before .before .before .before .before .least3 .ensures),
+            take-least (a .space .now) _ _ (k .ensures),
+            drop-least (a .space .now) _ _ (k .ensures),
+            c .before .before .before .before .before .before .before .before .before .before .before .before .before .before .before .before .reading4 .given .1,
+          ),
     )
 
 same-length-22 : tie.Need-same-length-22
@@ -256,11 +249,10 @@ same-length-24 c = search needs
 
 returns-8 : tie.Need-returns-8
 unfolding lineLeft lineRead
-returns-8 c = 
-    (
-      omega (arith, c .before .before .answer-reply5 .ensures .0),
-      c .before .before .answer-reply5 .ensures .1 ∙ simp (c .before .before .before .before .before .before .tick .ensures, c .before .before .before .before .before .before .before .enum-told4 .given .1),
-    )
+returns-8 c = (
+  omega (arith, c .before .before .answer-reply5 .ensures .0),
+  c .before .before .answer-reply5 .ensures .1 ∙ simp (c .before .before .before .before .before .before .tick .ensures, c .before .before .before .before .before .before .before .enum-told4 .given .1),
+)
 
 same-length-25 : tie.Need-same-length-25
 same-length-25 c = search needs
@@ -273,11 +265,10 @@ same-length-27 c = search needs
 
 returns-9 : tie.Need-returns-9
 unfolding lineLeft lineRead
-returns-9 c = 
-    (
-      omega (arith, c .before .before .answer-reply6 .ensures .0),
-      c .before .before .answer-reply6 .ensures .1 ∙ simp (c .before .before .before .before .before .before .reset .ensures, c .before .before .before .before .before .before .before .enum-told5 .given .1),
-    )
+returns-9 c = (
+  omega (arith, c .before .before .answer-reply6 .ensures .0),
+  c .before .before .answer-reply6 .ensures .1 ∙ simp (c .before .before .before .before .before .before .reset .ensures, c .before .before .before .before .before .before .before .enum-told5 .given .1),
+)
 
 pub answer-reading-spec : {M : Type 1} → statement M
 answer-reading-spec =

@@ -1,0 +1,98 @@
+-- `session::answer_read` meets its contract: what is in hand lies within the input, and the text within its space.
+-- Assumes nothing.
+use native.Mathlib.Omega.{arith}
+use mathlib.Core.Path.{_≡_, sym}
+use Prim.Native.Nat.{_≤_}
+use lib.ListN.{length, take}
+use lib.Seq.{length-take-le}
+use borrow.Author.Needs.{needs}
+use Rattle.session.proofs.answer_read.Statement.{statement}
+use Rattle.session.proofs.answer_read.Tie as tie
+
+slice-reshare-prefix-answer-lines : tie.Need-slice-reshare-prefix-answer-lines
+slice-reshare-prefix-answer-lines c = search needs
+
+slice-aggregate-answer-lines : tie.Need-slice-aggregate-answer-lines
+slice-aggregate-answer-lines c =
+    let e = c .before .before .before .before in
+    let inside : e .args .end ≤ length (e .args .input .now) = omega (arith, e .pre) in
+    let many : e .args .end ≡ length (take (e .args .end) (e .args .input .now)) = sym (length-take-le (e .args .end) (e .args .input .now) inside) in
+    many
+
+answer-lines-requires : tie.Need-answer-lines-requires
+answer-lines-requires c κs =
+    let e = c .before .before .before .before .before .before .before .before .before in
+    let inside : e .args .end ≤ length (e .args .input .now) = omega (arith, e .pre) in
+    let many : e .args .end ≡ length (take (e .args .end) (e .args .input .now)) = sym (length-take-le (e .args .end) (e .args .input .now) inside) in
+    omega (arith, many, e .pre)
+
+slice-reshare-prefix-write-all : tie.Need-slice-reshare-prefix-write-all
+slice-reshare-prefix-write-all c = search needs
+
+slice-aggregate-write-all : tie.Need-slice-aggregate-write-all
+slice-aggregate-write-all c =
+    let r = c .before .before .before .before .answer-lines in
+    let within : r .result .work .count ≤ length (r .last .1 .1 .1 .1 .1 .1 .1 .0) = omega (arith, r .ensures, r .kept .1 .1 .1 .1 .1 .1 .1 .0, c .before .before .before .before .before .before .before .before .before .before .before .before .before .before .pre) in
+    sym (length-take-le (r .result .work .count) (r .last .1 .1 .1 .1 .1 .1 .1 .0) within)
+
+write-all-requires : tie.Need-write-all-requires
+write-all-requires c κs = search needs
+
+move-to-start-requires : tie.Need-move-to-start-requires
+move-to-start-requires c κs =
+    let e = c .before .before .before .before .before .before .before .before .before .before .before .before .before .before .before .before in
+    let inside : e .args .end ≤ length (e .args .input .now) = omega (arith, e .pre) in
+    let many : e .args .end ≡ length (take (e .args .end) (e .args .input .now)) = sym (length-take-le (e .args .end) (e .args .input .now) inside) in
+    omega (arith, many, c .before .before .before .before .before .before .answer-lines .ensures, e .pre)
+
+sub-held-line : tie.Need-sub-held-line
+sub-held-line c =
+    let e = c .before .before .before .before .before .before .before .before .before .before .before .before .before .before .before .before .before .before .before .before .before .before in
+    let inside : e .args .end ≤ length (e .args .input .now) = omega (arith, e .pre) in
+    let many : e .args .end ≡ length (take (e .args .end) (e .args .input .now)) = sym (length-take-le (e .args .end) (e .args .input .now) inside) in
+    omega (arith, many, c .before .before .before .before .before .before .before .before .before .before .before .before .answer-lines .ensures, e .pre)
+
+held-line-requires : tie.Need-held-line-requires
+held-line-requires c κs = search needs
+
+same-length : tie.Need-same-length
+same-length c = search needs
+
+same-length-2 : tie.Need-same-length-2
+same-length-2 c = c .before .before .before .before .before .before .before .before .before .before .before .before .before .answer-lines .kept .1 .1 .1 .1 .1 .1 .1 .0
+
+returns : tie.Need-returns
+returns c = search needs
+
+failed-requires : tie.Need-failed-requires
+failed-requires c κs = search needs
+
+same-length-3 : tie.Need-same-length-3
+same-length-3 c = search needs
+
+same-length-4 : tie.Need-same-length-4
+same-length-4 c = c .before .before .before .before .before .before .before .before .before .before .before .before .before .answer-lines .kept .1 .1 .1 .1 .1 .1 .1 .0
+
+returns-2 : tie.Need-returns-2
+returns-2 c = search needs
+
+pub answer-read-spec : {M : Type 1} → statement M
+answer-read-spec =
+    tie.close
+    (tie.spec
+    slice-reshare-prefix-answer-lines
+    slice-aggregate-answer-lines
+    answer-lines-requires
+    slice-reshare-prefix-write-all
+    slice-aggregate-write-all
+    write-all-requires
+    move-to-start-requires
+    sub-held-line
+    held-line-requires
+    same-length
+    same-length-2
+    returns
+    failed-requires
+    same-length-3
+    same-length-4
+    returns-2)

@@ -1,0 +1,396 @@
+// The session program: reads lines from standard input to its end, and answers each as soon as it is there.
+use controller::controller::Controller;
+use controller::controller::fresh_controller;
+use libc::STDIN_FILENO;
+use libc::STDOUT_FILENO;
+use lines::print::print_unreadable;
+use lines::session::Answered;
+use lines::session::answer_line;
+ghost use mathlib.Core.Path.{_≡_};
+ghost use Prim.Native.Nat.{_≤_, _<_};
+ghost use lib.ListN.{length};
+
+// With no more text than this in hand, the longest answer still fits.
+const ROOM: usize = 31721;
+
+// The state between two lines: how much text is in hand, whether the line that comes next is too long to be read, and whether every
+// write went well.
+struct Work {
+    controller: Controller,
+    count: usize,
+    long: bool,
+    open: bool,
+}
+
+// What is left of the input: the state, and where the line starts that has not ended yet.
+struct Cut {
+    work: Work,
+    from: usize,
+}
+
+// The state between two reads: how many bytes of a line that has not ended stand in the input, and whether to go on.
+struct Session {
+    controller: Controller,
+    held: usize,
+    long: bool,
+    open: bool,
+}
+
+// The place of the first #0A from a place on, or the end.
+fn line_end(input: &[u8], from: usize) -> usize
+    requires { ⌜ from ≤ length (now input) ⌝ }
+    ensures { λ r. ⌜ (from ≤ r) × (r ≤ length (now (input .entry))) ⌝ }
+{
+    let end = input.len();
+    let mut at = from;
+    while at < end {
+        if input[at] == b'\n' {
+            return at;
+        }
+        at += 1;
+    }
+    end
+}
+
+// Room for one more answer: the text in hand is written where there is too little.
+fn with_room(work: Work, out: &[u8]) -> Work
+    requires { ⌜ work .count ≤ length (now out) ⌝ }
+    ensures { λ r. ⌜ r .count ≤ 31721 ⌝ }
+{
+    let count = work.count;
+    if count <= ROOM {
+        return work;
+    }
+    let controller = work.controller;
+    let written = io::write_all(STDOUT_FILENO, &out[..count]);
+    Work {
+        controller,
+        count: 0,
+        long: work.long,
+        open: written & work.open,
+    }
+}
+
+// A line's answer, put after the text in hand. A line that is too long is unreadable.
+fn put_answer(
+    c: Controller,
+    long: bool,
+    line: &[u8],
+    bytes: &mut [u8; 16898],
+    marks: &mut [u8; 66],
+    space: &mut [u8; 16898],
+    check: &mut [u8; 512],
+    out: &mut [u8],
+    count: usize,
+) -> Answered
+    requires { ⌜ (count ≤ 31721) × (length (now out) ≡ 65536) ⌝ }
+    ensures { λ r. ⌜ r .count ≤ 65536 ⌝ }
+{
+    if long {
+        let more = print_unreadable(&mut out[count..]);
+        return Answered {
+            controller: c,
+            count: count + more,
+        };
+    }
+    let answer = answer_line(c, line, bytes, marks, space, check, &mut out[count..]);
+    let next = answer.controller;
+    Answered {
+        controller: next,
+        count: count + answer.count,
+    }
+}
+
+// One line.
+fn answer_next(
+    work: Work,
+    line: &[u8],
+    bytes: &mut [u8; 16898],
+    marks: &mut [u8; 66],
+    space: &mut [u8; 16898],
+    check: &mut [u8; 512],
+    out: &mut [u8],
+) -> Work
+    requires { ⌜ (work .count ≤ 65536) × (length (now out) ≡ 65536) ⌝ }
+    ensures { λ r. ⌜ r .count ≤ 65536 ⌝ }
+{
+    let ready = with_room(work, out);
+    let c = ready.controller;
+    let answer = put_answer(
+        c,
+        ready.long,
+        line,
+        bytes,
+        marks,
+        space,
+        check,
+        out,
+        ready.count,
+    );
+    let controller = answer.controller;
+    Work {
+        controller,
+        count: answer.count,
+        long: false,
+        open: ready.open,
+    }
+}
+
+// Every whole line of the input. The first `held` bytes were looked through before and have no #0A.
+fn answer_lines(
+    first: Work,
+    input: &[u8],
+    held: usize,
+    bytes: &mut [u8; 16898],
+    marks: &mut [u8; 66],
+    space: &mut [u8; 16898],
+    check: &mut [u8; 512],
+    out: &mut [u8],
+) -> Cut
+    requires { ⌜ (first .count ≤ 65536) × (length (now out) ≡ 65536) ⌝ }
+    requires { ⌜ held ≤ length (now input) ⌝ }
+    ensures { λ r. ⌜ (r .work .count ≤ 65536) × (r .from ≤ length (now (input .entry))) ⌝ }
+{
+    let mut work = first;
+    let mut from = 0;
+    let mut end = line_end(input, held);
+    while end < input.len() {
+        work = answer_next(work, &input[from..end], bytes, marks, space, check, out);
+        from = end + 1;
+        end = line_end(input, from);
+    }
+    Cut { work, from }
+}
+
+// Moves the bytes from a place on to the start.
+fn move_to_start(input: &mut [u8], from: usize, end: usize)
+    requires { ⌜ (from ≤ end) × (end ≤ length (now input)) ⌝ }
+{
+    if from == 0 {
+        return;
+    }
+    let count = end - from;
+    for i in 0..count {
+        input[i] = input[from + i];
+    }
+}
+
+// A line that fills the input and has not ended is too long: its bytes are dropped, and it is answered where it ends.
+fn held_line(controller: Controller, held: usize, long: bool) -> Session
+    ensures { λ r. ⌜ r .held < 65536 ⌝ }
+{
+    if held < 65536 {
+        return Session {
+            controller,
+            held,
+            long,
+            open: true,
+        };
+    }
+    Session {
+        controller,
+        held: 0,
+        long: true,
+        open: true,
+    }
+}
+
+// The input has ended.
+fn ended(session: Session) -> Session
+    requires { ⌜ session .held < 65536 ⌝ }
+    ensures { λ r. ⌜ r .held < 65536 ⌝ }
+{
+    let controller = session.controller;
+    Session {
+        controller,
+        held: session.held,
+        long: session.long,
+        open: false,
+    }
+}
+
+// A read or a write failed: what is in hand is no line.
+fn failed(controller: Controller) -> Session
+    ensures { λ r. ⌜ r .held < 65536 ⌝ }
+{
+    Session {
+        controller,
+        held: 0,
+        long: false,
+        open: false,
+    }
+}
+
+// Answers every whole line in hand, and writes the answers.
+fn answer_read(
+    session: Session,
+    input: &mut [u8],
+    end: usize,
+    bytes: &mut [u8; 16898],
+    marks: &mut [u8; 66],
+    space: &mut [u8; 16898],
+    check: &mut [u8; 512],
+    out: &mut [u8],
+) -> Session
+    requires { ⌜ (session .held ≤ end) × (end ≤ length (now input)) ⌝ }
+    requires { ⌜ length (now out) ≡ 65536 ⌝ }
+    ensures { λ r. ⌜ r .held < 65536 ⌝ }
+{
+    let c = session.controller;
+    let work = Work {
+        controller: c,
+        count: 0,
+        long: session.long,
+        open: true,
+    };
+    let cut = answer_lines(
+        work,
+        &input[..end],
+        session.held,
+        bytes,
+        marks,
+        space,
+        check,
+        out,
+    );
+    let left = cut.work;
+    let from = cut.from;
+    let count = left.count;
+    let written = io::write_all(STDOUT_FILENO, &out[..count]);
+    move_to_start(input, from, end);
+    let controller = left.controller;
+    let fine = written & left.open;
+    if fine {
+        return held_line(controller, end - from, left.long);
+    }
+    failed(controller)
+}
+
+// Reads once, and answers every line that is whole by then.
+fn read_some(
+    session: Session,
+    input: &mut [u8],
+    bytes: &mut [u8; 16898],
+    marks: &mut [u8; 66],
+    space: &mut [u8; 16898],
+    check: &mut [u8; 512],
+    out: &mut [u8],
+) -> Session
+    requires { ⌜ (session .held < 65536) × (length (now input) ≡ 65536) ⌝ }
+    requires { ⌜ length (now out) ≡ 65536 ⌝ }
+    ensures { λ r. ⌜ r .held < 65536 ⌝ }
+{
+    let held = session.held;
+    let got = libc::read(STDIN_FILENO, &mut input[held..]);
+    if got < 0 {
+        return failed(session.controller);
+    }
+    if got == 0 {
+        return ended(session);
+    }
+    let more = io::count(got, &input[held..]);
+    let end = held + more;
+    answer_read(session, input, end, bytes, marks, space, check, out)
+}
+
+// The same, with the program's buffers.
+fn read_once(
+    session: Session,
+    input: &mut [u8; 65536],
+    bytes: &mut [u8; 16898],
+    marks: &mut [u8; 66],
+    space: &mut [u8; 16898],
+    check: &mut [u8; 512],
+    out: &mut [u8; 65536],
+) -> Session
+    requires { ⌜ session .held < 65536 ⌝ }
+    ensures { λ r. ⌜ r .held < 65536 ⌝ }
+{
+    read_some(session, input, bytes, marks, space, check, out)
+}
+
+// The last line, where it has no #0A.
+fn answer_held(
+    session: Session,
+    input: &[u8],
+    bytes: &mut [u8; 16898],
+    marks: &mut [u8; 66],
+    space: &mut [u8; 16898],
+    check: &mut [u8; 512],
+    out: &mut [u8],
+)
+    requires { ⌜ (session .held < 65536) × (length (now input) ≡ 65536) ⌝ }
+    requires { ⌜ length (now out) ≡ 65536 ⌝ }
+{
+    let held = session.held;
+    let some = (0 < held) | session.long;
+    if some {
+        let c = session.controller;
+        let work = Work {
+            controller: c,
+            count: 0,
+            long: session.long,
+            open: true,
+        };
+        let last = answer_next(work, &input[..held], bytes, marks, space, check, out);
+        let count = last.count;
+        io::write_all(STDOUT_FILENO, &out[..count]);
+    }
+}
+
+// The same, with the program's buffers.
+fn answer_last(
+    session: Session,
+    input: &mut [u8; 65536],
+    bytes: &mut [u8; 16898],
+    marks: &mut [u8; 66],
+    space: &mut [u8; 16898],
+    check: &mut [u8; 512],
+    out: &mut [u8; 65536],
+)
+    requires { ⌜ session .held < 65536 ⌝ }
+{
+    answer_held(session, input, bytes, marks, space, check, out);
+}
+
+// A proved loop has to end, and nothing says that the input does. So the loop counts its reads down, from a number that no run uses up.
+fn main() {
+    let mut input = [0u8; 65536];
+    let mut bytes = [0u8; 16898];
+    let mut marks = [0u8; 66];
+    let mut space = [0u8; 16898];
+    let mut check = [0u8; 512];
+    let mut out = [0u8; 65536];
+    let controller = fresh_controller();
+    let mut session = Session {
+        controller,
+        held: 0,
+        long: false,
+        open: true,
+    };
+    let mut reads = u64::MAX;
+    while reads > 0 {
+        if !session.open {
+            break;
+        }
+        session = read_once(
+            session,
+            &mut input,
+            &mut bytes,
+            &mut marks,
+            &mut space,
+            &mut check,
+            &mut out,
+        );
+        reads -= 1;
+    }
+    answer_last(
+        session,
+        &mut input,
+        &mut bytes,
+        &mut marks,
+        &mut space,
+        &mut check,
+        &mut out,
+    );
+}
