@@ -83,18 +83,6 @@ unfoldable pub review : Body → Body
 review b =
     record { drives = reviewedAll (b .drives); selected = b .selected; changed = b .changed || differs (b .drives); enable = b .enable; outcome = b .outcome; secondary = b .secondary; tertiary = b .tertiary; quintary = b .quintary; collected = b .collected }
 
--- ---- actions
-
-abbrev pub sixBytes : Six → List ℕ
-sixBytes s = s .b0 ∷ s .b1 ∷ s .b2 ∷ s .b3 ∷ s .b4 ∷ s .b5 ∷ []
-
--- "one action or none: a byte, a string, a motion order": the bytes of each
-unfoldable pub actionBytes : Action → List ℕ
-actionBytes Nothing = []
-actionBytes (Byte b) = b ∷ []
-actionBytes (Text s) = sixBytes s
-actionBytes (Order s) = sixBytes s
-
 -- ---- collecting
 
 -- what is collected is kept, and there is no action
