@@ -50,6 +50,16 @@ short() { # TEXT
     fi
 }
 
+# The place, from 1, of the first character that differs.
+differs_at() { # TEXT TEXT
+    local low=0 high=${#1} middle
+    while [ "$low" -lt "$high" ]; do
+        middle=$(((low + high + 1) / 2))
+        if [ "${1:0:middle}" = "${2:0:middle}" ]; then low=$middle; else high=$((middle - 1)); fi
+    done
+    echo $((low + 1))
+}
+
 # same NAME LINES STORED GOT: one test, which passes where the files STORED and GOT are
 # equal. Line n of the file LINES is what line n of the two is about.
 same() {
@@ -67,7 +77,8 @@ same() {
     done
     fail "$name" "line $((n + 1)): $(short "${lines[n]-(no such line)}")" \
         "stored: $(short "${stored[n]-(no such line)}")" \
-        "got:    $(short "${got[n]-(no such line)}")"
+        "got:    $(short "${got[n]-(no such line)}")" \
+        "they differ from character $(differs_at "${stored[n]-}" "${got[n]-}") on"
 }
 
 play() { # NAME
