@@ -5,7 +5,7 @@ use Prim.Native.Nat.{ℕ, _≤_, _<_, min}
 use native.Mathlib.Nat.{lt-of-not-le}
 use native.Mathlib.Decide.{decLe}
 use native.Mathlib.Omega.{arith}
-use mathlib.Core.List.{List, [], _++_}
+use mathlib.Core.List.{List, _++_}
 use lib.ListN.{length, take, drop, drop-of-length-le}
 use lib.Seq.{take-all, length-take-le}
 use Rattle.controller.specs.declared.controller.Transfer.{Transfer}

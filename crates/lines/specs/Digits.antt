@@ -1,7 +1,7 @@
 -- Digits in text, and the numbers and bytes that they spell (document 01, Loads, restorer, session: "bytes and codes in hexadecimal. Each of
 -- these has two digits, letters capital. Drive, late .. mark .. and space are decimal.").
 -- Assumes nothing.
-use Prim.Native.Nat.{ℕ, _+_, _*_, _/_, _%_}
+use Prim.Native.Nat.{ℕ, _+_, _*_, _%_}
 use mathlib.Core.Bool.{Bool, true, not, _&&_, _||_}
 use mathlib.Core.List.{List, [], _∷_}
 use lib.Dec.{leb, ltb, eqb}

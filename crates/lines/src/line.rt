@@ -8,7 +8,7 @@ use crate::digits::put_bytes;
 ghost use mathlib.Core.Path.{_≡_};
 ghost use Prim.Native.Nat.{_+_, _≤_};
 ghost use lib.ListN.{length, take, drop};
-ghost use Rattle.lines.specs.Line.{fieldOf, afterField, afterFields, bareLine, byteLine, reportLine, dataLine, resultFields, resultLine, callLine, lineOf, lineRead, ReadAs, ReadWith};
+ghost use Rattle.lines.specs.Line.{fieldOf, bareLine, byteLine, reportLine, dataLine, resultFields, resultLine, callLine, lineOf, lineRead, ReadAs, ReadWith};
 
 // A line that was read. A host string or an image stands in a lent buffer, and the marks in another; here are their lengths.
 pub enum Reading {

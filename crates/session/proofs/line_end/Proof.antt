@@ -1,7 +1,6 @@
 -- `session::line_end` meets its contract: its place lies within the input.
 -- Assumes nothing.
 use borrow.Author.Needs.{needs}
-use native.Mathlib.Omega.{arith}
 use Prim.Native.Nat.{_≤_, _-_}
 use lib.ListN.{length}
 use Rattle.session.proofs.line_end.Statement.{statement}

@@ -1,8 +1,7 @@
 -- `lines::digits::decimal_of` meets its contract: the number is at most its limit, and so is not cut.
 -- Assumes nothing.
-use mathlib.Core.Path.{_≡_, _∙_}
 use native.Mathlib.Omega.{arith}
-use Prim.Native.Nat.{ℕ, min, _≤_}
+use Prim.Native.Nat.{_≤_}
 use Rattle.lines.specs.Digits.{decimalOf}
 use Rattle.lines.proofs.DigitLaws.{is-decimal-limit}
 use borrow.Author.Needs.{needs}

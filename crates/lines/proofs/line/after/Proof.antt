@@ -2,10 +2,9 @@
 -- Assumes nothing.
 
 use lib.Seq.{take-all, take-nil}
-use mathlib.Core.Path.{_≡_, refl, sym, ap, _∙_}
 use native.Mathlib.Omega.{arith}
 use Prim.Native.Nat.{_+_, _-_, _≤_}
-use lib.ListN.{length, take, drop, length-drop, drop-of-length-le}
+use lib.ListN.{length, drop, length-drop, drop-of-length-le}
 use borrow.Author.Needs.{needs}
 use Rattle.lines.proofs.line.after.Statement.{statement}
 use Rattle.lines.proofs.line.after.Tie as tie

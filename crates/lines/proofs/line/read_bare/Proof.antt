@@ -1,6 +1,5 @@
 -- `lines::line::read_bare` meets its contract: by the letter.
 -- Assumes nothing.
-use borrow.Author.Needs.{needs}
 use borrow.Author.Tests.{ne-eqb}
 use Rattle.common.specs.Pick.{pick}
 use Rattle.lines.specs.Line.{bareLine, lineRead}

@@ -1,6 +1,6 @@
 -- `lines::line::read_byte` meets its contract: by its test.
 -- Assumes nothing.
-use mathlib.Core.Path.{_≡_, sym, _∙_}
+use mathlib.Core.Path.{sym, _∙_}
 use Rattle.common.specs.Pick.{pick}
 use Rattle.lines.specs.Line.{byteLine, lineRead}
 use borrow.Author.Needs.{needs}

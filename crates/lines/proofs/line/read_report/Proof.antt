@@ -1,10 +1,8 @@
 -- `lines::line::read_report` meets its contract: by the tests of its two fields.
 -- Assumes nothing.
 use mathlib.Core.Path.{_≡_, sym, _∙_}
-use mathlib.Core.Bool.{true}
 use native.Mathlib.Omega.{arith}
 use Rattle.common.specs.Pick.{pick}
-use Rattle.lines.specs.Digits.{isDecimal, isByte}
 use Rattle.lines.specs.Line.{fieldOf, afterField, reportLine, lineRead}
 use Rattle.lines.proofs.DigitLaws.{and-left, and-right}
 use Rattle.lines.proofs.FieldLaws.{field-fits, after-is}

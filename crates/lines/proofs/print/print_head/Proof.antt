@@ -2,7 +2,7 @@
 -- Assumes nothing.
 use mathlib.Core.Path.{_∙_}
 use native.Mathlib.Omega.{arith}
-use Rattle.lines.specs.Print.{refusalText, actionLetter, actionBytes, bytesText}
+use Rattle.lines.specs.Print.{refusalText, actionBytes, bytesText}
 use Rattle.lines.proofs.TextLaws.{head-text}
 use borrow.Author.Needs.{needs}
 use Rattle.lines.proofs.print.print_head.Statement.{statement}

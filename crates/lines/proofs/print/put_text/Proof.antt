@@ -1,10 +1,10 @@
 -- `lines::print::put_text` meets its contract: after i turns the first i bytes stand there.
 -- Assumes nothing.
-use mathlib.Core.Path.{_≡_, sym, ap, _∙_, refl}
+use mathlib.Core.Path.{_≡_, sym, _∙_, refl}
 use borrow.Author.Needs.{needs}
 use native.Mathlib.Omega.{arith}
-use Prim.Native.Nat.{ℕ, _+_, _*_, _≤_, _<_, _-_}
-use mathlib.Core.List.{List, _++_, append-nil, append-assoc}
+use Prim.Native.Nat.{_+_, _*_, _≤_, _<_, _-_}
+use mathlib.Core.List.{_++_, append-nil, append-assoc}
 use lib.ListN.{length, take}
 use lib.Seq.{take-length}
 use Rattle.lines.specs.Print.{bytesText}

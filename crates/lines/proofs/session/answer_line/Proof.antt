@@ -1,7 +1,7 @@
 -- `lines::session::answer_line` meets its contract: it is read and then answered.
 -- Assumes nothing.
 use Rattle.lines.specs.Line.{Line}
-use mathlib.Core.Path.{_≡_, ap, _∙_}
+use mathlib.Core.Path.{ap, _∙_}
 use native.Mathlib.Omega.{arith}
 use Rattle.lines.specs.Session.{lineLeft}
 use borrow.Author.Needs.{needs}

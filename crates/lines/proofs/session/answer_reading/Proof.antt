@@ -1,10 +1,10 @@
 -- `lines::session::answer_reading` meets its contract: by what was read.
 -- Assumes nothing.
 
-use mathlib.Core.Path.{_≡_, ap, _∙_}
+use mathlib.Core.Path.{_≡_, _∙_}
 use native.Mathlib.Omega.{arith}
 use lib.ListN.{length, take, drop}
-use Rattle.lines.specs.Session.{lineLeft, transferLeft, withRest}
+use Rattle.lines.specs.Session.{lineLeft}
 use Rattle.lines.specs.Line.{lineRead}
 use Rattle.lines.proofs.SessionLaws.{take-least, drop-least, length-least, left-rest}
 use borrow.Author.Needs.{needs}

@@ -1,7 +1,6 @@
 -- `lines::session::answer_result` meets its contract: what is printed is the reply and the bytes that it gives.
 -- Assumes nothing.
 use mathlib.Core.Path.{_≡_, ap, _∙_}
-use Prim.Native.Nat.{ℕ}
 use native.Mathlib.Omega.{arith}
 use lib.ListN.{length, take}
 use Rattle.lines.specs.Session.{transferLeft}
