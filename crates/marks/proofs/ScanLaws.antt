@@ -1,7 +1,7 @@
 -- What the scan finds: in marks with at most one error of each parity it reaches the end and finds each error, by induction over
--- the marks that are left with what is known of the places found so far; its places are within any marks.
+-- the marks that are left with what is known of the places found so far.
 -- Assumes nothing.
-use Prim.Native.Nat.{ℕ, suc, _+_, _≤_, _<_, _-_, _%_}
+use Prim.Native.Nat.{ℕ, suc, _≤_, _<_, _-_, _%_}
 use native.Mathlib.Omega.{arith}
 use mathlib.Core.Bool.{Bool, true, false}
 use mathlib.Core.List.{List, [], _∷_}
@@ -167,25 +167,3 @@ scanned-once marks once =
       odd-only = r .1 .only;
       even-only = r .2 .only;
     }
-
--- ---- the places are within the marks
-
-abbrev Within : ℕ → Scan → Type 0
-Within end r = (r .odd ≤ end) × (r .even ≤ end) × (r .stop ≤ end)
-
-within : (rest : List ℕ) (at end odd even : ℕ) → at + length rest ≤ end → odd ≤ end → even ≤ end → Within end (scanFrom rest at end odd even)
-unfolding scanFrom
-within [] at end odd even room o e = omega arith
-within (mark ∷ rest) at end odd even room o e =
-    let here : at ≤ end = omega arith in
-    let next : suc at + length rest ≤ end = omega arith in
-    pick-by (Within end) (isError mark)
-    (λ bad.
-    pick-by (Within end) (eqb (length rest % 2) 1)
-    (λ is-odd. pick-by (Within end) (ltb odd end) (λ second. (o, e, here)) (λ first. within rest (suc at) end at even next here e))
-    (λ is-even. pick-by (Within end) (ltb even end) (λ second. (o, e, here)) (λ first. within rest (suc at) end odd at next o here)))
-    (λ good. within rest (suc at) end odd even next o e)
-
-pub scan-bounds : (marks : List ℕ) → (scanOf marks .odd ≤ length marks) × (scanOf marks .even ≤ length marks) × (scanOf marks .stop ≤ length marks)
-unfolding scanOf
-scan-bounds marks = within marks 0 (length marks) (length marks) (length marks) (omega arith) (omega arith) (omega arith)

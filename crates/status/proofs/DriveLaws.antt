@@ -6,7 +6,7 @@ use native.Mathlib.Omega.{arith}
 use Rattle.common.specs.Pick.{pick}
 use Rattle.status.specs.declared.drives.Drive.{Drive}
 use Rattle.status.specs.declared.drives.Drives.{Drives}
-use Rattle.status.specs.Drives.{driveOf, withDrive, reported, copied, reviewedAll}
+use Rattle.status.specs.Drives.{driveOf, withDrive, copied, reviewedAll}
 
 -- a claim of a drive's number, from the claim of each of the four
 pub by-four : (P : ℕ → Type 0) → P 0 → P 1 → P 2 → P 3 → (n : ℕ) → n ≤ 3 → P n
@@ -37,8 +37,3 @@ module _ (drives : Drives) (drive : Drive) where
 pub reviewed-drive : (drives : Drives) (n : ℕ) → n ≤ 3 → driveOf (reviewedAll drives) n ≡ copied (driveOf drives n)
 unfolding driveOf reviewedAll pick
 reviewed-drive drives = by-four (λ n. driveOf (reviewedAll drives) n ≡ copied (driveOf drives n)) refl refl refl refl
-
--- a report leaves track and density
-pub reported-keeps : (drive : Drive) (report : ℕ) → (reported drive report .track ≡ drive .track) × (reported drive report .density ≡ drive .density)
-unfolding reported
-reported-keeps drive report = (refl, refl)
