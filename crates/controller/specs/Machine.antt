@@ -61,6 +61,7 @@ tickIn c b (DataAwaited store) = refused 4 c
 tickIn c b (ResultAwaited operation store) = refused 4 c
 tickIn c b (EndOffered interrupt) = refused 4 c
 
+-- Each call first looks at the state: "1 a field out of range".
 unfoldable pub byteCall : Controller → ℕ → Reply
 byteCall c byte = pick (sound (c .body) (c .phase)) (byteIn c (c .body) byte (c .phase)) (refused 1 c)
 

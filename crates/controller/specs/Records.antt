@@ -66,7 +66,7 @@ unfoldable pub ending : Body → Operation → Store → Turn
 ending b operation store =
     pick (offersEnd operation) (record { body = b; phase = EndOffered (asksInterrupt store); action = Byte 0x45 }) (completed b (asksInterrupt store))
 
--- with the bytes to be delivered
+-- the answer to a result, with these bytes to be delivered: "Host space too short: as many as fit, bit 17"
 unfoldable pub resultGiven : Body → Drive → Operation → Store → Result → List ℕ → List ℕ → List ℕ → Answer
 resultGiven b drive operation store r bytes space check =
     record {
@@ -76,6 +76,7 @@ resultGiven b drive operation store r bytes space check =
       check = resultCheck drive operation r check;
     }
 
+-- the bytes are those that the operation delivers: of a read its image's, of check bytes the check store's
 unfoldable pub resultDone : Body → Drive → Operation → Store → Result → List ℕ → List ℕ → Answer
 resultDone b drive operation store r space check =
     resultGiven b drive operation store r (delivered drive operation r check) space check

@@ -45,7 +45,7 @@ ghost use Rattle.link.specs.Damaged.{sound};
 ghost use Rattle.controller.specs.Machine.{dataFor, dataIn, dataCall, resultFor, resultIn, resultCall};
 
 // Tertiary and quintary zeroed, where the data call zeroes them.
-pub fn zeroed_words(mut b: Body, zeroes: bool) -> Body
+fn zeroed_words(mut b: Body, zeroes: bool) -> Body
     ensures { λ r. ⌜ r ≡ zeroedWords b zeroes ⌝ }
 {
     if zeroes {
@@ -57,7 +57,7 @@ pub fn zeroed_words(mut b: Body, zeroes: bool) -> Body
 }
 
 // The body after a data call.
-pub fn data_body(mut b: Body, drive: Drive, store: Store, host: &[u8]) -> Body
+fn data_body(mut b: Body, drive: Drive, store: Store, host: &[u8]) -> Body
     ensures { λ r. ⌜ r ≡ zeroedWords (setOutcome b (withUnderflow (b .outcome) (runsShort store (now (host .entry))))) (isGcr drive) ⌝ }
 {
     let gcr = is_gcr(drive);
@@ -69,7 +69,7 @@ pub fn data_body(mut b: Body, drive: Drive, store: Store, host: &[u8]) -> Body
 }
 
 // The data call, carried out.
-pub fn data_done(
+fn data_done(
     b: Body,
     drive: Drive,
     store: Store,
@@ -89,7 +89,7 @@ pub fn data_done(
 }
 
 // The body after a result.
-pub fn result_body(
+fn result_body(
     mut b: Body,
     drive: Drive,
     operation: Operation,
@@ -134,7 +134,7 @@ pub fn result_body(
 }
 
 // The result, carried out.
-pub fn result_done(
+fn result_done(
     b: Body,
     drive: Drive,
     operation: Operation,
@@ -173,7 +173,7 @@ pub fn result_done(
 }
 
 // A call that is refused gives nothing.
-pub fn refuse_transfer(number: u32, c: Controller) -> Transfer
+fn refuse_transfer(number: u32, c: Controller) -> Transfer
     ensures { λ r. ⌜ r ≡ record { reply = refused number c; bytes = 0 } ⌝ }
 {
     let reply = refuse(number, c);
@@ -181,7 +181,7 @@ pub fn refuse_transfer(number: u32, c: Controller) -> Transfer
 }
 
 // The data call of a write.
-pub fn take_data(
+fn take_data(
     c: Controller,
     drive: Drive,
     store: Store,
@@ -201,7 +201,7 @@ pub fn take_data(
 }
 
 // The result of an operation.
-pub fn take_result(
+fn take_result(
     c: Controller,
     drive: Drive,
     operation: Operation,
@@ -246,7 +246,7 @@ pub fn take_result(
 }
 
 // The data call, by the phase: it writes the selected drive.
-pub fn data_in(c: Controller, host: &[u8], space: &mut [u8], check: &mut [u8]) -> Transfer
+fn data_in(c: Controller, host: &[u8], space: &mut [u8], check: &mut [u8]) -> Transfer
     requires { ⌜ sound (c .body) (c .phase) ≡ true ⌝ }
     ensures { λ r. ⌜ answered r (now (space .exit)) (now (check .exit)) ≡ dataIn c (c .body) (now (host .entry)) (now (space .entry)) (now (check .entry)) (c .phase) ⌝ }
 {
@@ -260,7 +260,7 @@ pub fn data_in(c: Controller, host: &[u8], space: &mut [u8], check: &mut [u8]) -
 }
 
 // The result, by the phase: the selected drive carried the operation out.
-pub fn result_in(
+fn result_in(
     c: Controller,
     code: u8,
     mark: bool,
