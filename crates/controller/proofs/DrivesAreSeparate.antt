@@ -11,7 +11,8 @@ use Rattle.operations.specs.declared.store.Store.{Store}
 use Rattle.controller.specs.declared.controller.Controller.{Controller}
 use Rattle.controller.specs.Controller.{fresh}
 use Rattle.controller.specs.Machine.{Call, Exchange, step, run}
-use Rattle.controller.specs.Separation.{Event, Output, lastStore, noStore, eventsOf, historyFrom, history, outputsFrom, admits, admittedFrom, admitted, after, Separate}
+use Rattle.controller.specs.Lists.{lastStore, noStore, after}
+use Rattle.controller.specs.Separation.{Event, Output, eventsOf, historyFrom, outputsFrom, admits, admittedFrom, Separate}
 use Rattle.controller.proofs.OneDrive.{View, told, gives, toldAll, givesAll}
 use Rattle.controller.proofs.Resting.{seen}
 use Rattle.controller.proofs.Following.{viewOf, InHand}
@@ -48,7 +49,7 @@ determined d low (call ∷ calls) last c held admitted =
     let next = step c call .reply .controller in
     let later = lastStore last c x in
     let (first, others) = both-hold (admits c x) (admittedFrom next (run next calls)) admitted in
-    let follows = step-follows d low last c held call first in
+    let follows = step-follows d low c call last held first in
     let rest = determined d low calls later next (follows .held) others in
     let v = viewOf d last c in
     let events = eventsOf d later c x in

@@ -2,220 +2,127 @@
 -- Assumes nothing.
 use mathlib.Core.Path.{_≡_, refl, sym, ap, subst, _∙_}
 use Prim.Native.Nat.{ℕ, _≤_}
-use native.Mathlib.Omega.{arith}
 use mathlib.Core.Bool.{Bool, true, false, not, _&&_, false≢true, and-false}
 use mathlib.Core.List.{List, [], _∷_}
-use lib.Dec.{leb, eqb}
-use lib.ListN.{length}
-use borrow.Author.Tests.{leb-false, not-true}
+use lib.Dec.{eqb}
+use borrow.Author.Tests.{not-true}
 use Rattle.common.specs.Pick.{pick}
-use Rattle.common.proofs.PickLaws.{both-hold, pick-by, pick-yes, pick-no}
+use Rattle.common.proofs.PickLaws.{both-hold, pick-yes, pick-no}
 use Rattle.operations.specs.declared.store.Store.{Store}
+use Rattle.operations.specs.Store.{namesDrive}
 use Rattle.link.specs.declared.state.Phase.{Phase}
 use Rattle.link.specs.declared.state.Phase.the-variants.{Collecting, AckOffered, Sending, GoOffered, DataAwaited, ResultAwaited, EndOffered}
 use Rattle.link.specs.declared.state.Body.{Body}
-use Rattle.controller.specs.declared.controller.Controller.{Controller}
-use Rattle.link.specs.declared.state.Action.the-variants.{Nothing}
 use Rattle.link.specs.declared.state.Turn.{Turn}
-use Rattle.controller.specs.declared.controller.Reply.{Reply}
-use Rattle.link.specs.State.{current}
-use Rattle.operations.specs.Store.{namesDrive}
-use Rattle.link.specs.Link.{goAnswered}
-use Rattle.link.specs.Loads.{loaded}
+use Rattle.link.specs.State.{resetOf}
+use Rattle.link.specs.Link.{goRefused}
+use Rattle.controller.specs.declared.controller.Controller.{Controller}
 use Rattle.controller.specs.Controller.{carried}
 use Rattle.controller.specs.Stores.{storeOf, carriedOut}
-use Rattle.transfers.specs.Data.{dataRefusal}
-use Rattle.transfers.specs.Results.{Result, resultRefusal}
-use Rattle.controller.specs.Records.{Answer}
-use Rattle.link.specs.Damaged.{sound}
-use Rattle.controller.specs.Machine.{unchanged, byteIn, brokenIn, tickIn, byteCall, brokenCall, tickCall, takenBody, takenIn, takenCall, reportCall, resetCall, dataFor, dataIn, dataCall, resultFor, resultIn, resultCall, Call, Exchange, plain, step}
+use Rattle.controller.specs.Machine.{unchanged, Call, Exchange, plain, step}
 use Rattle.controller.specs.Machine.Call.{byte, taken, broken, report, hostData, result, tick, reset}
-use Rattle.controller.specs.Separation.{notRefused, isTaken, isOf, storeEvent, holdsStore, carriesOut, lastStore, awaitsGo, eventOf, bytesGiven, ordersFor, transferOf, isReset, resets, admits}
-use Rattle.controller.proofs.Resting.{Free, Rests, idle-rests, given-up-rests, byte-rests, send-rests, completed-rests, tick-rests, loaded-rests}
-use Rattle.controller.proofs.Following.{viewOf, InHand, free-held, free-view, rests-view, Follows, refused-follows, passes-follows, carried-follows, report-follows, go-taken-follows, go-refused-follows, data-follows, result-follows}
+use Rattle.controller.specs.Lists.{notRefused, isTaken, holdsStore, carriesOut, lastStore}
+use Rattle.controller.specs.Separation.{isOf, storeEvent, awaitsGo, eventOf, bytesGiven, transferOf, isReset, resets, admits}
+use Rattle.controller.specs.Separation.Event.{goAnswered}
+use Rattle.controller.proofs.Resting.{Free, Rests}
+use Rattle.controller.proofs.Steps.{stated, exchanged, Talk, SaysNo, Kinds, by-step}
+use Rattle.controller.proofs.Following.{viewOf, InHand, free-held, free-view, rests-view, none-for, Follows, refused-follows, passes-follows, carried-follows, report-follows, go-taken-follows, go-refused-follows, data-follows, result-follows}
 
-module _ (d : ℕ) (low : d ≤ 3) (last : Store) where
+-- with nothing in hand no answer to GO is awaited
+free-goes : (phase : Phase) → Free phase → awaitsGo phase ≡ false
+unfolding Free awaitsGo
+free-goes Collecting free = refl
+free-goes AckOffered free = refl
+free-goes (Sending s) free = refl
+free-goes (EndOffered interrupt) free = refl
+free-goes (GoOffered store) free = absurd free
+free-goes (DataAwaited store) free = absurd free
+free-goes (ResultAwaited operation store) free = absurd free
+
+module _ (d : ℕ) (low : d ≤ 3) where
+  -- what is claimed of a call: it is followed, whatever store came last
+  abbrev Followed : Controller → Exchange → Type 0
+  Followed c x =
+      (last : Store) → InHand last (c .body .selected) (c .phase) → admits c x ≡ true → Follows d (viewOf d last c) (lastStore last c x) c x
+
+  -- a call that carries out no store
+  kept : (c : Controller) (x : Exchange) (last : Store) → carriesOut c x ≡ false → Follows d (viewOf d last c) last c x → Follows d (viewOf d last c) (lastStore last c x) c x
+  unfolding lastStore
+  kept c x last none = subst (λ (next : Store). Follows d (viewOf d last c) next c x) (sym (pick-no (storeOf (c .body .collected)) last none))
+
+  refusal : (c : Controller) (call : Call) (number : ℕ) (space check : List ℕ) → eqb number 0 ≡ false → Followed c (exchanged call (unchanged number c space check))
+  unfolding carriesOut notRefused
+  refusal c call number space check some last held admitted =
+      kept c _ last (ap (λ (t : Bool). isTaken call && (t && holdsStore c)) some ∙ and-false (isTaken call))
+      (refused-follows d last c call number 0 space check some held)
+
   -- with nothing in hand before and after, a call is no event of the drive
   rest-follows :
-      (c : Controller) (call : Call) (t : Turn) → Free (c .phase) → Rests d (c .body) t → eventOf d last c call ≡ [] → transferOf d last [] call ≡ [] → Follows d (viewOf d last c) last c (record { call = call; answer = plain (carried t) })
+      (c : Controller) (call : Call) (t : Turn) (last : Store) → Free (c .phase) → Rests (c .body) t → eventOf d last c call ≡ [] → transferOf d last [] call ≡ [] → Follows d (viewOf d last c) last c (exchanged call (plain (carried t)))
   unfolding bytesGiven
-  rest-follows c call t free rests made nothing =
+  rest-follows c call t last free rests made nothing =
       passes-follows d last c _ _ made
-      (record { view = rests-view d last (c .body) t rests ∙ sym (free-view d last c free); transfer = nothing; quiet = rests .quiet })
+      (record { view = rests-view d low last (c .body) t rests ∙ sym (free-view d last c free); transfer = nothing; quiet = none-for d (t .action) (rests .quiet) })
       (free-held last _ _ (rests .free))
 
-  module _ (b : Body) where
-    abbrev at : Phase → Controller
-    at phase = record { body = b; phase = phase }
+  talk : (c : Controller) (call : Call) (t : Turn) → Talk c call → Rests (c .body) t → Followed c (exchanged call (plain (carried t)))
+  unfolding Talk eventOf transferOf holdsStore lastStore carriesOut isTaken pick
+  talk c (byte value) t free rests last held admitted =
+      rest-follows c (byte value) t last free rests (pick-no (goAnswered (eqb value 0x06) ∷ []) [] (ap (λ (go : Bool). go && isOf d last) (free-goes (c .phase) free))) refl
+  talk c broken t free rests last held admitted =
+      rest-follows c broken t last free rests (pick-no (goAnswered false ∷ []) [] (ap (λ (go : Bool). go && isOf d last) (free-goes (c .phase) free))) refl
+  talk c tick t free rests last held admitted = rest-follows c tick t last free rests refl refl
+  talk c taken t (free, load) rests last held admitted =
+      let x : Exchange = exchanged taken (plain (carried t)) in
+      let none = ap not load in
+      kept c x last (ap (λ (t : Bool). notRefused x && t) none ∙ and-false (notRefused x))
+      (rest-follows c taken t last free rests (pick-no (storeEvent last ∷ []) [] (ap (λ (t : Bool). t && isOf d last) none)) refl)
+  talk c (report drive r) t talks rests last held admitted = absurd talks
+  talk c (hostData host space check) t talks rests last held admitted = absurd talks
+  talk c (result r space check) t talks rests last held admitted = absurd talks
+  talk c reset t talks rests last held admitted = absurd talks
 
-    abbrev following : Call → Phase → Answer → Type 0
-    following call phase answer = Follows d (viewOf d last (at phase)) last (at phase) (record { call = call; answer = answer })
+  store : (b : Body) → eqb (b .collected .c0) 0x62 ≡ false → Followed (stated b AckOffered) (exchanged taken (plain (carried (carriedOut b (storeOf (b .collected))))))
+  unfolding lastStore carriesOut isTaken notRefused holdsStore admits Free
+  store b lead last held admitted =
+      let c = stated b AckOffered in
+      let taking = storeOf (b .collected) in
+      let x : Exchange = exchanged taken (plain (carried (carriedOut b taking))) in
+      let holds = ap not lead in
+      let (names, keeps) = both-hold (namesDrive taking) (not (resets taking)) (sym (pick-yes _ _ holds) ∙ admitted) in
+      subst (λ (next : Store). Follows d (viewOf d last c) next c x) (sym (pick-yes taking last holds))
+      (subst (λ v. Follows d v taking c x) (sym (free-view d last c tt)) (carried-follows d low c taking holds names (not-true (resets taking) keeps)))
 
-    -- ---- byte
+  staying : (b : Body) (held : Store) (call : Call) → SaysNo call → Followed (stated b (GoOffered held)) (exchanged call (plain (carried (goRefused b held))))
+  unfolding SaysNo InHand eventOf awaitsGo transferOf lastStore carriesOut isTaken pick
+  staying b held (byte value) refuses last mine admitted = go-refused-follows d low last b held (byte value) (eqb value 0x06) refl refl refuses
+  staying b held broken refuses last mine admitted = go-refused-follows d low last b held broken false refl refl refl
+  staying b held taken refuses last mine admitted = absurd refuses
+  staying b held (report drive r) refuses last mine admitted = absurd refuses
+  staying b held (hostData host space check) refuses last mine admitted = absurd refuses
+  staying b held (result r space check) refuses last mine admitted = absurd refuses
+  staying b held tick refuses last mine admitted = absurd refuses
+  staying b held reset refuses last mine admitted = absurd refuses
 
-    byte-in-follows : (value : ℕ) (phase : Phase) → InHand last (b .selected) phase → following (byte value) phase (plain (byteIn (at phase) b value phase))
-    unfolding byteIn goAnswered InHand Free eventOf awaitsGo transferOf ordersFor pick
-    byte-in-follows value Collecting held = rest-follows (at Collecting) _ _ tt (byte-rests d low b value) refl refl
-    byte-in-follows value AckOffered held = rest-follows (at AckOffered) _ _ tt (idle-rests d low b Nothing refl) refl refl
-    byte-in-follows value (Sending s) held = rest-follows (at (Sending s)) _ _ tt (send-rests d low b value s) refl refl
-    byte-in-follows value (GoOffered store) held =
-        pick-by (λ (t : Turn). following (byte value) (GoOffered store) (plain (carried t))) (eqb value 0x06)
-        (λ yes. go-taken-follows d low last b store value yes held) (λ no. go-refused-follows d low last b store (byte value) (eqb value 0x06) refl refl no)
-    byte-in-follows value (DataAwaited store) held = refused-follows d last (at (DataAwaited store)) _ 2 0 [] [] refl held
-    byte-in-follows value (ResultAwaited operation store) held = refused-follows d last (at (ResultAwaited operation store)) _ 2 0 [] [] refl held
-    byte-in-follows value (EndOffered interrupt) held =
-        rest-follows (at (EndOffered interrupt)) _ _ tt (completed-rests d low b interrupt) refl refl
+  -- a reset is not admitted
+  resetting : (c : Controller) → Followed c (exchanged reset (plain (carried (resetOf (c .body)))))
+  unfolding admits carriesOut isTaken notRefused isReset pick
+  resetting c last held admitted = absurd (false≢true admitted)
 
-    -- ---- broken and tick
+  followed : Kinds Followed
+  unfolding lastStore carriesOut isTaken InHand pick
+  followed =
+      record {
+        refusal = refusal;
+        talk = talk;
+        store = store;
+        reporting = λ c n r within last held admitted. report-follows d low last c n r within held;
+        going = λ b held value yes last mine admitted. go-taken-follows d low last b held value yes mine;
+        staying = staying;
+        writing = λ b held host space check last mine admitted. data-follows d last b held host space check mine;
+        ending = λ b operation held r space check last mine admitted. result-follows d low last b operation held r space check mine;
+        resetting = resetting;
+      }
 
-    broken-in-follows : (phase : Phase) → InHand last (b .selected) phase → following broken phase (plain (brokenIn (at phase) b phase))
-    unfolding brokenIn InHand Free eventOf awaitsGo transferOf ordersFor pick
-    broken-in-follows Collecting held = rest-follows (at Collecting) _ _ tt (idle-rests d low b Nothing refl) refl refl
-    broken-in-follows AckOffered held = rest-follows (at AckOffered) _ _ tt (idle-rests d low b Nothing refl) refl refl
-    broken-in-follows (Sending s) held = rest-follows (at (Sending s)) _ _ tt (given-up-rests d low b (s .kind)) refl refl
-    broken-in-follows (GoOffered store) held = go-refused-follows d low last b store broken false refl refl refl
-    broken-in-follows (DataAwaited store) held = refused-follows d last (at (DataAwaited store)) _ 2 0 [] [] refl held
-    broken-in-follows (ResultAwaited operation store) held = refused-follows d last (at (ResultAwaited operation store)) _ 2 0 [] [] refl held
-    broken-in-follows (EndOffered interrupt) held =
-        rest-follows (at (EndOffered interrupt)) _ _ tt (completed-rests d low b interrupt) refl refl
-
-    tick-in-follows : (phase : Phase) → InHand last (b .selected) phase → following tick phase (plain (tickIn (at phase) b phase))
-    unfolding tickIn InHand Free eventOf transferOf
-    tick-in-follows Collecting held =
-        pick-by (λ (r : Reply). following tick Collecting (plain r)) (eqb (b .collected .length) 0)
-        (λ idle. rest-follows (at Collecting) _ _ tt (tick-rests d low b) refl refl)
-        (λ part. refused-follows d last (at Collecting) _ 4 0 [] [] refl held)
-    tick-in-follows AckOffered held = refused-follows d last (at AckOffered) _ 4 0 [] [] refl held
-    tick-in-follows (Sending s) held = refused-follows d last (at (Sending s)) _ 4 0 [] [] refl held
-    tick-in-follows (GoOffered store) held = refused-follows d last (at (GoOffered store)) _ 4 0 [] [] refl held
-    tick-in-follows (DataAwaited store) held = refused-follows d last (at (DataAwaited store)) _ 4 0 [] [] refl held
-    tick-in-follows (ResultAwaited operation store) held = refused-follows d last (at (ResultAwaited operation store)) _ 4 0 [] [] refl held
-    tick-in-follows (EndOffered interrupt) held = refused-follows d last (at (EndOffered interrupt)) _ 4 0 [] [] refl held
-
-    -- ---- data and result
-
-    module _ (host space check : List ℕ) where
-      data-in-follows :
-          (phase : Phase) → InHand last (b .selected) phase → following (hostData host space check) phase (dataIn (at phase) b host space check phase)
-      unfolding dataIn dataFor InHand
-      data-in-follows (DataAwaited store) held =
-          pick-by (following (hostData host space check) (DataAwaited store)) (eqb (dataRefusal (current b) store (length space) (length check)) 0)
-          (λ good. data-follows d last b store host space check held)
-          (λ refused. refused-follows d last (at (DataAwaited store)) _ _ 0 space check refused held)
-      data-in-follows Collecting held = refused-follows d last (at Collecting) _ 3 0 space check refl held
-      data-in-follows AckOffered held = refused-follows d last (at AckOffered) _ 3 0 space check refl held
-      data-in-follows (Sending s) held = refused-follows d last (at (Sending s)) _ 3 0 space check refl held
-      data-in-follows (GoOffered store) held = refused-follows d last (at (GoOffered store)) _ 3 0 space check refl held
-      data-in-follows (ResultAwaited operation store) held = refused-follows d last (at (ResultAwaited operation store)) _ 3 0 space check refl held
-      data-in-follows (EndOffered interrupt) held = refused-follows d last (at (EndOffered interrupt)) _ 3 0 space check refl held
-
-    module _ (r : Result) (space check : List ℕ) where
-      result-in-follows :
-          (phase : Phase) → InHand last (b .selected) phase → following (result r space check) phase (resultIn (at phase) b r space check phase)
-      unfolding resultIn resultFor InHand
-      result-in-follows (ResultAwaited operation store) held =
-          pick-by (following (result r space check) (ResultAwaited operation store)) (eqb (resultRefusal (current b) operation r (length check)) 0)
-          (λ good. result-follows d low last b operation store r space check held)
-          (λ refused. refused-follows d last (at (ResultAwaited operation store)) _ _ 0 space check refused held)
-      result-in-follows Collecting held = refused-follows d last (at Collecting) _ 3 0 space check refl held
-      result-in-follows AckOffered held = refused-follows d last (at AckOffered) _ 3 0 space check refl held
-      result-in-follows (Sending s) held = refused-follows d last (at (Sending s)) _ 3 0 space check refl held
-      result-in-follows (GoOffered store) held = refused-follows d last (at (GoOffered store)) _ 3 0 space check refl held
-      result-in-follows (DataAwaited store) held = refused-follows d last (at (DataAwaited store)) _ 3 0 space check refl held
-      result-in-follows (EndOffered interrupt) held = refused-follows d last (at (EndOffered interrupt)) _ 3 0 space check refl held
-
--- ---- taken
-
-module _ (d : ℕ) (low : d ≤ 3) (last : Store) where
-  -- taken, with its last store settled by its own answer
-  abbrev takes : Controller → Reply → Type 0
-  takes c r =
-      let x : Exchange = record { call = taken; answer = plain r } in admits c x ≡ true → Follows d (viewOf d last c) (lastStore last c x) c x
-
-  module _ (b : Body) where
-    abbrev acked : Controller
-    acked = record { body = b; phase = AckOffered }
-
-    load-takes : eqb (b .collected .c0) 0x62 ≡ true → takes acked (carried (loaded b (b .collected .c1)))
-    unfolding lastStore carriesOut isTaken holdsStore eventOf transferOf Free
-    load-takes load admitted =
-        let t = loaded b (b .collected .c1) in
-        let x : Exchange = record { call = taken; answer = plain (carried t) } in
-        let none = ap not load in
-        subst (λ (next : Store). Follows d (viewOf d last acked) next acked x)
-        (sym (pick-no (storeOf (b .collected)) last (ap (λ (t : Bool). notRefused x && t) none ∙ and-false (notRefused x))))
-        (rest-follows d low last acked taken t tt (loaded-rests d low b (b .collected .c1))
-        (pick-no (storeEvent last ∷ []) [] (ap (λ (t : Bool). t && isOf d last) none)) refl)
-
-    store-takes : eqb (b .collected .c0) 0x62 ≡ false → takes acked (carried (carriedOut b (storeOf (b .collected))))
-    unfolding lastStore carriesOut isTaken notRefused holdsStore admits Free
-    store-takes lead admitted =
-        let store = storeOf (b .collected) in
-        let r = carried (carriedOut b store) in
-        let holds = ap not lead in
-        let (names, keeps) = both-hold (namesDrive store) (not (resets store)) (sym (pick-yes _ _ holds) ∙ admitted) in
-        subst (λ (next : Store). Follows d (viewOf d last acked) next acked (record { call = taken; answer = plain r })) (sym (pick-yes store last holds))
-        (subst (λ v. Follows d v store acked (record { call = taken; answer = plain r })) (sym (free-view d last acked tt))
-        (carried-follows d low acked store holds names (not-true (resets store) keeps)))
-
-    taken-in-takes :
-        (phase : Phase) → InHand last (b .selected) phase → takes (record { body = b; phase = phase }) (takenIn (record { body = b; phase = phase }) b phase)
-    unfolding takenIn takenBody InHand lastStore carriesOut isTaken notRefused pick
-    taken-in-takes AckOffered held = by-load (eqb (b .collected .c0) 0x62) refl
-      where
-        by-load : (t : Bool) → eqb (b .collected .c0) 0x62 ≡ t → takes acked (carried (pick t (loaded b (b .collected .c1)) (carriedOut b (storeOf (b .collected)))))
-        by-load true e = load-takes e
-        by-load false e = store-takes e
-    taken-in-takes Collecting held = λ admitted. refused-follows d last (record { body = b; phase = Collecting }) _ 2 0 [] [] refl held
-    taken-in-takes (Sending s) held = λ admitted. refused-follows d last (record { body = b; phase = Sending s }) _ 2 0 [] [] refl held
-    taken-in-takes (GoOffered store) held = λ admitted. refused-follows d last (record { body = b; phase = GoOffered store }) _ 2 0 [] [] refl held
-    taken-in-takes (DataAwaited store) held = λ admitted. refused-follows d last (record { body = b; phase = DataAwaited store }) _ 2 0 [] [] refl held
-    taken-in-takes (ResultAwaited operation store) held =
-        λ admitted. refused-follows d last (record { body = b; phase = ResultAwaited operation store }) _ 2 0 [] [] refl held
-    taken-in-takes (EndOffered interrupt) held = λ admitted. refused-follows d last (record { body = b; phase = EndOffered interrupt }) _ 2 0 [] [] refl held
-
--- ---- the eight calls
-
-module _ (d : ℕ) (low : d ≤ 3) (last : Store) (c : Controller) (held : InHand last (c .body .selected) (c .phase)) where
-  abbrev steps : Call → Answer → Type 0
-  steps call answer = Follows d (viewOf d last c) last c (record { call = call; answer = answer })
-
-  -- refusal 1
-  damaged : (call : Call) (space check : List ℕ) → steps call (unchanged 1 c space check)
-  damaged call space check = refused-follows d last c call 1 0 space check refl held
-
-  report-steps : (n r : ℕ) → steps (report n r) (plain (reportCall c n r))
-  unfolding reportCall
-  report-steps n r =
-      pick-by (λ (reply : Reply). steps (report n r) (plain reply)) (sound (c .body) (c .phase))
-      (λ sane. pick-by (λ (reply : Reply). steps (report n r) (plain reply)) (leb 4 n) (λ high. refused-follows d last c _ 5 0 [] [] refl held)
-      (λ few. let below = leb-false 4 n few in report-follows d low last c n r (omega arith) held))
-      (λ hurt. damaged _ [] [])
-
-  reset-steps :
-      admits c (record { call = reset; answer = plain (resetCall c) }) ≡ true → steps reset (plain (resetCall c))
-  unfolding resetCall admits carriesOut isTaken notRefused isReset pick
-  reset-steps =
-      pick-by (λ (reply : Reply). admits c (record { call = reset; answer = plain reply }) ≡ true → steps reset (plain reply)) (sound (c .body) (c .phase))
-      (λ sane admitted. absurd (false≢true admitted)) (λ hurt admitted. damaged _ [] [])
-
-  pub step-follows :
-      (call : Call) → admits c (record { call = call; answer = step c call }) ≡ true → Follows d (viewOf d last c) (lastStore last c (record { call = call; answer = step c call })) c (record { call = call; answer = step c call })
-  unfolding step byteCall brokenCall tickCall takenCall dataCall resultCall lastStore carriesOut isTaken notRefused pick
-  step-follows (byte value) admitted =
-      pick-by (λ (r : Reply). steps (byte value) (plain r)) (sound (c .body) (c .phase)) (λ sane. byte-in-follows d low last (c .body) value (c .phase) held)
-      (λ hurt. damaged _ [] [])
-  step-follows broken admitted =
-      pick-by (λ (r : Reply). steps broken (plain r)) (sound (c .body) (c .phase)) (λ sane. broken-in-follows d low last (c .body) (c .phase) held) (λ hurt. damaged _ [] [])
-  step-follows tick admitted =
-      pick-by (λ (r : Reply). steps tick (plain r)) (sound (c .body) (c .phase)) (λ sane. tick-in-follows d low last (c .body) (c .phase) held) (λ hurt. damaged _ [] [])
-  step-follows (report n r) admitted = report-steps n r
-  step-follows (hostData host space check) admitted =
-      pick-by (steps (hostData host space check)) (sound (c .body) (c .phase)) (λ sane. data-in-follows d low last (c .body) host space check (c .phase) held)
-      (λ hurt. damaged _ space check)
-  step-follows (result r space check) admitted =
-      pick-by (steps (result r space check)) (sound (c .body) (c .phase)) (λ sane. result-in-follows d low last (c .body) r space check (c .phase) held)
-      (λ hurt. damaged _ space check)
-  step-follows reset admitted = reset-steps admitted
-  step-follows taken admitted =
-      pick-by (takes d low last c) (sound (c .body) (c .phase)) (λ sane. taken-in-takes d low last (c .body) (c .phase) held) (λ hurt admits. damaged _ [] []) admitted
+  pub step-follows : (c : Controller) (call : Call) → Followed c (exchanged call (step c call))
+  step-follows = by-step Followed followed

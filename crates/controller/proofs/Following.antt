@@ -29,7 +29,8 @@ use Rattle.link.specs.declared.state.Phase.{Phase}
 use Rattle.link.specs.declared.state.Phase.the-variants.{Collecting, AckOffered, Sending, GoOffered, DataAwaited, ResultAwaited, EndOffered}
 use Rattle.link.specs.declared.state.Body.{Body}
 use Rattle.controller.specs.declared.controller.Controller.{Controller}
-use Rattle.link.specs.declared.state.Action.the-variants.{Nothing, Order}
+use Rattle.link.specs.declared.state.Action.{Action}
+use Rattle.link.specs.declared.state.Action.the-variants.{Nothing, Byte, Text, Order}
 use Rattle.link.specs.declared.state.Turn.{Turn}
 use Rattle.link.specs.State.{setDrives, setSelected, setFlags, setOutcome, setCurrent, current}
 use Rattle.operations.specs.Store.{namesDrive, named, asked, thrownAway, heldCount}
@@ -41,12 +42,14 @@ use Rattle.transfers.specs.Results.{Result, withGap, resultDrive, finalCode, is
 use Rattle.controller.specs.Records.{resultGiven, zeroedWords, dataDone, resultBody, resultDone}
 use Rattle.controller.specs.Machine.{Call, Exchange, plain}
 use Rattle.controller.specs.Machine.Call.{byte, taken, broken, report, hostData, result}
-use Rattle.controller.specs.Separation.{Event, Output, notRefused, isOf, isRead, holdsStore, storeEvent, awaitsGo, eventOf, eventsOf, ordersFor, bytesGiven, transferOf, outputsOf, asksReset, resets}
+use Rattle.controller.specs.Lists.{notRefused, holdsStore}
+use Rattle.controller.specs.Separation.{Event, Output, isOf, isRead, storeEvent, awaitsGo, eventOf, eventsOf, ordersFor, bytesGiven, transferOf, outputsOf, asksReset, resets}
 use Rattle.controller.specs.Separation.Event.{reportCame, goAnswered, dataCame, resultCame}
 use Rattle.controller.specs.Separation.Output.{motion, image, delivery}
 use Rattle.controller.proofs.OneDrive.{Hand, View, resting, operand, handFor, begins, firstOrder, givenAtStore, handAfterGo, handAfterData, givenAtData, driveAfterResult, givenAtResult, told, gives, toldAll, givesAll}
 use Rattle.controller.proofs.OneDrive.Hand.{empty, goOffered, dataAwaited, resultAwaited}
-use Rattle.controller.proofs.Resting.{seen, Free, Rests, ended-rests, settled-rests, go-refused-rests, ending-rests}
+use Rattle.controller.proofs.Steps.{reportNoted}
+use Rattle.controller.proofs.Resting.{seen, Free, NoOrder, Rests, ended-rests, settled-rests, go-refused-rests, ending-rests}
 
 -- ---- the view of a drive
 
@@ -110,8 +113,17 @@ free-view d last c free =
     ap (λ (hand : Hand). record { drive = seen d (c .body); hand = hand })
     (ap (λ (hand : Hand). pick (isOf d last) hand empty) (free-hand (c .phase) free) ∙ pick-both (isOf d last) empty)
 
-pub rests-view : (d : ℕ) (last : Store) (b : Body) (t : Turn) → Rests d b t → viewOf d last (carried t .controller) ≡ resting (seen d b)
-rests-view d last b t rests = free-view d last (carried t .controller) (rests .free) ∙ ap resting (rests .drive)
+pub rests-view :
+    (d : ℕ) → d ≤ 3 → (last : Store) (b : Body) (t : Turn) → Rests b t → viewOf d last (carried t .controller) ≡ resting (seen d b)
+rests-view d low last b t rests = free-view d last (carried t .controller) (rests .free) ∙ ap resting (rests .same .drive d low)
+
+-- no order at all is none for the drive
+pub none-for : (d : ℕ) (action : Action) → NoOrder action → ordersFor d action ≡ []
+unfolding ordersFor NoOrder
+none-for d Nothing none = refl
+none-for d (Byte b) none = refl
+none-for d (Text string) none = refl
+none-for d (Order order) none = absurd none
 
 -- ---- a call follows
 
@@ -196,15 +208,16 @@ record Leaves (d : ℕ) (drive : Drive) (t : Turn) : Type 0 where
   same : seen d (t .body) ≡ drive
   pub quiet : ordersFor d (t .action) ≡ []
 
-rests-leave : (d : ℕ) (b : Body) (t : Turn) → Rests d b t → Leaves d (seen d b) t
-rests-leave d b t rests = record { same = rests .drive; quiet = rests .quiet }
+module _ (d : ℕ) (low : d ≤ 3) (b : Body) (t : Turn) (rests : Rests b t) where
+  rests-leave : Leaves d (seen d b) t
+  rests-leave = record { same = rests .same .drive d low; quiet = none-for d (t .action) (rests .quiet) }
 
-rests-start : (d : ℕ) (b : Body) (t : Turn) → Rests d b t → Starts d (resting (seen d b)) [] t
-rests-start d b t rests =
-    record {
-      view = ap₂ (λ (drive : Drive) (hand : Hand). record { drive = drive; hand = hand }) (rests .drive) (free-hand (t .phase) (rests .free));
-      given = rests .quiet;
-    }
+  rests-start : Starts d (resting (seen d b)) [] t
+  rests-start =
+      record {
+        view = ap₂ (λ (drive : Drive) (hand : Hand). record { drive = drive; hand = hand }) (rests .same .drive d low) (free-hand (t .phase) (rests .free));
+        given = none-for d (t .action) (rests .quiet);
+      }
 
 choose-start :
     (d : ℕ) (may : Bool) (drive : Drive) (hand : Hand) (out : List Output) (t other : Turn) → Starts d (record { drive = drive; hand = hand }) out t → Starts d (resting drive) [] other → Starts d (record { drive = drive; hand = pick may hand empty }) (pick may out []) (pick may t other)
@@ -304,54 +317,54 @@ module _ (d : ℕ) (low : d ≤ 3) (store : Store) (b : Body) (n : ℕ) where
       n ≡ d → (decode : Decoded) → asksReset decode ≡ false → Starts d (begins (seen d b) (bare store) decode) (givenAtStore d (seen d b) (bare store) decode) (decoded selecting store decode)
   unfolding decoded begins givenAtStore asksReset operated withDensity
   decoded-own e Reset keeps = absurd (true≢false keeps)
-  decoded-own e (Code code) keeps = rests-start d _ _ (ended-rests d low selecting store code)
+  decoded-own e (Code code) keeps = rests-start d low _ _ (ended-rests selecting store code)
   decoded-own e (Track track) keeps =
       subst (λ (drive : Drive). Starts d (resting drive) [] (decoded selecting store (Track track)))
       (set-own d low b n (λ (x : Drive). tracked x track) e ∙ tracked-seen (driveOf (b .drives) d) track)
-      (rests-start d _ _ (settled-rests d low (setCurrent selecting (tracked (driveOf (b .drives) n) track)) store))
-  decoded-own e (Enable enable) keeps = rests-start d _ _ (settled-rests d low (setFlags selecting (b .changed) enable) store)
+      (rests-start d low _ _ (settled-rests (setCurrent selecting (tracked (driveOf (b .drives) n) track)) store))
+  decoded-own e (Enable enable) keeps = rests-start d low _ _ (settled-rests (setFlags selecting (b .changed) enable) store)
   decoded-own e (Density density) keeps =
       subst (λ (drive : Drive). Starts d (resting drive) [] (decoded selecting store (Density density)))
       (set-own d low b n (λ (x : Drive). withDensity x density) e)
-      (rests-start d _ _ (settled-rests d low (setCurrent selecting (withDensity (driveOf (b .drives) n) density)) store))
+      (rests-start d low _ _ (settled-rests (setCurrent selecting (withDensity (driveOf (b .drives) n) density)) store))
   decoded-own e (Operate operation) keeps =
       subst
       (λ (m : ℕ). Starts d (record { drive = seen d b; hand = pick (mayMove (moveOf operation) (driveOf (b .drives) m .report)) (handFor operation (bare store)) empty }) (pick (mayMove (moveOf operation) (driveOf (b .drives) m .report)) (firstOrder d (seen d b) (bare store) operation) []) (operated selecting operation store))
       e
       (choose-start d (mayMove (moveOf operation) (driveOf (b .drives) n .report)) (seen d b) (handFor operation (bare store)) (firstOrder d (seen d b) (bare store) operation) _ _
-      (begun-own d store b n e operation) (rests-start d _ _ (ended-rests d low selecting store 0x04)))
+      (begun-own d store b n e operation) (rests-start d low _ _ (ended-rests selecting store 0x04)))
 
   decoded-other :
       n ≤ 3 → (n ≡ d → ⊥) → (decode : Decoded) → asksReset decode ≡ false → Leaves d (seen d b) (decoded selecting store decode)
   unfolding decoded asksReset operated
   decoded-other within other Reset keeps = absurd (true≢false keeps)
-  decoded-other within other (Code code) keeps = rests-leave d _ _ (ended-rests d low selecting store code)
+  decoded-other within other (Code code) keeps = rests-leave d low _ _ (ended-rests selecting store code)
   decoded-other within other (Track track) keeps =
       subst (λ (drive : Drive). Leaves d drive (decoded selecting store (Track track)))
       (set-other d low selecting (tracked (driveOf (b .drives) n) track) within other)
-      (rests-leave d _ _ (settled-rests d low (setCurrent selecting (tracked (driveOf (b .drives) n) track)) store))
-  decoded-other within other (Enable enable) keeps = rests-leave d _ _ (settled-rests d low (setFlags selecting (b .changed) enable) store)
+      (rests-leave d low _ _ (settled-rests (setCurrent selecting (tracked (driveOf (b .drives) n) track)) store))
+  decoded-other within other (Enable enable) keeps = rests-leave d low _ _ (settled-rests (setFlags selecting (b .changed) enable) store)
   decoded-other within other (Density density) keeps =
       subst (λ (drive : Drive). Leaves d drive (decoded selecting store (Density density)))
       (set-other d low selecting (withDensity (driveOf (b .drives) n) density) within other)
-      (rests-leave d _ _ (settled-rests d low (setCurrent selecting (withDensity (driveOf (b .drives) n) density)) store))
+      (rests-leave d low _ _ (settled-rests (setCurrent selecting (withDensity (driveOf (b .drives) n) density)) store))
   decoded-other within other (Operate operation) keeps =
       pick-by (Leaves d (seen d b)) (mayMove (moveOf operation) (driveOf (b .drives) n .report)) (λ may. begun-other d store b n other operation)
-      (λ not. rests-leave d _ _ (ended-rests d low selecting store 0x04))
+      (λ not. rests-leave d low _ _ (ended-rests selecting store 0x04))
 
   decoded-held :
       (decode : Decoded) → asksReset decode ≡ false → ((operation : Operation) → decode ≡ Operate operation → Held store n operation store) → InHand store (decoded selecting store decode .body .selected) (decoded selecting store decode .phase)
   unfolding decoded asksReset operated
   decoded-held Reset keeps held = absurd (true≢false keeps)
-  decoded-held (Code code) keeps held = free-held store _ _ (ended-rests d low selecting store code .free)
+  decoded-held (Code code) keeps held = free-held store _ _ (ended-rests selecting store code .free)
   decoded-held (Track track) keeps held =
-      free-held store _ _ (settled-rests d low (setCurrent selecting (tracked (driveOf (b .drives) n) track)) store .free)
-  decoded-held (Enable enable) keeps held = free-held store _ _ (settled-rests d low (setFlags selecting (b .changed) enable) store .free)
+      free-held store _ _ (settled-rests (setCurrent selecting (tracked (driveOf (b .drives) n) track)) store .free)
+  decoded-held (Enable enable) keeps held = free-held store _ _ (settled-rests (setFlags selecting (b .changed) enable) store .free)
   decoded-held (Density density) keeps held =
-      free-held store _ _ (settled-rests d low (setCurrent selecting (withDensity (driveOf (b .drives) n) density)) store .free)
+      free-held store _ _ (settled-rests (setCurrent selecting (withDensity (driveOf (b .drives) n) density)) store .free)
   decoded-held (Operate operation) keeps held =
       pick-by (λ (t : Turn). InHand store (t .body .selected) (t .phase)) (mayMove (moveOf operation) (driveOf (b .drives) n .report))
-      (λ may. begun-held d store b n operation (held operation refl)) (λ not. free-held store _ _ (ended-rests d low selecting store 0x04 .free))
+      (λ may. begun-held d store b n operation (held operation refl)) (λ not. free-held store _ _ (ended-rests selecting store 0x04 .free))
 
 -- ---- the calls that belong to a store
 
@@ -387,10 +400,10 @@ module _ (d : ℕ) (low : d ≤ 3) (c : Controller) (store : Store) (holds : hol
   unknown-follows : 4 ≤ named store → answered (endedBy (cleared (c .body)) store 0x01)
   unfolding cleared transferOf
   unknown-follows high =
-      let rests = ended-rests d low (cleared (c .body)) store 0x01 in
+      let rests = ended-rests (cleared (c .body)) store 0x01 in
       let differs : named store ≡ d → ⊥ = λ e. omega arith in
       owned-follows d store c _ _ (storeEvent store) (carried-event d store c holds) (λ own. absurd (differs (own-number d store names own)))
-      (λ other. record { view = rests-view d store _ _ rests; transfer = refl; quiet = rests .quiet }) (free-held store _ _ (rests .free))
+      (λ other. record { view = rests-view d low store _ _ rests; transfer = refl; quiet = none-for d _ (rests .quiet) }) (free-held store _ _ (rests .free))
 
   decoded-follows : named store ≤ 3 → asksReset (asked store) ≡ false → answered (decoded (setSelected (cleared (c .body)) (named store)) store (asked store))
   unfolding cleared transferOf told gives storeEvent asked
@@ -415,16 +428,8 @@ module _ (d : ℕ) (low : d ≤ 3) (c : Controller) (store : Store) (holds : hol
 -- ---- a report
 
 module _ (d : ℕ) (low : d ≤ 3) (last : Store) (c : Controller) (n r : ℕ) where
-  abbrev noted : Turn
-  noted =
-      record {
-        body = setDrives (c .body) (withDrive (c .body .drives) n (reported (driveOf (c .body .drives) n) r));
-        phase = c .phase;
-        action = Nothing;
-      }
-
   pub report-follows :
-      n ≤ 3 → InHand last (c .body .selected) (c .phase) → Follows d (viewOf d last c) last c (record { call = report n r; answer = plain (carried noted) })
+      n ≤ 3 → InHand last (c .body .selected) (c .phase) → Follows d (viewOf d last c) last c (record { call = report n r; answer = plain (carried (reportNoted c n r)) })
   unfolding eventOf transferOf ordersFor told gives reported
   report-follows within held =
       by-test (eqb n d)
@@ -479,16 +484,16 @@ module _ (d : ℕ) (low : d ≤ 3) (last : Store) (b : Body) (store : Store) whe
       (call : Call) (accepts : Bool) → eventOf d last offered call ≡ pick (isOf d last) (goAnswered accepts ∷ []) [] → transferOf d last [] call ≡ [] → accepts ≡ false → Follows d (viewOf d last offered) last offered (record { call = call; answer = plain (carried (goRefused b store)) })
   unfolding told gives handAfterGo bytesGiven
   go-refused-follows call accepts made nothing refuses =
-      let rests = go-refused-rests d low b store in
+      let rests = go-refused-rests b store in
       owned-follows d last offered _ _ (goAnswered accepts) made
       (λ own. record {
         done = refl;
         view =
-            rests-view d last b _ rests
+            rests-view d low last b _ rests
             ∙ sym (ap (λ (t : Bool). record { drive = seen d b; hand = handAfterGo t (viewOf d last offered .hand) }) refuses);
-        given = ap₂ (λ (l m : List Output). l ++ m) nothing (rests .quiet);
+        given = ap₂ (λ (l m : List Output). l ++ m) nothing (none-for d _ (rests .quiet));
       })
-      (λ other. record { view = rests-view d last b _ rests ∙ sym (other-view d last offered _ other refl); transfer = nothing; quiet = rests .quiet })
+      (λ other. record { view = rests-view d low last b _ rests ∙ sym (other-view d last offered _ other refl); transfer = nothing; quiet = none-for d _ (rests .quiet) })
       (free-held last _ _ (rests .free))
 
 -- ---- the data call
@@ -578,7 +583,7 @@ module _ (d : ℕ) (low : d ≤ 3) (last : Store) (b : Body) (operation : Operat
   result-follows held =
       let bytes = delivered (current b) operation r check in
       let body = resultBody b (current b) operation store r (length bytes) (length space) in
-      let rests = ending-rests d low body operation store in
+      let rests = ending-rests body operation store in
       let fits = fitting bytes (length space) in
       owned-follows d last moving _ _ (resultCame r (length space)) refl
       (λ own.
@@ -587,7 +592,7 @@ module _ (d : ℕ) (low : d ≤ 3) (last : Store) (b : Body) (operation : Operat
       record {
         done = refl;
         view =
-            rests-view d last body _ rests
+            rests-view d low last body _ rests
             ∙ ap resting (set-own d low b (b .selected) (λ (x : Drive). resultDrive x operation r) e)
             ∙ sym (ap (λ (h : Hand). resting (driveAfterResult (seen d b) r h)) hand);
         given =
@@ -596,7 +601,7 @@ module _ (d : ℕ) (low : d ≤ 3) (last : Store) (b : Body) (operation : Operat
             ∙ ap (λ (l : List ℕ). pick (eqb (numberOf operation) (numberOf Read)) (delivery l ∷ []) [])
             (given-front fits space ∙ ap (λ (n : ℕ). fitting (delivered (driveOf (b .drives) n) operation r check) (length space)) e)
             ∙ read-seen operation (driveOf (b .drives) d) r check (length space))
-            (rests .quiet)
+            (none-for d _ (rests .quiet))
             ∙ append-nil _
             ∙ sym (ap (givenAtResult (seen d b) r (length space)) hand);
       })
@@ -605,10 +610,10 @@ module _ (d : ℕ) (low : d ≤ 3) (last : Store) (b : Body) (operation : Operat
       let differs : b .selected ≡ d → ⊥ = λ e. other-number d last (held .names) other (sym (held .selects) ∙ e) in
       record {
         view =
-            rests-view d last body _ rests
+            rests-view d low last body _ rests
             ∙ ap resting (set-other d low b (resultDrive (current b) operation r) within differs)
             ∙ sym (other-view d last moving _ other refl);
         transfer = pick-no _ [] (ap (λ (t : Bool). t && isRead (asked last)) other);
-        quiet = rests .quiet;
+        quiet = none-for d _ (rests .quiet);
       })
       (free-held last _ _ (rests .free))

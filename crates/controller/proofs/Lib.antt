@@ -1,7 +1,8 @@
 pub mod TransferLaws
 pub mod BenchCases
-pub mod OneDrive
 pub mod Resting
+pub mod Steps
+pub mod OneDrive
 pub mod Following
 pub mod EachCall
 pub mod DrivesAreSeparate

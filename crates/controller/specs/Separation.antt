@@ -28,43 +28,13 @@ use Rattle.controller.specs.Stores.{storeOf}
 use Rattle.transfers.specs.Results.{Result}
 use Rattle.controller.specs.Machine.{Call, Exchange}
 use Rattle.controller.specs.Machine.Call.{byte, taken, broken, report, hostData, result, tick, reset}
+use Rattle.controller.specs.Lists.{notRefused, holdsStore, carriesOut, lastStore, noStore, after}
 
--- ---- the stores of a list
-
-unfoldable pub notRefused : Exchange → Bool
-notRefused x = eqb (x .answer .reply .refusal) 0
-
-unfoldable pub isTaken : Call → Bool
-isTaken taken = true
-isTaken (byte b) = false
-isTaken broken = false
-isTaken (report drive r) = false
-isTaken (hostData host space check) = false
-isTaken (result r space check) = false
-isTaken tick = false
-isTaken reset = false
-
--- the string whose ACK is offered is a store, and not a load
-unfoldable pub holdsStore : Controller → Bool
-holdsStore c = not (eqb (c .body .collected .c0) 0x62)
-
--- "A store is carried out where a taken not refused meets its ACK"
-unfoldable pub carriesOut : Controller → Exchange → Bool
-carriesOut c x = isTaken (x .call) && (notRefused x && holdsStore c)
-
--- the last store carried out, this call's included: "GO answers, data calls and results not refused belong to the last such store"
-unfoldable pub lastStore : Store → Controller → Exchange → Store
-lastStore last c x = pick (carriesOut c x) (storeOf (c .body .collected)) last
-
--- before the first store: one that names no drive
-abbrev pub noStore : Store
-noStore = record { address = 0; first = 0; second = 0; third = 0; fourth = 0 }
+-- ---- the history of a drive
 
 -- a store that names this drive, "bit 4 names a drive, 5-7 its number"
 unfoldable pub isOf : ℕ → Store → Bool
 isOf d store = namesDrive store && eqb (named store) d
-
--- ---- the history of a drive
 
 -- "its history ..: its reports not refused; stores carried out that name it (operation and operand); of these each GO answer (yes or no),
 -- data call (host bytes) and result (code, mark flag, late flags, image, marks, length of host space)"
@@ -196,11 +166,6 @@ abbrev pub admitted : List Exchange → Bool
 admitted = admittedFrom fresh
 
 -- ---- the claim
-
--- the state after a list
-unfoldable pub after : Controller → List Exchange → Controller
-after c [] = c
-after c (x ∷ xs) = after (x .answer .reply .controller) xs
 
 abbrev pub left : ℕ → List Exchange → Drive
 left d xs = driveOf (after fresh xs .body .drives) d

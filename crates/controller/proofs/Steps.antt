@@ -1,0 +1,195 @@
+-- What a call can come to: nine kinds of step. A claim of every call is shown kind by kind (`by-step`).
+-- Assumes nothing.
+use mathlib.Core.Path.{_≡_, refl}
+use Prim.Native.Nat.{ℕ, _≤_}
+use native.Mathlib.Omega.{arith}
+use mathlib.Core.Bool.{Bool, true, false}
+use mathlib.Core.List.{List, []}
+use lib.Dec.{leb, eqb}
+use lib.ListN.{length}
+use borrow.Author.Tests.{leb-false}
+use Rattle.common.specs.Pick.{pick}
+use Rattle.common.proofs.PickLaws.{pick-by}
+use Rattle.status.specs.Drives.{driveOf, withDrive, reported}
+use Rattle.operations.specs.declared.operation.Operation.{Operation}
+use Rattle.operations.specs.declared.store.Store.{Store}
+use Rattle.link.specs.declared.state.Phase.{Phase}
+use Rattle.link.specs.declared.state.Phase.the-variants.{Collecting, AckOffered, Sending, GoOffered, DataAwaited, ResultAwaited, EndOffered}
+use Rattle.link.specs.declared.state.Body.{Body}
+use Rattle.link.specs.declared.state.Action.the-variants.{Nothing}
+use Rattle.link.specs.declared.state.Turn.{Turn}
+use Rattle.link.specs.State.{setDrives, current, resetOf}
+use Rattle.link.specs.Link.{goAnswered, goTaken, goRefused}
+use Rattle.link.specs.Loads.{loaded}
+use Rattle.link.specs.Damaged.{sound}
+use Rattle.transfers.specs.Data.{dataRefusal}
+use Rattle.transfers.specs.Results.{Result, resultRefusal}
+use Rattle.controller.specs.declared.controller.Controller.{Controller}
+use Rattle.controller.specs.declared.controller.Reply.{Reply}
+use Rattle.controller.specs.Controller.{carried, refused}
+use Rattle.controller.specs.Stores.{storeOf, carriedOut}
+use Rattle.controller.specs.Records.{Answer, dataDone, resultDone}
+use Rattle.controller.specs.Machine.{unchanged, byteIn, brokenIn, tickIn, byteCall, brokenCall, tickCall, takenBody, takenIn, takenCall, reportCall, resetCall, dataFor, dataIn, dataCall, resultFor, resultIn, resultCall, Call, Exchange, plain, step}
+use Rattle.controller.specs.Machine.Call.{byte, taken, broken, report, hostData, result, tick, reset}
+use Rattle.controller.proofs.Resting.{Free, NoOrder, Rests, idle-rests, given-up-rests, byte-rests, send-rests, completed-rests, tick-rests, loaded-rests}
+
+-- ---- the kinds
+
+abbrev pub stated : Body → Phase → Controller
+stated b phase = record { body = b; phase = phase }
+
+abbrev pub exchanged : Call → Answer → Exchange
+exchanged call answer = record { call = call; answer = answer }
+
+-- a call of the link that is not an answer to GO: a byte, a broken link, a tick, or the taking of a load's ACK
+unfoldable pub Talk : Controller → Call → Type 0
+Talk c (byte b) = Free (c .phase)
+Talk c broken = Free (c .phase)
+Talk c tick = Free (c .phase)
+Talk c taken = Free (c .phase) × (eqb (c .body .collected .c0) 0x62 ≡ true)
+Talk c (report drive r) = ⊥
+Talk c (hostData host space check) = ⊥
+Talk c (result r space check) = ⊥
+Talk c reset = ⊥
+
+-- an answer to GO that is a no
+unfoldable pub SaysNo : Call → Type 0
+SaysNo (byte b) = eqb b 0x06 ≡ false
+SaysNo broken = Unit
+SaysNo taken = ⊥
+SaysNo (report drive r) = ⊥
+SaysNo (hostData host space check) = ⊥
+SaysNo (result r space check) = ⊥
+SaysNo tick = ⊥
+SaysNo reset = ⊥
+
+-- a report is noted
+abbrev pub reportNoted : Controller → ℕ → ℕ → Turn
+reportNoted c n r =
+    record {
+      body = setDrives (c .body) (withDrive (c .body .drives) n (reported (driveOf (c .body .drives) n) r));
+      phase = c .phase;
+      action = Nothing;
+    }
+
+pub record Kinds (P : Controller → Exchange → Type 0) : Type 0 where
+  pub refusal :
+      (c : Controller) (call : Call) (number : ℕ) (space check : List ℕ) → eqb number 0 ≡ false → P c (exchanged call (unchanged number c space check))
+  pub talk : (c : Controller) (call : Call) (t : Turn) → Talk c call → Rests (c .body) t → P c (exchanged call (plain (carried t)))
+  pub store :
+      (b : Body) → eqb (b .collected .c0) 0x62 ≡ false → P (stated b AckOffered) (exchanged taken (plain (carried (carriedOut b (storeOf (b .collected))))))
+  pub reporting : (c : Controller) (n r : ℕ) → n ≤ 3 → P c (exchanged (report n r) (plain (carried (reportNoted c n r))))
+  pub going :
+      (b : Body) (held : Store) (value : ℕ) → eqb value 0x06 ≡ true → P (stated b (GoOffered held)) (exchanged (byte value) (plain (carried (goTaken b held))))
+  pub staying :
+      (b : Body) (held : Store) (call : Call) → SaysNo call → P (stated b (GoOffered held)) (exchanged call (plain (carried (goRefused b held))))
+  pub writing :
+      (b : Body) (held : Store) (host space check : List ℕ) → P (stated b (DataAwaited held)) (exchanged (hostData host space check) (dataDone b (current b) held host space check))
+  pub ending :
+      (b : Body) (operation : Operation) (held : Store) (r : Result) (space check : List ℕ) → P (stated b (ResultAwaited operation held)) (exchanged (result r space check) (resultDone b (current b) operation held r space check))
+  pub resetting : (c : Controller) → P c (exchanged reset (plain (carried (resetOf (c .body)))))
+
+-- ---- each call is of these kinds
+
+module _ (P : Controller → Exchange → Type 0) (kinds : Kinds P) where
+  refuses : (c : Controller) (call : Call) (number : ℕ) → eqb number 0 ≡ false → P c (exchanged call (plain (refused number c)))
+  refuses c call number some = kinds .refusal c call number [] [] some
+
+  module _ (b : Body) where
+    byte-in : (value : ℕ) (phase : Phase) → P (stated b phase) (exchanged (byte value) (plain (byteIn (stated b phase) b value phase)))
+    unfolding byteIn goAnswered Talk SaysNo Free NoOrder
+    byte-in value Collecting = kinds .talk (stated b Collecting) _ _ tt (byte-rests b value)
+    byte-in value AckOffered = kinds .talk (stated b AckOffered) _ _ tt (idle-rests b Nothing tt)
+    byte-in value (Sending s) = kinds .talk (stated b (Sending s)) _ _ tt (send-rests b value s)
+    byte-in value (GoOffered held) =
+        pick-by (λ (t : Turn). P (stated b (GoOffered held)) (exchanged (byte value) (plain (carried t)))) (eqb value 0x06) (λ yes. kinds .going b held value yes)
+        (λ no. kinds .staying b held (byte value) no)
+    byte-in value (DataAwaited held) = refuses (stated b (DataAwaited held)) _ 2 refl
+    byte-in value (ResultAwaited operation held) = refuses (stated b (ResultAwaited operation held)) _ 2 refl
+    byte-in value (EndOffered interrupt) = kinds .talk (stated b (EndOffered interrupt)) _ _ tt (completed-rests b interrupt)
+
+    broken-in : (phase : Phase) → P (stated b phase) (exchanged broken (plain (brokenIn (stated b phase) b phase)))
+    unfolding brokenIn Talk SaysNo Free NoOrder
+    broken-in Collecting = kinds .talk (stated b Collecting) _ _ tt (idle-rests b Nothing tt)
+    broken-in AckOffered = kinds .talk (stated b AckOffered) _ _ tt (idle-rests b Nothing tt)
+    broken-in (Sending s) = kinds .talk (stated b (Sending s)) _ _ tt (given-up-rests b (s .kind))
+    broken-in (GoOffered held) = kinds .staying b held broken tt
+    broken-in (DataAwaited held) = refuses (stated b (DataAwaited held)) _ 2 refl
+    broken-in (ResultAwaited operation held) = refuses (stated b (ResultAwaited operation held)) _ 2 refl
+    broken-in (EndOffered interrupt) = kinds .talk (stated b (EndOffered interrupt)) _ _ tt (completed-rests b interrupt)
+
+    tick-in : (phase : Phase) → P (stated b phase) (exchanged tick (plain (tickIn (stated b phase) b phase)))
+    unfolding tickIn Talk Free
+    tick-in Collecting =
+        pick-by (λ (r : Reply). P (stated b Collecting) (exchanged tick (plain r))) (eqb (b .collected .length) 0)
+        (λ idle. kinds .talk (stated b Collecting) _ _ tt (tick-rests b)) (λ part. refuses (stated b Collecting) _ 4 refl)
+    tick-in AckOffered = refuses (stated b AckOffered) _ 4 refl
+    tick-in (Sending s) = refuses (stated b (Sending s)) _ 4 refl
+    tick-in (GoOffered held) = refuses (stated b (GoOffered held)) _ 4 refl
+    tick-in (DataAwaited held) = refuses (stated b (DataAwaited held)) _ 4 refl
+    tick-in (ResultAwaited operation held) = refuses (stated b (ResultAwaited operation held)) _ 4 refl
+    tick-in (EndOffered interrupt) = refuses (stated b (EndOffered interrupt)) _ 4 refl
+
+    taken-in : (phase : Phase) → P (stated b phase) (exchanged taken (plain (takenIn (stated b phase) b phase)))
+    unfolding takenIn takenBody Talk Free
+    taken-in AckOffered =
+        pick-by (λ (t : Turn). P (stated b AckOffered) (exchanged taken (plain (carried t)))) (eqb (b .collected .c0) 0x62)
+        (λ load. kinds .talk (stated b AckOffered) _ _ (tt, load) (loaded-rests b (b .collected .c1))) (λ other. kinds .store b other)
+    taken-in Collecting = refuses (stated b Collecting) _ 2 refl
+    taken-in (Sending s) = refuses (stated b (Sending s)) _ 2 refl
+    taken-in (GoOffered held) = refuses (stated b (GoOffered held)) _ 2 refl
+    taken-in (DataAwaited held) = refuses (stated b (DataAwaited held)) _ 2 refl
+    taken-in (ResultAwaited operation held) = refuses (stated b (ResultAwaited operation held)) _ 2 refl
+    taken-in (EndOffered interrupt) = refuses (stated b (EndOffered interrupt)) _ 2 refl
+
+    module _ (host space check : List ℕ) where
+      data-in : (phase : Phase) → P (stated b phase) (exchanged (hostData host space check) (dataIn (stated b phase) b host space check phase))
+      unfolding dataIn dataFor
+      data-in (DataAwaited held) =
+          pick-by (λ (a : Answer). P (stated b (DataAwaited held)) (exchanged (hostData host space check) a)) (eqb (dataRefusal (current b) held (length space) (length check)) 0)
+          (λ good. kinds .writing b held host space check) (λ some. kinds .refusal (stated b (DataAwaited held)) _ _ space check some)
+      data-in Collecting = kinds .refusal (stated b Collecting) _ 3 space check refl
+      data-in AckOffered = kinds .refusal (stated b AckOffered) _ 3 space check refl
+      data-in (Sending s) = kinds .refusal (stated b (Sending s)) _ 3 space check refl
+      data-in (GoOffered held) = kinds .refusal (stated b (GoOffered held)) _ 3 space check refl
+      data-in (ResultAwaited operation held) = kinds .refusal (stated b (ResultAwaited operation held)) _ 3 space check refl
+      data-in (EndOffered interrupt) = kinds .refusal (stated b (EndOffered interrupt)) _ 3 space check refl
+
+    module _ (r : Result) (space check : List ℕ) where
+      result-in : (phase : Phase) → P (stated b phase) (exchanged (result r space check) (resultIn (stated b phase) b r space check phase))
+      unfolding resultIn resultFor
+      result-in (ResultAwaited operation held) =
+          pick-by (λ (a : Answer). P (stated b (ResultAwaited operation held)) (exchanged (result r space check) a))
+          (eqb (resultRefusal (current b) operation r (length check)) 0) (λ good. kinds .ending b operation held r space check)
+          (λ some. kinds .refusal (stated b (ResultAwaited operation held)) _ _ space check some)
+      result-in Collecting = kinds .refusal (stated b Collecting) _ 3 space check refl
+      result-in AckOffered = kinds .refusal (stated b AckOffered) _ 3 space check refl
+      result-in (Sending s) = kinds .refusal (stated b (Sending s)) _ 3 space check refl
+      result-in (GoOffered held) = kinds .refusal (stated b (GoOffered held)) _ 3 space check refl
+      result-in (DataAwaited held) = kinds .refusal (stated b (DataAwaited held)) _ 3 space check refl
+      result-in (EndOffered interrupt) = kinds .refusal (stated b (EndOffered interrupt)) _ 3 space check refl
+
+  module _ (c : Controller) where
+    abbrev by-soundness : (call : Call) (r : Reply) → P c (exchanged call (plain r)) → P c (exchanged call (plain (pick (sound (c .body) (c .phase)) r (refused 1 c))))
+    by-soundness call r shown =
+        pick-by (λ (r : Reply). P c (exchanged call (plain r))) (sound (c .body) (c .phase)) (λ sane. shown) (λ hurt. refuses c call 1 refl)
+
+    reported-at : (n r : ℕ) → P c (exchanged (report n r) (plain (pick (leb 4 n) (refused 5 c) (carried (reportNoted c n r)))))
+    reported-at n r =
+        pick-by (λ (reply : Reply). P c (exchanged (report n r) (plain reply))) (leb 4 n) (λ high. refuses c _ 5 refl)
+        (λ few. let below = leb-false 4 n few in kinds .reporting c n r (omega arith))
+
+    pub by-step : (call : Call) → P c (exchanged call (step c call))
+    unfolding step byteCall brokenCall tickCall takenCall reportCall resetCall dataCall resultCall
+    by-step (byte value) = by-soundness (byte value) _ (byte-in (c .body) value (c .phase))
+    by-step broken = by-soundness broken _ (broken-in (c .body) (c .phase))
+    by-step tick = by-soundness tick _ (tick-in (c .body) (c .phase))
+    by-step taken = by-soundness taken _ (taken-in (c .body) (c .phase))
+    by-step (report n r) = by-soundness (report n r) _ (reported-at n r)
+    by-step reset = by-soundness reset _ (kinds .resetting c)
+    by-step (hostData host space check) =
+        pick-by (λ (a : Answer). P c (exchanged (hostData host space check) a)) (sound (c .body) (c .phase))
+        (λ sane. data-in (c .body) host space check (c .phase)) (λ hurt. kinds .refusal c _ 1 space check refl)
+    by-step (result r space check) =
+        pick-by (λ (a : Answer). P c (exchanged (result r space check) a)) (sound (c .body) (c .phase))
+        (λ sane. result-in (c .body) r space check (c .phase)) (λ hurt. kinds .refusal c _ 1 space check refl)

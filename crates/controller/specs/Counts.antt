@@ -1,0 +1,81 @@
+-- The count that bit 22 of primary marks as valid: wherever the bit is set, secondary is the count of the record that the last store
+-- carried out itself passed or wrote, and never of an earlier one. Over every list of calls from Fresh.
+-- Assumes nothing.
+use mathlib.Core.Path.{_≡_}
+use Prim.Native.Nat.{ℕ, _/_, _%_}
+use mathlib.Core.Bool.{Bool, true, false, _&&_}
+use mathlib.Core.List.{List, [], _∷_}
+use lib.Dec.{eqb}
+use lib.ListN.{length}
+use Rattle.common.specs.Pick.{pick}
+use Rattle.records.specs.Count.{countOf}
+use Rattle.operations.specs.declared.operation.Operation.the-variants.{Write}
+use Rattle.operations.specs.declared.decode.Decoded.{Decoded}
+use Rattle.operations.specs.declared.decode.Decoded.the-variants.{Reset, Code, Track, Enable, Density, Operate}
+use Rattle.operations.specs.declared.store.Store.{Store}
+use Rattle.operations.specs.Operation.{numberOf}
+use Rattle.operations.specs.Store.{asked, heldCount}
+use Rattle.status.specs.declared.words.Word.{Word}
+use Rattle.link.specs.declared.state.Body.{Body}
+use Rattle.link.specs.Completion.{primaryNow}
+use Rattle.transfers.specs.Results.{Result}
+use Rattle.controller.specs.declared.controller.Controller.{Controller}
+use Rattle.controller.specs.Controller.{fresh}
+use Rattle.controller.specs.Machine.{Call, Exchange}
+use Rattle.controller.specs.Machine.Call.{byte, taken, broken, report, hostData, result, tick, reset}
+use Rattle.controller.specs.Lists.{notRefused, holdsStore, lastStore, noStore}
+
+-- ---- the record of a store
+
+-- the record that the last store carried out has passed or written: none yet, or one of so many bytes
+pub data OwnRecord : Type 0 where
+  noRecord : OwnRecord
+  recordOf : ℕ → OwnRecord
+
+unfoldable pub isWrite : Decoded → Bool
+isWrite (Operate operation) = eqb (numberOf operation) (numberOf Write)
+isWrite Reset = false
+isWrite (Code code) = false
+isWrite (Track track) = false
+isWrite (Enable enable) = false
+isWrite (Density density) = false
+
+-- of a store's result: the record of its image, or, "writes with code 0", the one that it wrote
+unfoldable pub passedBy : Store → Result → OwnRecord
+passedBy store r =
+    pick (eqb (length (r .image)) 0) (pick (isWrite (asked store) && eqb (r .code) 0) (recordOf (heldCount store)) noRecord)
+    (recordOf (countOf (r .image)))
+
+-- a call not refused: a store that is carried out has no record yet, and its result may tell of one. `store` is the last store carried out,
+-- this call's included.
+unfoldable pub recordAfter : Store → OwnRecord → Controller → Call → OwnRecord
+recordAfter store own c taken = pick (holdsStore c) noRecord own
+recordAfter store own c (result r space check) = passedBy store r
+recordAfter store own c (byte b) = own
+recordAfter store own c broken = own
+recordAfter store own c (report drive r) = own
+recordAfter store own c (hostData host space check) = own
+recordAfter store own c tick = own
+recordAfter store own c reset = own
+
+unfoldable pub ownRecord : Store → OwnRecord → Controller → Exchange → OwnRecord
+ownRecord store own c x = pick (notRefused x) (recordAfter store own c (x .call)) own
+
+-- ---- the claim
+
+-- bit 22, where bit 0 is the most significant: the last but one of the third byte
+unfoldable pub bit22 : Word → Bool
+bit22 word = eqb (word .b2 / 2 % 2) 1
+
+-- what holds after a call
+unfoldable pub Valid : OwnRecord → Body → Type 0
+Valid own b = bit22 (primaryNow b) ≡ true → own ≡ recordOf (b .secondary)
+
+unfoldable pub ValidFrom : Store → OwnRecord → Controller → List Exchange → Type 0
+ValidFrom last own c [] = Unit
+ValidFrom last own c (x ∷ xs) =
+    Valid (ownRecord (lastStore last c x) own c x) (x .answer .reply .controller .body)
+    × ValidFrom (lastStore last c x) (ownRecord (lastStore last c x) own c x) (x .answer .reply .controller) xs
+
+abbrev pub CountsAreOwn : List Exchange → Type 0
+CountsAreOwn = ValidFrom noStore noRecord fresh

@@ -1,0 +1,47 @@
+-- Lists of calls with their answers, as the claims over whole lists read them: which calls were carried out, which stores, and the state at
+-- the end. "They start from Fresh; each call gets the state that the last one handed back".
+-- Assumes nothing.
+use mathlib.Core.Bool.{Bool, true, false, not, _&&_}
+use mathlib.Core.List.{List, [], _∷_}
+use lib.Dec.{eqb}
+use Rattle.common.specs.Pick.{pick}
+use Rattle.operations.specs.declared.store.Store.{Store}
+use Rattle.controller.specs.declared.controller.Controller.{Controller}
+use Rattle.controller.specs.Stores.{storeOf}
+use Rattle.controller.specs.Machine.{Call, Exchange}
+use Rattle.controller.specs.Machine.Call.{byte, taken, broken, report, hostData, result, tick, reset}
+
+-- the call is carried out
+unfoldable pub notRefused : Exchange → Bool
+notRefused x = eqb (x .answer .reply .refusal) 0
+
+unfoldable pub isTaken : Call → Bool
+isTaken taken = true
+isTaken (byte b) = false
+isTaken broken = false
+isTaken (report drive r) = false
+isTaken (hostData host space check) = false
+isTaken (result r space check) = false
+isTaken tick = false
+isTaken reset = false
+
+-- the string whose ACK is offered is a store, and not a load
+unfoldable pub holdsStore : Controller → Bool
+holdsStore c = not (eqb (c .body .collected .c0) 0x62)
+
+-- "A store is carried out where a taken not refused meets its ACK"
+unfoldable pub carriesOut : Controller → Exchange → Bool
+carriesOut c x = isTaken (x .call) && (notRefused x && holdsStore c)
+
+-- the last store carried out, this call's included: "GO answers, data calls and results not refused belong to the last such store"
+unfoldable pub lastStore : Store → Controller → Exchange → Store
+lastStore last c x = pick (carriesOut c x) (storeOf (c .body .collected)) last
+
+-- before the first store: one that names no drive
+abbrev pub noStore : Store
+noStore = record { address = 0; first = 0; second = 0; third = 0; fourth = 0 }
+
+-- the state after a list
+unfoldable pub after : Controller → List Exchange → Controller
+after c [] = c
+after c (x ∷ xs) = after (x .answer .reply .controller) xs
