@@ -6,4 +6,5 @@ pub mod OneDrive
 pub mod Following
 pub mod EachCall
 pub mod DrivesAreSeparate
+pub mod CountsAreOwn
 pub mod Demands
