@@ -1,8 +1,9 @@
 -- The three demands, of the calls themselves. 1: `calls-meet-their-contracts`. 2: `calls-run-the-machine`: a list of exchanges from a fresh
 -- controller in which every answer is one that the contract of its call's own function allows is the machine's run. 3:
--- `calls-keep-drives-separate`: the drives are separate in any two such lists.
+-- `calls-keep-drives-separate`: the drives are separate in any two such lists. And of every such list: `calls-count-their-own-record`, and
+-- `calls-order-what-was-asked`.
 -- Assumes nothing.
-use mathlib.Core.Path.{_≡_, refl, sym, ap, ap₂, subst₂, _∙_}
+use mathlib.Core.Path.{_≡_, refl, sym, ap, ap₂, subst, subst₂, _∙_}
 use mathlib.Core.List.{List, [], _∷_}
 use contract.Lifetimes.{Lfts}
 use denote.Ref.{RefT, now, at-last}
@@ -16,7 +17,11 @@ use Rattle.controller.specs.Records.{Answer, answered}
 use Rattle.controller.specs.Machine.{byteCall, takenCall, brokenCall, reportCall, dataCall, resultCall, tickCall, resetCall, Call, Exchange, plain, step, run}
 use Rattle.controller.specs.Machine.Call.{byte, taken, broken, report, hostData, result, tick, reset}
 use Rattle.controller.specs.Separation.{Separate}
+use Rattle.controller.specs.Counts.{CountsAreOwn}
+use Rattle.controller.specs.Orders.{OrdersAreAsked}
 use Rattle.controller.proofs.DrivesAreSeparate.{drives-are-separate}
+use Rattle.controller.proofs.CountsAreOwn.{counts-are-own}
+use Rattle.controller.proofs.OrdersAreAsked.{orders-are-asked}
 use Rattle.controller.proofs.controller.fresh_controller.Reads as fresh-reads
 use Rattle.controller.proofs.controller.Controller.byte.Reads as byte-reads
 use Rattle.controller.proofs.controller.Controller.taken.Reads as taken-reads
@@ -197,6 +202,16 @@ runs-are-from-fresh calls = record { start = fresh; begins = refl; goes = runs-a
 pub calls-keep-drives-separate : (xs ys : List Exchange) → FromFresh xs → FromFresh ys → Separate xs ys
 calls-keep-drives-separate xs ys one two =
     subst₂ Separate (sym (calls-run-the-machine xs one)) (sym (calls-run-the-machine ys two)) (drives-are-separate (callsOf xs) (callsOf ys))
+
+-- ---- every list, resets and stores that name no drive included
+
+-- Wherever primary's bit 22 is set, secondary is the count of the record that the last store carried out itself passed or wrote.
+pub calls-count-their-own-record : (xs : List Exchange) → FromFresh xs → CountsAreOwn xs
+calls-count-their-own-record xs made = subst CountsAreOwn (sym (calls-run-the-machine xs made)) (counts-are-own (callsOf xs))
+
+-- Every motion order is the one that its store asked for, of the drive that it selected; none goes out unasked, and no store gives two.
+pub calls-order-what-was-asked : (xs : List Exchange) → FromFresh xs → OrdersAreAsked xs
+calls-order-what-was-asked xs made = subst OrdersAreAsked (sym (calls-run-the-machine xs made)) (orders-are-asked (callsOf xs))
 
 -- ---- the functions
 

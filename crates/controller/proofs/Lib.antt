@@ -7,4 +7,5 @@ pub mod Following
 pub mod EachCall
 pub mod DrivesAreSeparate
 pub mod CountsAreOwn
+pub mod OrdersAreAsked
 pub mod Demands

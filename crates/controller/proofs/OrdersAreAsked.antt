@@ -1,0 +1,404 @@
+-- Every motion order is the one that the last store asked for, with the drive it selected and what was last chosen for that drive; none goes
+-- out unasked, and no store gives two (`orders-are-asked`, over the definitions).
+-- Assumes nothing.
+use mathlib.Core.Path.{_≡_, refl, sym, ap, ap₂, subst, _∙_}
+use Prim.Native.Nat.{ℕ, _≤_}
+use native.Mathlib.Omega.{arith}
+use mathlib.Core.Bool.{Bool, true, false, not, _&&_, and-true, and-false}
+use mathlib.Core.List.{List, [], _∷_}
+use lib.Dec.{leb, eqb}
+use lib.ListN.{length}
+use borrow.Author.Tests.{eqb-true, eqb-false, eq-eqb, ne-eqb, leb-false}
+use Rattle.common.specs.Pick.{pick}
+use Rattle.common.proofs.PickLaws.{by-test, pick-by, pick-yes, pick-no}
+use Rattle.status.specs.declared.drives.Drive.{Drive}
+use Rattle.status.specs.declared.drives.Drives.{Drives}
+use Rattle.status.specs.declared.strings.Six.{Six}
+use Rattle.status.specs.Drives.{driveOf, withDrive, reported, copied, freshWith, freshDrives, resetDrives}
+use Rattle.status.specs.Strings.{orderOf}
+use Rattle.status.proofs.DriveLaws.{by-four, put-same, put-other}
+use Rattle.operations.specs.declared.operation.Operation.{Operation}
+use Rattle.operations.specs.declared.operation.Operation.the-variants.{Read, CheckBytes, Write, Erase, Rewind, FastForward, SkipForward, SkipReverse, SearchForward, SearchReverse, WriteMark}
+use Rattle.operations.specs.declared.decode.Decoded.{Decoded}
+use Rattle.operations.specs.declared.decode.Decoded.the-variants.{Reset, Code, Track, Enable, Density, Operate}
+use Rattle.operations.specs.declared.store.Store.{Store}
+use Rattle.operations.specs.Operation.{moveOf, orderByte}
+use Rattle.operations.specs.Store.{namesDrive, named, asked}
+use Rattle.operations.specs.Test.{mayMove}
+use Rattle.link.specs.declared.state.Phase.{Phase}
+use Rattle.link.specs.declared.state.Phase.the-variants.{Collecting, AckOffered, Sending, GoOffered, DataAwaited, ResultAwaited, EndOffered}
+use Rattle.link.specs.declared.state.Body.{Body}
+use Rattle.link.specs.declared.state.Action.{Action}
+use Rattle.link.specs.declared.state.Action.the-variants.{Nothing, Byte, Text, Order}
+use Rattle.link.specs.declared.state.Turn.{Turn}
+use Rattle.link.specs.State.{startBody, setDrives, setSelected, setFlags, setOutcome, setCurrent, current, resetOf}
+use Rattle.link.specs.Link.{goTaken, goRefused}
+use Rattle.transfers.specs.Data.{isGcr, runsShort, withUnderflow}
+use Rattle.transfers.specs.Results.{Result, movesTape, delivered, withGap, resultDrive}
+use Rattle.controller.specs.declared.controller.Controller.{Controller}
+use Rattle.controller.specs.Controller.{fresh, carried}
+use Rattle.controller.specs.Stores.{storeOf, endedBy, tracked, withDensity, motionOrder, pastTest, ordered, begun, operated, decoded, cleared, carriedOut}
+use Rattle.controller.specs.Records.{zeroedWords, dataDone, resultBody, resultGiven, resultDone}
+use Rattle.controller.specs.Machine.{unchanged, Call, Exchange, plain, step, run}
+use Rattle.controller.specs.Machine.Call.{byte, taken, broken, report, hostData, result, tick, reset}
+use Rattle.controller.specs.Lists.{notRefused, holdsStore}
+use Rattle.controller.specs.Orders.{Account, restarted, opened, owing, entered, orderAsked, askedNoted, storeNoted, callNoted, noted, Asked, given, AskedFrom, OrdersAreAsked}
+use Rattle.controller.proofs.Resting.{seen, Free, NoOrder, Rests, ended-rests, settled-rests, go-refused-rests, ending-rests}
+use Rattle.controller.proofs.Steps.{stated, exchanged, Talk, SaysNo, Kinds, reportNoted, by-step}
+
+-- ---- the account agrees with the controller
+
+-- what is said of a drive is what the controller has of it
+record Matches (last chosen dense : ℕ) (drive : Drive) : Type 0 where
+  pub report : drive .report ≡ last
+  pub track : drive .track ≡ chosen
+  pub density : drive .density ≡ dense
+
+record Agrees (said : ℕ) (last chosen dense : ℕ → ℕ) (now : ℕ) (drives : Drives) : Type 0 where
+  pub selected : now ≡ said
+  pub low : now ≤ 3
+  pub drive : (d : ℕ) → d ≤ 3 → Matches (last d) (chosen d) (dense d) (copied (driveOf drives d))
+
+abbrev Agreeing : Account → Body → Type 0
+Agreeing a b = Agrees (a .selected) (a .report) (a .track) (a .density) (b .selected) (b .drives)
+
+-- the order of an operation, as the account has it
+abbrev accounted : Account → Operation → Store → Six
+accounted a operation store =
+    orderOf (orderByte operation) (a .selected) (a .track (a .selected)) (a .density (a .selected)) (store .third) (store .fourth)
+
+-- a write in hand is owed its order
+unfoldable Owes : Account → Phase → Type 0
+Owes a Collecting = Unit
+Owes a AckOffered = Unit
+Owes a (Sending s) = Unit
+Owes a (EndOffered interrupt) = Unit
+Owes a (GoOffered store) = a .owed ≡ accounted a Write store ∷ []
+Owes a (DataAwaited store) = a .owed ≡ accounted a Write store ∷ []
+Owes a (ResultAwaited operation store) = Unit
+
+free-owes : (a : Account) (phase : Phase) → Free phase → Owes a phase
+unfolding Owes Free
+free-owes a Collecting free = tt
+free-owes a AckOffered free = tt
+free-owes a (Sending s) free = tt
+free-owes a (EndOffered interrupt) free = tt
+free-owes a (GoOffered store) free = absurd free
+free-owes a (DataAwaited store) free = absurd free
+free-owes a (ResultAwaited operation store) free = absurd free
+
+-- the controller's order is the account's
+same-order : (a : Account) (b : Body) (operation : Operation) (store : Store) → Agreeing a b → accounted a operation store ≡ motionOrder b operation store
+unfolding motionOrder
+same-order a b operation store agrees =
+    let (selected, track, density) : ((b .selected ≡ a .selected) × (current b .track ≡ a .track (b .selected)) × (current b .density ≡ a .density (b .selected))) =
+    (agrees .selected, agrees .drive (b .selected) (agrees .low) .track, agrees .drive (b .selected) (agrees .low) .density) in
+    subst (λ (d : ℕ). orderOf (orderByte operation) d (a .track d) (a .density d) (store .third) (store .fourth) ≡ motionOrder b operation store) selected
+    (sym (ap₂ (λ (t n : ℕ). orderOf (orderByte operation) (b .selected) t n (store .third) (store .fourth)) track density))
+
+record Kept (a : Account) (b : Body) (phase : Phase) : Type 0 where
+  pub agrees : Agreeing a b
+  pub owes : Owes a phase
+
+-- a turn that gives the order owed, or none, and leaves an account that agrees
+record Pays (a : Account) (t : Turn) : Type 0 where
+  pub asked : Asked a (t .action)
+  pub kept : Kept (given a (t .action)) (t .body) (t .phase)
+
+-- what is claimed of a call
+abbrev Paid : Controller → Exchange → Type 0
+Paid c x =
+    (a : Account) → Kept a (c .body) (c .phase) → Pays (noted a c x) (record { body = x .answer .reply .controller .body; phase = x .answer .reply .controller .phase; action = x .answer .reply .action })
+
+-- no order, and so nothing to pay
+quiet-pays : (a : Account) (b : Body) (phase : Phase) (action : Action) → NoOrder action → Kept a b phase → Pays a (record { body = b; phase = phase; action = action })
+unfolding NoOrder Asked given
+quiet-pays a b phase Nothing none kept = record { asked = tt; kept = kept }
+quiet-pays a b phase (Byte value) none kept = record { asked = tt; kept = kept }
+quiet-pays a b phase (Text string) none kept = record { asked = tt; kept = kept }
+quiet-pays a b phase (Order order) none kept = absurd none
+
+same-agrees : (a : Account) (b : Body) (t : Turn) → Rests b t → Agreeing a b → Agreeing a (t .body)
+same-agrees a b t rests agrees =
+    record {
+      selected = rests .same .selected ∙ agrees .selected;
+      low = subst (λ (n : ℕ). n ≤ 3) (sym (rests .same .selected)) (agrees .low);
+      drive = λ d low. subst (Matches (a .report d) (a .track d) (a .density d)) (sym (rests .same .drive d low)) (agrees .drive d low);
+    }
+
+rests-pay : (a : Account) (b : Body) (t : Turn) → Rests b t → Agreeing a b → Pays a t
+rests-pay a b t rests agrees =
+    quiet-pays a (t .body) (t .phase) (t .action) (rests .quiet)
+    (record { agrees = same-agrees a b t rests agrees; owes = free-owes a (t .phase) (rests .free) })
+
+-- ---- calls that carry out no store
+
+-- the account is as before
+as-before : (c : Controller) (x : Exchange) (a : Account) (t : Turn) → noted a c x ≡ a → Pays a t → Pays (noted a c x) t
+as-before c x a t same = subst (λ (later : Account). Pays later t) (sym same)
+
+refusal : (c : Controller) (call : Call) (number : ℕ) (space check : List ℕ) → eqb number 0 ≡ false → Paid c (exchanged call (unchanged number c space check))
+unfolding noted notRefused NoOrder
+refusal c call number space check some a before =
+    as-before c (exchanged call (unchanged number c space check)) a _ (pick-no (callNoted a c call) a some) (quiet-pays a (c .body) (c .phase) Nothing tt before)
+
+talk : (c : Controller) (call : Call) (t : Turn) → Talk c call → Rests (c .body) t → Paid c (exchanged call (plain (carried t)))
+unfolding Talk noted notRefused callNoted holdsStore pick
+talk c (byte value) t free rests a before = rests-pay a (c .body) t rests (before .agrees)
+talk c broken t free rests a before = rests-pay a (c .body) t rests (before .agrees)
+talk c tick t free rests a before = rests-pay a (c .body) t rests (before .agrees)
+talk c taken t (free, load) rests a before =
+    as-before c (exchanged taken (plain (carried t))) a t (pick-no (storeNoted a (storeOf (c .body .collected))) a (ap not load))
+    (rests-pay a (c .body) t rests (before .agrees))
+talk c (report drive r) t talks rests a before = absurd talks
+talk c (hostData host space check) t talks rests a before = absurd talks
+talk c (result r space check) t talks rests a before = absurd talks
+talk c reset t talks rests a before = absurd talks
+
+staying : (b : Body) (held : Store) (call : Call) → SaysNo call → Paid (stated b (GoOffered held)) (exchanged call (plain (carried (goRefused b held))))
+unfolding SaysNo noted notRefused callNoted pick
+staying b held (byte value) refuses a before = rests-pay a b _ (go-refused-rests b held) (before .agrees)
+staying b held broken refuses a before = rests-pay a b _ (go-refused-rests b held) (before .agrees)
+staying b held taken refuses a before = absurd refuses
+staying b held (report drive r) refuses a before = absurd refuses
+staying b held (hostData host space check) refuses a before = absurd refuses
+staying b held (result r space check) refuses a before = absurd refuses
+staying b held tick refuses a before = absurd refuses
+staying b held reset refuses a before = absurd refuses
+
+-- ---- one drive's record is another
+
+-- an entry for the drive, and for another
+entered-own : (entries : ℕ → ℕ) (n value d : ℕ) → d ≡ n → entered entries n value d ≡ value
+unfolding entered
+entered-own entries n value d e = pick-yes value (entries d) (eq-eqb d n e)
+
+entered-other : (entries : ℕ → ℕ) (n value d : ℕ) → (d ≡ n → ⊥) → entered entries n value d ≡ entries d
+unfolding entered
+entered-other entries n value d other = pick-no value (entries d) (ne-eqb d n other)
+
+-- where what is said of a drive and its record change alike, the two agree again
+put-agrees :
+    (a later : Account) (b : Body) (n : ℕ) (drive : Drive) → n ≤ 3 → later .selected ≡ a .selected → Agreeing a b → Matches (later .report n) (later .track n) (later .density n) drive → ((d : ℕ) → (d ≡ n → ⊥) → Matches (a .report d) (a .track d) (a .density d) (seen d b) → Matches (later .report d) (later .track d) (later .density d) (seen d b)) → Agreeing later (setDrives b (withDrive (b .drives) n drive))
+put-agrees a later b n drive within selected agrees own others =
+    record {
+      selected = agrees .selected ∙ sym selected;
+      low = agrees .low;
+      drive =
+          λ d low. by-test (eqb d n)
+          (λ same.
+          subst (λ (m : ℕ). Matches (later .report m) (later .track m) (later .density m) (copied (driveOf (withDrive (b .drives) n drive) m)))
+          (sym (eqb-true d n same))
+          (subst (λ (x : Drive). Matches (later .report n) (later .track n) (later .density n) (copied x)) (sym (put-same (b .drives) drive n within))
+          (record { report = own .report; track = own .track; density = own .density })))
+          (λ other.
+          let apart : d ≡ n → ⊥ = eqb-false d n other in
+          subst (λ (x : Drive). Matches (later .report d) (later .track d) (later .density d) (copied x))
+          (sym (put-other (b .drives) drive n d within low (λ e. apart (sym e)))) (others d apart (agrees .drive d low)));
+    }
+
+reporting : (c : Controller) (n r : ℕ) → n ≤ 3 → Paid c (exchanged (report n r) (plain (carried (reportNoted c n r))))
+unfolding noted notRefused callNoted NoOrder reported Owes pick
+reporting c n r within a before =
+    let later = callNoted a c (report n r) in
+    let was = before .agrees .drive n within in
+    quiet-pays later _ (c .phase) Nothing tt
+    (record {
+      agrees =
+          put-agrees a later (c .body) n (reported (driveOf (c .body .drives) n) r) within refl (before .agrees)
+          (record { report = sym (entered-own (a .report) n r n refl); track = was .track; density = was .density })
+          (λ d other matches. record { report = matches .report ∙ sym (entered-other (a .report) n r d other); track = matches .track; density = matches .density });
+      owes = told (c .phase) (before .owes);
+    })
+  where
+    -- a report is in no order
+    told : (phase : Phase) → Owes a phase → Owes (callNoted a c (report n r)) phase
+    told Collecting owes = tt
+    told AckOffered owes = tt
+    told (Sending s) owes = tt
+    told (EndOffered interrupt) owes = tt
+    told (GoOffered store) owes = owes
+    told (DataAwaited store) owes = owes
+    told (ResultAwaited operation store) owes = tt
+
+-- ---- a store is carried out
+
+reset-drive : (drives : Drives) (n : ℕ) → n ≤ 3 → driveOf (resetDrives drives) n ≡ freshWith (driveOf drives n .report)
+unfolding driveOf resetDrives pick
+reset-drive drives = by-four (λ n. driveOf (resetDrives drives) n ≡ freshWith (driveOf drives n .report)) refl refl refl refl
+
+reset-pays : (a : Account) (b : Body) → Agreeing a b → Pays (restarted (a .report)) (resetOf b)
+unfolding resetOf startBody Asked given Owes
+reset-pays a b agrees =
+    record {
+      asked = tt;
+      kept =
+          record {
+            agrees =
+                record {
+                  selected = refl;
+                  low = omega arith;
+                  drive =
+                      λ d low. subst (λ (x : Drive). Matches (a .report d) 0 0 (copied x)) (sym (reset-drive (b .drives) d low))
+                      (record { report = agrees .drive d low .report; track = refl; density = refl });
+                };
+            owes = tt;
+          };
+    }
+
+ordered-pays : (a : Account) (b : Body) (operation : Operation) (store : Store) → a .owed ≡ accounted a operation store ∷ [] → Agreeing a b → Pays a (ordered b operation store)
+unfolding ordered Asked given Owes
+ordered-pays a b operation store owed agrees =
+    record { asked = owed ∙ ap (λ (o : Six). o ∷ []) (same-order a b operation store agrees); kept = record { agrees = agrees; owes = tt } }
+
+module _ (a : Account) (b : Body) (store : Store) (agrees : Agreeing (owing a (b .selected) []) b) where
+  -- past the test, the operation's order is owed
+  abbrev owingOrder : Operation → Account
+  owingOrder operation = owing a (b .selected) (pick (movesTape (moveOf operation)) (accounted (owing a (b .selected) []) operation store ∷ []) [])
+
+  begun-pays : (operation : Operation) → Pays (owingOrder operation) (begun (pastTest b operation) operation store)
+  unfolding begun pastTest movesTape pick Asked given Owes
+  begun-pays Write = record { asked = tt; kept = record { agrees = agrees; owes = refl } }
+  begun-pays CheckBytes = record { asked = tt; kept = record { agrees = agrees; owes = tt } }
+  begun-pays Read = ordered-pays (owingOrder Read) (pastTest b Read) Read store refl agrees
+  begun-pays Erase = ordered-pays (owingOrder Erase) b Erase store refl agrees
+  begun-pays Rewind = ordered-pays (owingOrder Rewind) b Rewind store refl agrees
+  begun-pays FastForward = ordered-pays (owingOrder FastForward) b FastForward store refl agrees
+  begun-pays SkipForward = ordered-pays (owingOrder SkipForward) (pastTest b SkipForward) SkipForward store refl agrees
+  begun-pays SkipReverse = ordered-pays (owingOrder SkipReverse) (pastTest b SkipReverse) SkipReverse store refl agrees
+  begun-pays SearchForward = ordered-pays (owingOrder SearchForward) b SearchForward store refl agrees
+  begun-pays SearchReverse = ordered-pays (owingOrder SearchReverse) b SearchReverse store refl agrees
+  begun-pays WriteMark = ordered-pays (owingOrder WriteMark) b WriteMark store refl agrees
+
+  -- the test is that of the account's report
+  operated-pays : (operation : Operation) → Pays (owing a (b .selected) (orderAsked a (b .selected) operation store)) (operated b operation store)
+  unfolding operated orderAsked pick
+  operated-pays operation =
+      subst
+      (λ (report : ℕ). Pays (owing a (b .selected) (pick (movesTape (moveOf operation) && mayMove (moveOf operation) report) (accounted (owing a (b .selected) []) operation store ∷ []) [])) (operated b operation store))
+      (agrees .drive (b .selected) (agrees .low) .report)
+      (by-may (mayMove (moveOf operation) (current b .report)))
+    where
+      by-may :
+          (may : Bool) → Pays (owing a (b .selected) (pick (movesTape (moveOf operation) && may) (accounted (owing a (b .selected) []) operation store ∷ []) [])) (pick may (begun (pastTest b operation) operation store) (endedBy b store 0x04))
+      by-may true =
+          subst (λ (moves : Bool). Pays (owing a (b .selected) (pick moves (accounted (owing a (b .selected) []) operation store ∷ []) [])) (begun (pastTest b operation) operation store))
+          (sym (and-true (movesTape (moveOf operation)))) (begun-pays operation)
+      by-may false = rests-pay _ b _ (ended-rests b store 0x04) agrees
+
+  -- a track and a density are chosen for the selected drive
+  tracked-pays : (track : ℕ) → Pays (askedNoted a (b .selected) store (Track track)) (decoded b store (Track track))
+  unfolding decoded askedNoted tracked
+  tracked-pays track =
+      let later = askedNoted a (b .selected) store (Track track) in
+      let was = agrees .drive (b .selected) (agrees .low) in
+      rests-pay later (setCurrent b (tracked (current b) track)) _ (settled-rests _ store)
+      (put-agrees (owing a (b .selected) []) later b (b .selected) (tracked (current b) track) (agrees .low) refl agrees
+      (pick-by (Matches (a .report (b .selected)) (entered (a .track) (b .selected) track (b .selected)) (a .density (b .selected)))
+      (eqb (current b .track) track)
+      (λ same. record { report = was .report; track = eqb-true _ track same ∙ sym (entered-own (a .track) (b .selected) track (b .selected) refl); density = was .density })
+      (λ new. record { report = was .report; track = sym (entered-own (a .track) (b .selected) track (b .selected) refl); density = was .density }))
+      (λ d other matches. record { report = matches .report; track = matches .track ∙ sym (entered-other (a .track) (b .selected) track d other); density = matches .density }))
+
+  dense-pays : (density : ℕ) → Pays (askedNoted a (b .selected) store (Density density)) (decoded b store (Density density))
+  unfolding decoded askedNoted withDensity
+  dense-pays density =
+      let later = askedNoted a (b .selected) store (Density density) in
+      let was = agrees .drive (b .selected) (agrees .low) in
+      rests-pay later (setCurrent b (withDensity (current b) density)) _ (settled-rests _ store)
+      (put-agrees (owing a (b .selected) []) later b (b .selected) (withDensity (current b) density) (agrees .low) refl agrees
+      (record { report = was .report; track = was .track; density = sym (entered-own (a .density) (b .selected) density (b .selected) refl) })
+      (λ d other matches. record { report = matches .report; track = matches .track; density = matches .density ∙ sym (entered-other (a .density) (b .selected) density d other) }))
+
+  decoded-pays : (decode : Decoded) → Pays (askedNoted a (b .selected) store decode) (decoded b store decode)
+  unfolding decoded askedNoted
+  decoded-pays Reset = reset-pays (owing a (b .selected) []) b agrees
+  decoded-pays (Code code) = rests-pay _ b _ (ended-rests b store code) agrees
+  decoded-pays (Track track) = tracked-pays track
+  decoded-pays (Enable enable) = rests-pay _ (setFlags b (b .changed) enable) _ (settled-rests _ store) agrees
+  decoded-pays (Density density) = dense-pays density
+  decoded-pays (Operate operation) = operated-pays operation
+
+carried-pays : (a : Account) (b : Body) (store : Store) → Agreeing a b → Pays (storeNoted a store) (carriedOut b store)
+unfolding carriedOut storeNoted cleared pick
+carried-pays a b store agrees = by-names (namesDrive store) (leb 4 (named store)) refl
+  where
+    by-names :
+        (names above : Bool) → leb 4 (named store) ≡ above → Pays (pick (names && above) (owing a (a .selected) []) (askedNoted a (pick names (named store) (a .selected)) store (asked store))) (pick names (pick above (endedBy (cleared b) store 0x01) (decoded (setSelected (cleared b) (named store)) store (asked store))) (decoded (cleared b) store (asked store)))
+    by-names true true e = rests-pay _ (cleared b) _ (ended-rests (cleared b) store 0x01) agrees
+    by-names true false e =
+        let below = leb-false 4 (named store) e in
+        decoded-pays a (setSelected (cleared b) (named store)) store (record { selected = refl; low = omega arith; drive = agrees .drive }) (asked store)
+    by-names false above e =
+        subst (λ (d : ℕ). Pays (askedNoted a d store (asked store)) (decoded (cleared b) store (asked store))) (agrees .selected)
+        (decoded-pays a (cleared b) store (record { selected = refl; low = agrees .low; drive = agrees .drive }) (asked store))
+
+taking : (b : Body) → eqb (b .collected .c0) 0x62 ≡ false → Paid (stated b AckOffered) (exchanged taken (plain (carried (carriedOut b (storeOf (b .collected))))))
+unfolding noted notRefused callNoted holdsStore pick
+taking b lead a before =
+    let store = storeOf (b .collected) in
+    subst (λ (later : Account). Pays later (carriedOut b store)) (sym (pick-yes (storeNoted a store) a (ap not lead))) (carried-pays a b store (before .agrees))
+
+-- ---- the calls of a store
+
+writing : (b : Body) (held : Store) (host space check : List ℕ) → Paid (stated b (DataAwaited held)) (exchanged (hostData host space check) (dataDone b (current b) held host space check))
+unfolding dataDone zeroedWords noted notRefused callNoted Owes pick
+writing b held host space check a before = zeroed (isGcr (current b))
+  where
+    later : Body
+    later = setOutcome b (withUnderflow (b .outcome) (runsShort held host))
+
+    zeroed : (zeroes : Bool) → Pays a (ordered (zeroedWords later zeroes) Write held)
+    zeroed true = ordered-pays a (zeroedWords later true) Write held (before .owes) (before .agrees)
+    zeroed false = ordered-pays a later Write held (before .owes) (before .agrees)
+
+ended : (b : Body) (operation : Operation) (held : Store) (r : Result) (space check : List ℕ) → Paid (stated b (ResultAwaited operation held)) (exchanged (result r space check) (resultDone b (current b) operation held r space check))
+unfolding resultDone resultGiven resultBody resultDrive withGap noted notRefused callNoted pick
+ended b operation held r space check a before =
+    let agrees = before .agrees in
+    let was = agrees .drive (b .selected) (agrees .low) in
+    let body = resultBody b (current b) operation held r (length (delivered (current b) operation r check)) (length space) in
+    rests-pay a body _ (ending-rests body operation held)
+    (put-agrees a a b (b .selected) (resultDrive (current b) operation r) (agrees .low) refl agrees
+    (record { report = was .report; track = was .track; density = was .density }) (λ d other matches. matches))
+
+-- ---- every call, and every list
+
+pays : Kinds Paid
+unfolding goTaken noted notRefused callNoted NoOrder Owes pick
+pays =
+    record {
+      refusal = refusal;
+      talk = talk;
+      store = taking;
+      reporting = reporting;
+      going = λ b held value accepts a before. quiet-pays a b (DataAwaited held) Nothing tt (record { agrees = before .agrees; owes = before .owes });
+      staying = staying;
+      writing = writing;
+      ending = ended;
+      resetting = λ c a before. reset-pays a (c .body) (before .agrees);
+    }
+
+asked-from : (calls : List Call) (a : Account) (c : Controller) → Kept a (c .body) (c .phase) → AskedFrom a c (run c calls)
+unfolding run AskedFrom
+asked-from [] a c before = tt
+asked-from (call ∷ calls) a c before =
+    let paid = by-step Paid pays c call a before in (paid .asked, asked-from calls _ (step c call .reply .controller) (paid .kept))
+
+fresh-drive : (n : ℕ) → n ≤ 3 → driveOf freshDrives n ≡ freshWith 4
+unfolding driveOf freshDrives pick
+fresh-drive = by-four (λ n. driveOf freshDrives n ≡ freshWith 4) refl refl refl refl
+
+pub orders-are-asked : (calls : List Call) → OrdersAreAsked (run fresh calls)
+unfolding fresh startBody Owes
+orders-are-asked calls =
+    asked-from calls opened fresh
+    (record {
+      agrees =
+          record {
+            selected = refl;
+            low = omega arith;
+            drive = λ d low. subst (λ (x : Drive). Matches 4 0 0 (copied x)) (sym (fresh-drive d low)) (record { report = refl; track = refl; density = refl });
+          };
+      owes = tt;
+    })
