@@ -30,12 +30,12 @@ use Rattle.operations.specs.Store.{asksInterrupt, namesDrive, named, asked, thr
 use Rattle.link.specs.Link.{wholeLength, appended, loadXor, checks, firstByte, lastByte, nextByte, accepted, givenUp, saidNo, goRefused, goTaken, collectedByte, sendAnswered, goAnswered, tickWith, idleTick}
 use Rattle.link.specs.Loads.{loadWord, loaded}
 use Rattle.controller.specs.Controller.{fresh}
-use Rattle.controller.specs.Stores.{storeOf, endedBy, settled, tracked, withDensity, motionOrder, pastTest, ordered, begun, operated, decoded, cleared, carriedOut}
+use Rattle.controller.specs.Stores.{storeOf, endedBy, settled, tracked, withDensity, motionOrder, pastTest, ordered, begun, operated, decoded, cleared, namesUnknown, selectedBy, carriedOut}
 use Rattle.transfers.specs.Data.{isGcr, checkBytes, recordBytes, runsShort, withUnderflow, dataRefusal}
 use Rattle.transfers.specs.Results.{takesMark, isSearch, markAgainst, wholeCode, expectedWhole, expectedOf, resultRefusal, movesTape, isGone, usesImage, scanCode, finalCode, readsGcr, resultTertiary, resultQuintary, resultCheck, readBytes, delivered, fitting, wroteWell, resultSecondary, resultBits, withRetry, withGap, resultDrive}
 use Rattle.controller.specs.Records.{Answer, zeroedWords, dataDone, resultBody, ending, resultGiven, resultDone}
 use Rattle.link.specs.Damaged.{soundDrive, soundDrives, soundBody, soundLead, soundPart, soundString, soundCount, soundHeld, soundPhase, sound}
-use Rattle.controller.specs.Machine.{byteIn, brokenIn, tickIn, byteCall, brokenCall, tickCall, takenBody, takenIn, takenCall, reportCall, resetCall, dataFor, resultFor, dataIn, dataCall, resultIn, resultCall, Call, step}
+use Rattle.controller.specs.Machine.{byteIn, brokenIn, tickIn, byteCall, brokenCall, tickCall, takenBody, takenIn, takenCall, reportNoted, reportCall, resetCall, dataFor, resultFor, dataIn, dataCall, resultIn, resultCall, Call, step}
 use Rattle.controller.specs.Machine.Call.{byte, taken, report, hostData, result}
 
 -- the last answer of a list of calls from a state, and the body that it leaves
@@ -103,7 +103,7 @@ pub record BenchCases : Type 0 where
   pub check-257 : getD (played (gcrWrite 0x5A) .check) 256 0 ≡ 0x5A
 
 pub bench-cases : BenchCases
-unfolding pick given filled _⊕_ xorAll blocketteAt numbered ofParity foldParity checkOf legalMark legalMarks isError scanFrom scanOf kindOf numberOf defectAt limit rotated countBytes unrotated countOf blocketteCount hasBlockettes blockettesOf bodyOf imageOf imageLength markCount wholeRefusal countRefusal emptyRefusal imageRefusal controlOf readOf writeOf decodeOf test.ready test.placed test.aheadFree test.behindFree test.writable test.mayMove forwardCodes reverseCodes endCodes listedCodes isIn answerOf losesTape motionOf gapOf gapAfter retryOf reports driveOf withDrive reported differs reviewedAll freshDrives resetDrives bit noOutcome anyBit primaryOf secondaryWord digits tertiaryOf quintaryOf reportsWord stringOf orderOf startBody fresh resetOf review idle primaryNow sent interrupts completed coded wholeLength appended loadXor checks firstByte lastByte nextByte accepted givenUp saidNo asksInterrupt goRefused goTaken collectedByte sendAnswered goAnswered tickWith idleTick loadWord loaded storeOf namesDrive named asked endedBy settled tracked withDensity motionOrder pastTest ordered begun operated decoded cleared carriedOut isGcr checkBytes thrownAway heldCount recordBytes runsShort withUnderflow zeroedWords dataRefusal dataDone dataFor resultFor resultGiven takesMark isSearch markAgainst wholeCode expectedWhole expectedOf resultRefusal movesTape isGone usesImage scanCode finalCode readsGcr resultTertiary resultQuintary resultCheck readBytes delivered fitting wroteWell resultSecondary resultBits withRetry withGap resultDrive resultBody ending resultDone soundDrive soundDrives soundBody soundLead soundPart soundString soundCount soundHeld soundPhase sound byteIn brokenIn tickIn byteCall brokenCall tickCall takenBody takenIn takenCall reportCall resetCall dataIn dataCall resultIn resultCall step
+unfolding pick given filled _⊕_ xorAll blocketteAt numbered ofParity foldParity checkOf legalMark legalMarks isError scanFrom scanOf kindOf numberOf defectAt limit rotated countBytes unrotated countOf blocketteCount hasBlockettes blockettesOf bodyOf imageOf imageLength markCount wholeRefusal countRefusal emptyRefusal imageRefusal controlOf readOf writeOf decodeOf test.ready test.placed test.aheadFree test.behindFree test.writable test.mayMove forwardCodes reverseCodes endCodes listedCodes isIn answerOf losesTape motionOf gapOf gapAfter retryOf reports driveOf withDrive reported differs reviewedAll freshDrives resetDrives bit noOutcome anyBit primaryOf secondaryWord digits tertiaryOf quintaryOf reportsWord stringOf orderOf startBody fresh resetOf review idle primaryNow sent interrupts completed coded wholeLength appended loadXor checks firstByte lastByte nextByte accepted givenUp saidNo asksInterrupt goRefused goTaken collectedByte sendAnswered goAnswered tickWith idleTick loadWord loaded storeOf namesDrive named asked endedBy settled tracked withDensity motionOrder pastTest ordered begun operated decoded cleared namesUnknown selectedBy carriedOut isGcr checkBytes thrownAway heldCount recordBytes runsShort withUnderflow zeroedWords dataRefusal dataDone dataFor resultFor resultGiven takesMark isSearch markAgainst wholeCode expectedWhole expectedOf resultRefusal movesTape isGone usesImage scanCode finalCode readsGcr resultTertiary resultQuintary resultCheck readBytes delivered fitting wroteWell resultSecondary resultBits withRetry withGap resultDrive resultBody ending resultDone soundDrive soundDrives soundBody soundLead soundPart soundString soundCount soundHeld soundPhase sound byteIn brokenIn tickIn byteCall brokenCall tickCall takenBody takenIn takenCall reportNoted reportCall resetCall dataIn dataCall resultIn resultCall step
 bench-cases =
     record {
       ack = refl;

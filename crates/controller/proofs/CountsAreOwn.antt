@@ -37,15 +37,15 @@ use Rattle.transfers.specs.Data.{isGcr, runsShort, withUnderflow}
 use Rattle.transfers.specs.Results.{Result, isGone, usesImage, scanCode, finalCode, wroteWell, delivered, resultSecondary, resultBits, withRetry}
 use Rattle.controller.specs.declared.controller.Controller.{Controller}
 use Rattle.controller.specs.Controller.{fresh, carried}
-use Rattle.controller.specs.Stores.{storeOf, endedBy, tracked, withDensity, pastTest, ordered, begun, operated, decoded, cleared, carriedOut}
+use Rattle.controller.specs.Stores.{storeOf, endedBy, tracked, withDensity, pastTest, ordered, begun, operated, decoded, cleared, namesUnknown, carriedOut}
 use Rattle.controller.specs.Records.{zeroedWords, dataDone, resultBody, resultGiven, resultDone}
-use Rattle.controller.specs.Machine.{unchanged, Call, Exchange, plain, step, run}
+use Rattle.controller.specs.Machine.{unchanged, reportNoted, dataIn, resultIn, Call, Exchange, plain, step, run}
 use Rattle.controller.specs.Machine.Call.{byte, taken, broken, report, hostData, result, tick, reset}
 use Rattle.controller.specs.Lists.{notRefused, isTaken, holdsStore, carriesOut, lastStore, noStore}
 use Rattle.controller.specs.Counts.{OwnRecord, isWrite, passedBy, recordAfter, ownRecord, bit22, Valid, ValidFrom, CountsAreOwn}
 use Rattle.controller.specs.Counts.OwnRecord.{noRecord, recordOf}
 use Rattle.controller.proofs.Resting.{Free, Rests, ended-rests, settled-rests, go-refused-rests, ending-rests}
-use Rattle.controller.proofs.Steps.{stated, exchanged, Talk, SaysNo, Kinds, reportNoted, by-step}
+use Rattle.controller.proofs.Steps.{stated, exchanged, Talk, SaysNo, Kinds, data-for, result-for, by-step}
 
 -- ---- bit 22 of the word
 
@@ -210,11 +210,8 @@ module _ (store : Store) where
   carried-opens : (b : Body) → Kept store noRecord (carriedOut b store .body) (carriedOut b store .phase)
   unfolding carriedOut cleared noOutcome
   carried-opens b =
-      pick-by (λ (t : Turn). Kept store noRecord (t .body) (t .phase)) (namesDrive store)
-      (λ names. pick-by (λ (t : Turn). Kept store noRecord (t .body) (t .phase)) (leb 4 (named store))
-      (λ high. rests-open (cleared b) _ refl (ended-rests (cleared b) store 0x01))
-      (λ few. decoded-opens (setSelected (cleared b) (named store)) (asked store) refl refl))
-      (λ unnamed. decoded-opens (cleared b) (asked store) refl refl)
+      pick-by (λ (t : Turn). Kept store noRecord (t .body) (t .phase)) (namesUnknown store) (λ unknown. rests-open _ _ refl (ended-rests _ store 0x01))
+      (λ drive. decoded-opens _ (asked store) refl refl)
 
 taking : (b : Body) → eqb (b .collected .c0) 0x62 ≡ false → Keeps (stated b AckOffered) (exchanged taken (plain (carried (carriedOut b (storeOf (b .collected))))))
 unfolding lastStore carriesOut isTaken notRefused holdsStore ownRecord recordAfter pick
@@ -226,9 +223,11 @@ taking b lead last own before =
 
 -- ---- the calls of a store
 
-writing : (b : Body) (held : Store) (host space check : List ℕ) → Keeps (stated b (DataAwaited held)) (exchanged (hostData host space check) (dataDone b (current b) held host space check))
+-- whatever drive is written
+written :
+    (b : Body) (held : Store) (drive : Drive) (host space check : List ℕ) → Keeps (stated b (DataAwaited held)) (exchanged (hostData host space check) (dataDone b drive held host space check))
 unfolding dataDone ordered withUnderflow zeroedWords lastStore carriesOut isTaken notRefused ownRecord recordAfter InHand pick
-writing b held host space check last own before = zeroed (isGcr (current b))
+written b held drive host space check last own before = zeroed (isGcr drive)
   where
     later : Body
     later = setOutcome b (withUnderflow (b .outcome) (runsShort held host))
@@ -236,6 +235,11 @@ writing b held host space check last own before = zeroed (isGcr (current b))
     zeroed : (zeroes : Bool) → Kept last own (zeroedWords later zeroes) (ResultAwaited Write held)
     zeroed true = record { hand = before .hand; valid = before .valid }
     zeroed false = record { hand = before .hand; valid = before .valid }
+
+writing :
+    (b : Body) (held : Store) (host space check : List ℕ) → Keeps (stated b (DataAwaited held)) (exchanged (hostData host space check) (dataIn (stated b (DataAwaited held)) b host space check (DataAwaited held)))
+unfolding dataIn
+writing b held host space check = data-for Keeps refusal b held _ host space check (written b held _ host space check)
 
 -- a write well done, by the number of its operation
 writes-well : (operation : Operation) (code : ℕ) → wroteWell operation code ≡ (eqb (numberOf operation) (numberOf Write) && eqb code 0)
@@ -288,19 +292,25 @@ module _ (drive : Drive) (operation : Operation) (last store : Store) (r : Resul
       by-test (usesImage drive operation r) image-told
       (λ unused. write-told unused (sym (ap (λ (t : Bool). t || wroteWell operation (finalCode drive operation r)) unused) ∙ set))
 
-ended : (b : Body) (operation : Operation) (held : Store) (r : Result) (space check : List ℕ) → Keeps (stated b (ResultAwaited operation held)) (exchanged (result r space check) (resultDone b (current b) operation held r space check))
-unfolding resultDone resultGiven resultBody resultBits withRetry lastStore carriesOut isTaken notRefused ownRecord recordAfter InHand pick
-ended b operation held r space check last own before =
+-- whatever drive moved, and whatever bytes are delivered
+ended :
+    (b : Body) (operation : Operation) (held : Store) (drive : Drive) (r : Result) (bytes space check : List ℕ) → Keeps (stated b (ResultAwaited operation held)) (exchanged (result r space check) (resultGiven b drive operation held r bytes space check))
+unfolding resultGiven resultBody resultBits withRetry lastStore carriesOut isTaken notRefused ownRecord recordAfter InHand pick
+ended b operation held drive r bytes space check last own before =
     let mine = before .hand in
-    let body = resultBody b (current b) operation held r (length (delivered (current b) operation r check)) (length space) in
-    rests-keep last (passedBy last r) body _ (ending-rests body operation held)
-    (λ set. either-told (current b) operation last held r (b .secondary) (mine .same) (mine .asks)
-    (sym (ap (λ (t : Bool). t || (usesImage (current b) operation r || wroteWell operation (finalCode (current b) operation r))) (mine .none)) ∙ set))
+    rests-keep last (passedBy last r) _ _ (ending-rests (resultBody b drive operation held r (length bytes) (length space)) operation held)
+    (λ set. either-told drive operation last held r (b .secondary) (mine .same) (mine .asks)
+    (sym (ap (λ (t : Bool). t || (usesImage drive operation r || wroteWell operation (finalCode drive operation r))) (mine .none)) ∙ set))
+
+ending :
+    (b : Body) (operation : Operation) (held : Store) (r : Result) (space check : List ℕ) → Keeps (stated b (ResultAwaited operation held)) (exchanged (result r space check) (resultIn (stated b (ResultAwaited operation held)) b r space check (ResultAwaited operation held)))
+unfolding resultIn resultDone
+ending b operation held r space check = result-for Keeps refusal b held _ operation r space check (ended b operation held _ r _ space check)
 
 -- ---- every call, and every list
 
 keeps : Kinds Keeps
-unfolding goTaken resetOf startBody noOutcome lastStore carriesOut isTaken notRefused ownRecord recordAfter InHand pick
+unfolding goTaken reportNoted resetOf startBody noOutcome lastStore carriesOut isTaken notRefused ownRecord recordAfter InHand pick
 keeps =
     record {
       refusal = refusal;
@@ -310,7 +320,7 @@ keeps =
       going = λ b held value accepts last own before. record { hand = before .hand; valid = before .valid };
       staying = staying;
       writing = writing;
-      ending = ended;
+      ending = ending;
       resetting = λ c last own before. record { hand = tt; valid = λ set. absurd (false≢true set) };
     }
 

@@ -8,6 +8,7 @@ use lib.Dec.{eqb}
 use borrow.Author.Tests.{not-true}
 use Rattle.common.specs.Pick.{pick}
 use Rattle.common.proofs.PickLaws.{both-hold, pick-yes, pick-no}
+use Rattle.operations.specs.declared.operation.Operation.{Operation}
 use Rattle.operations.specs.declared.store.Store.{Store}
 use Rattle.operations.specs.Store.{namesDrive}
 use Rattle.link.specs.declared.state.Phase.{Phase}
@@ -19,13 +20,14 @@ use Rattle.link.specs.Link.{goRefused}
 use Rattle.controller.specs.declared.controller.Controller.{Controller}
 use Rattle.controller.specs.Controller.{carried}
 use Rattle.controller.specs.Stores.{storeOf, carriedOut}
-use Rattle.controller.specs.Machine.{unchanged, Call, Exchange, plain, step}
+use Rattle.transfers.specs.Results.{Result}
+use Rattle.controller.specs.Machine.{unchanged, dataIn, resultIn, Call, Exchange, plain, step}
 use Rattle.controller.specs.Machine.Call.{byte, taken, broken, report, hostData, result, tick, reset}
 use Rattle.controller.specs.Lists.{notRefused, isTaken, holdsStore, carriesOut, lastStore}
 use Rattle.controller.specs.Separation.{isOf, storeEvent, awaitsGo, eventOf, bytesGiven, transferOf, isReset, resets, admits}
 use Rattle.controller.specs.Separation.Event.{goAnswered}
 use Rattle.controller.proofs.Resting.{Free, Rests}
-use Rattle.controller.proofs.Steps.{stated, exchanged, Talk, SaysNo, Kinds, by-step}
+use Rattle.controller.proofs.Steps.{stated, exchanged, Talk, SaysNo, Kinds, data-for, result-for, by-step}
 use Rattle.controller.proofs.Following.{viewOf, InHand, free-held, free-view, rests-view, none-for, Follows, refused-follows, passes-follows, carried-follows, report-follows, go-taken-follows, go-refused-follows, data-follows, result-follows}
 
 -- with nothing in hand no answer to GO is awaited
@@ -104,6 +106,18 @@ module _ (d : ℕ) (low : d ≤ 3) where
   staying b held tick refuses last mine admitted = absurd refuses
   staying b held reset refuses last mine admitted = absurd refuses
 
+  writing :
+      (b : Body) (held : Store) (host space check : List ℕ) → Followed (stated b (DataAwaited held)) (exchanged (hostData host space check) (dataIn (stated b (DataAwaited held)) b host space check (DataAwaited held)))
+  unfolding dataIn InHand lastStore carriesOut isTaken pick
+  writing b held host space check =
+      data-for Followed refusal b held _ host space check (λ last mine admitted. data-follows d last b held host space check mine)
+
+  ending :
+      (b : Body) (operation : Operation) (held : Store) (r : Result) (space check : List ℕ) → Followed (stated b (ResultAwaited operation held)) (exchanged (result r space check) (resultIn (stated b (ResultAwaited operation held)) b r space check (ResultAwaited operation held)))
+  unfolding resultIn InHand lastStore carriesOut isTaken pick
+  ending b operation held r space check =
+      result-for Followed refusal b held _ operation r space check (λ last mine admitted. result-follows d low last b operation held r space check mine)
+
   -- a reset is not admitted
   resetting : (c : Controller) → Followed c (exchanged reset (plain (carried (resetOf (c .body)))))
   unfolding admits carriesOut isTaken notRefused isReset pick
@@ -119,8 +133,8 @@ module _ (d : ℕ) (low : d ≤ 3) where
         reporting = λ c n r within last held admitted. report-follows d low last c n r within held;
         going = λ b held value yes last mine admitted. go-taken-follows d low last b held value yes mine;
         staying = staying;
-        writing = λ b held host space check last mine admitted. data-follows d last b held host space check mine;
-        ending = λ b operation held r space check last mine admitted. result-follows d low last b operation held r space check mine;
+        writing = writing;
+        ending = ending;
         resetting = resetting;
       }
 

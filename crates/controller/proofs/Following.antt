@@ -3,7 +3,7 @@
 use mathlib.Core.Path.{_≡_, refl, sym, ap, ap₂, subst, _∙_}
 use Prim.Native.Nat.{ℕ, _≤_}
 use native.Mathlib.Omega.{arith}
-use mathlib.Core.Bool.{Bool, true, false, not, _&&_, true≢false}
+use mathlib.Core.Bool.{Bool, true, false, not, _&&_, true≢false, false≢true}
 use mathlib.Core.List.{List, [], _∷_, _++_, append-nil}
 use lib.Dec.{leb, eqb}
 use lib.ListN.{length, take}
@@ -36,11 +36,11 @@ use Rattle.link.specs.State.{setDrives, setSelected, setFlags, setOutcome, setC
 use Rattle.operations.specs.Store.{namesDrive, named, asked, thrownAway, heldCount}
 use Rattle.link.specs.Link.{goTaken, goRefused}
 use Rattle.controller.specs.Controller.{carried, refused}
-use Rattle.controller.specs.Stores.{endedBy, tracked, withDensity, motionOrder, pastTest, ordered, begun, operated, decoded, cleared, carriedOut}
+use Rattle.controller.specs.Stores.{endedBy, tracked, withDensity, motionOrder, pastTest, ordered, begun, operated, decoded, cleared, namesUnknown, selectedBy, carriedOut}
 use Rattle.transfers.specs.Data.{recordBytes, runsShort, withUnderflow, isGcr}
 use Rattle.transfers.specs.Results.{Result, withGap, resultDrive, finalCode, isGone, usesImage, delivered, fitting}
 use Rattle.controller.specs.Records.{resultGiven, zeroedWords, dataDone, resultBody, resultDone}
-use Rattle.controller.specs.Machine.{Call, Exchange, plain}
+use Rattle.controller.specs.Machine.{reportNoted, Call, Exchange, plain}
 use Rattle.controller.specs.Machine.Call.{byte, taken, broken, report, hostData, result}
 use Rattle.controller.specs.Lists.{notRefused, holdsStore}
 use Rattle.controller.specs.Separation.{Event, Output, isOf, isRead, storeEvent, awaitsGo, eventOf, eventsOf, ordersFor, bytesGiven, transferOf, outputsOf, asksReset, resets}
@@ -48,7 +48,6 @@ use Rattle.controller.specs.Separation.Event.{reportCame, goAnswered, da
 use Rattle.controller.specs.Separation.Output.{motion, image, delivery}
 use Rattle.controller.proofs.OneDrive.{Hand, View, resting, operand, handFor, begins, firstOrder, givenAtStore, handAfterGo, handAfterData, givenAtData, driveAfterResult, givenAtResult, told, gives, toldAll, givesAll}
 use Rattle.controller.proofs.OneDrive.Hand.{empty, goOffered, dataAwaited, resultAwaited}
-use Rattle.controller.proofs.Steps.{reportNoted}
 use Rattle.controller.proofs.Resting.{seen, Free, NoOrder, Rests, ended-rests, settled-rests, go-refused-rests, ending-rests}
 
 -- ---- the view of a drive
@@ -397,13 +396,18 @@ module _ (d : ℕ) (low : d ≤ 3) (c : Controller) (store : Store) (holds : hol
   answered t = Follows d (resting (seen d (c .body))) store c (record { call = taken; answer = plain (carried t) })
 
   -- no drive of this number: no drive is concerned
-  unknown-follows : 4 ≤ named store → answered (endedBy (cleared (c .body)) store 0x01)
-  unfolding cleared transferOf
-  unknown-follows high =
-      let rests = ended-rests (cleared (c .body)) store 0x01 in
+  unknown-follows : (b : Body) → b .drives ≡ c .body .drives → 4 ≤ named store → answered (endedBy b store 0x01)
+  unfolding transferOf
+  unknown-follows b same high =
+      let rests = ended-rests b store 0x01 in
       let differs : named store ≡ d → ⊥ = λ e. omega arith in
       owned-follows d store c _ _ (storeEvent store) (carried-event d store c holds) (λ own. absurd (differs (own-number d store names own)))
-      (λ other. record { view = rests-view d low store _ _ rests; transfer = refl; quiet = none-for d _ (rests .quiet) }) (free-held store _ _ (rests .free))
+      (λ other. record {
+        view = rests-view d low store _ _ rests ∙ ap (λ (drives : Drives). resting (copied (driveOf drives d))) same;
+        transfer = refl;
+        quiet = none-for d _ (rests .quiet);
+      })
+      (free-held store _ _ (rests .free))
 
   decoded-follows : named store ≤ 3 → asksReset (asked store) ≡ false → answered (decoded (setSelected (cleared (c .body)) (named store)) store (asked store))
   unfolding cleared transferOf told gives storeEvent asked
@@ -418,19 +422,27 @@ module _ (d : ℕ) (low : d ≤ 3) (c : Controller) (store : Store) (holds : hol
       (decoded-held d low store b (named store) (asked store) keeps
       (λ (operation : Operation) (asks : asked store ≡ Operate operation). record { same = refl; selects = refl; names = names; low = within; asks = asks }))
 
+  -- the drive is named
+  choose-follows :
+      (naming above : Bool) (ended : Turn) (turned : ℕ → Turn) (selected : ℕ) → naming ≡ true → (above ≡ true → answered ended) → (above ≡ false → answered (turned (named store))) → answered (pick (naming && above) ended (turned (pick naming (named store) selected)))
+  unfolding pick
+  choose-follows true true ended turned selected e ends turns = ends refl
+  choose-follows true false ended turned selected e ends turns = turns refl
+  choose-follows false above ended turned selected e ends turns = absurd (false≢true e)
+
   pub carried-follows : resets store ≡ false → answered (carriedOut (c .body) store)
-  unfolding carriedOut resets
+  unfolding carriedOut cleared namesUnknown selectedBy resets
   carried-follows keeps =
-      subst answered (sym (pick-yes _ _ names))
-      (pick-by answered (leb 4 (named store)) (λ high. unknown-follows (leb-true 4 (named store) high))
-      (λ few. let below = leb-false 4 (named store) few in decoded-follows (omega arith) (subst (λ (t : Bool). (not t && asksReset (asked store)) ≡ false) few keeps)))
+      choose-follows (namesDrive store) (leb 4 (named store)) _ (λ n. decoded (setSelected (cleared (c .body)) n) store (asked store)) _ names
+      (λ high. unknown-follows _ refl (leb-true 4 (named store) high))
+      (λ few. let below = leb-false 4 (named store) few in decoded-follows (omega arith) (subst (λ (t : Bool). (not t && asksReset (asked store)) ≡ false) few keeps))
 
 -- ---- a report
 
 module _ (d : ℕ) (low : d ≤ 3) (last : Store) (c : Controller) (n r : ℕ) where
   pub report-follows :
       n ≤ 3 → InHand last (c .body .selected) (c .phase) → Follows d (viewOf d last c) last c (record { call = report n r; answer = plain (carried (reportNoted c n r)) })
-  unfolding eventOf transferOf ordersFor told gives reported
+  unfolding reportNoted eventOf transferOf ordersFor told gives reported
   report-follows within held =
       by-test (eqb n d)
       (λ same. does-follows d last c _ _ (reportCame r) (pick-yes (reportCame r ∷ []) [] same)

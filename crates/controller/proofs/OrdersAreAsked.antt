@@ -36,15 +36,16 @@ use Rattle.link.specs.Link.{goTaken, goRefused}
 use Rattle.transfers.specs.Data.{isGcr, runsShort, withUnderflow}
 use Rattle.transfers.specs.Results.{Result, movesTape, delivered, withGap, resultDrive}
 use Rattle.controller.specs.declared.controller.Controller.{Controller}
+use Rattle.controller.specs.declared.controller.Reply.{Reply}
 use Rattle.controller.specs.Controller.{fresh, carried}
-use Rattle.controller.specs.Stores.{storeOf, endedBy, tracked, withDensity, motionOrder, pastTest, ordered, begun, operated, decoded, cleared, carriedOut}
+use Rattle.controller.specs.Stores.{storeOf, endedBy, tracked, withDensity, motionOrder, pastTest, ordered, begun, operated, decoded, cleared, namesUnknown, selectedBy, carriedOut}
 use Rattle.controller.specs.Records.{zeroedWords, dataDone, resultBody, resultGiven, resultDone}
-use Rattle.controller.specs.Machine.{unchanged, Call, Exchange, plain, step, run}
+use Rattle.controller.specs.Machine.{unchanged, reportNoted, dataIn, resultIn, Call, Exchange, plain, step, run}
 use Rattle.controller.specs.Machine.Call.{byte, taken, broken, report, hostData, result, tick, reset}
 use Rattle.controller.specs.Lists.{notRefused, holdsStore}
 use Rattle.controller.specs.Orders.{Account, restarted, opened, owing, entered, orderAsked, askedNoted, storeNoted, callNoted, noted, Asked, given, AskedFrom, OrdersAreAsked}
 use Rattle.controller.proofs.Resting.{seen, Free, NoOrder, Rests, ended-rests, settled-rests, go-refused-rests, ending-rests}
-use Rattle.controller.proofs.Steps.{stated, exchanged, Talk, SaysNo, Kinds, reportNoted, by-step}
+use Rattle.controller.proofs.Steps.{stated, exchanged, Talk, SaysNo, Kinds, data-for, result-for, by-step}
 
 -- ---- the account agrees with the controller
 
@@ -105,10 +106,14 @@ record Pays (a : Account) (t : Turn) : Type 0 where
   pub asked : Asked a (t .action)
   pub kept : Kept (given a (t .action)) (t .body) (t .phase)
 
+-- what a reply leaves and does
+abbrev turnOf : Reply → Turn
+turnOf reply = record { body = reply .controller .body; phase = reply .controller .phase; action = reply .action }
+
 -- what is claimed of a call
 abbrev Paid : Controller → Exchange → Type 0
 Paid c x =
-    (a : Account) → Kept a (c .body) (c .phase) → Pays (noted a c x) (record { body = x .answer .reply .controller .body; phase = x .answer .reply .controller .phase; action = x .answer .reply .action })
+    (a : Account) → Kept a (c .body) (c .phase) → Pays (noted a c x) (turnOf (x .answer .reply))
 
 -- no order, and so nothing to pay
 quiet-pays : (a : Account) (b : Body) (phase : Phase) (action : Action) → NoOrder action → Kept a b phase → Pays a (record { body = b; phase = phase; action = action })
@@ -198,7 +203,7 @@ put-agrees a later b n drive within selected agrees own others =
     }
 
 reporting : (c : Controller) (n r : ℕ) → n ≤ 3 → Paid c (exchanged (report n r) (plain (carried (reportNoted c n r))))
-unfolding noted notRefused callNoted NoOrder reported Owes pick
+unfolding noted notRefused callNoted reportNoted NoOrder reported Owes pick
 reporting c n r within a before =
     let later = callNoted a c (report n r) in
     let was = before .agrees .drive n within in
@@ -319,19 +324,24 @@ module _ (a : Account) (b : Body) (store : Store) (agrees : Agreeing (owing a (b
   decoded-pays (Density density) = dense-pays density
   decoded-pays (Operate operation) = operated-pays operation
 
+-- the account and the controller select the same drive
+choose :
+    (a : Account) (store : Store) (names above : Bool) (ended turned : Turn) → leb 4 (named store) ≡ above → Pays (owing a (a .selected) []) ended → (pick names (named store) (a .selected) ≤ 3 → Pays (askedNoted a (pick names (named store) (a .selected)) store (asked store)) turned) → a .selected ≤ 3 → Pays (pick (names && above) (owing a (a .selected) []) (askedNoted a (pick names (named store) (a .selected)) store (asked store))) (pick (names && above) ended turned)
+unfolding pick
+choose a store true true ended turned e ends turns low = ends
+choose a store true false ended turned e ends turns low = let below = leb-false 4 (named store) e in turns (omega arith)
+choose a store false above ended turned e ends turns low = turns low
+
 carried-pays : (a : Account) (b : Body) (store : Store) → Agreeing a b → Pays (storeNoted a store) (carriedOut b store)
-unfolding carriedOut storeNoted cleared pick
-carried-pays a b store agrees = by-names (namesDrive store) (leb 4 (named store)) refl
-  where
-    by-names :
-        (names above : Bool) → leb 4 (named store) ≡ above → Pays (pick (names && above) (owing a (a .selected) []) (askedNoted a (pick names (named store) (a .selected)) store (asked store))) (pick names (pick above (endedBy (cleared b) store 0x01) (decoded (setSelected (cleared b) (named store)) store (asked store))) (decoded (cleared b) store (asked store)))
-    by-names true true e = rests-pay _ (cleared b) _ (ended-rests (cleared b) store 0x01) agrees
-    by-names true false e =
-        let below = leb-false 4 (named store) e in
-        decoded-pays a (setSelected (cleared b) (named store)) store (record { selected = refl; low = omega arith; drive = agrees .drive }) (asked store)
-    by-names false above e =
-        subst (λ (d : ℕ). Pays (askedNoted a d store (asked store)) (decoded (cleared b) store (asked store))) (agrees .selected)
-        (decoded-pays a (cleared b) store (record { selected = refl; low = agrees .low; drive = agrees .drive }) (asked store))
+unfolding carriedOut storeNoted namesUnknown selectedBy cleared
+carried-pays a b store agrees =
+    let within = subst (λ (n : ℕ). n ≤ 3) (agrees .selected) (agrees .low) in
+    choose a store (namesDrive store) (leb 4 (named store)) _ _ refl (rests-pay _ _ _ (ended-rests _ store 0x01) agrees)
+    (λ low.
+    subst (λ (n : ℕ). Pays (askedNoted a (pick (namesDrive store) (named store) (a .selected)) store (asked store)) (decoded (setSelected (cleared b) (pick (namesDrive store) (named store) n)) store (asked store)))
+    (sym (agrees .selected))
+    (decoded-pays a (setSelected (cleared b) (pick (namesDrive store) (named store) (a .selected))) store (record { selected = refl; low = low; drive = agrees .drive }) (asked store)))
+    within
 
 taking : (b : Body) → eqb (b .collected .c0) 0x62 ≡ false → Paid (stated b AckOffered) (exchanged taken (plain (carried (carriedOut b (storeOf (b .collected))))))
 unfolding noted notRefused callNoted holdsStore pick
@@ -341,9 +351,11 @@ taking b lead a before =
 
 -- ---- the calls of a store
 
-writing : (b : Body) (held : Store) (host space check : List ℕ) → Paid (stated b (DataAwaited held)) (exchanged (hostData host space check) (dataDone b (current b) held host space check))
+-- whatever drive's density the image has
+written :
+    (b : Body) (held : Store) (drive : Drive) (host space check : List ℕ) → Paid (stated b (DataAwaited held)) (exchanged (hostData host space check) (dataDone b drive held host space check))
 unfolding dataDone zeroedWords noted notRefused callNoted Owes pick
-writing b held host space check a before = zeroed (isGcr (current b))
+written b held drive host space check a before = zeroed (isGcr drive)
   where
     later : Body
     later = setOutcome b (withUnderflow (b .outcome) (runsShort held host))
@@ -352,15 +364,26 @@ writing b held host space check a before = zeroed (isGcr (current b))
     zeroed true = ordered-pays a (zeroedWords later true) Write held (before .owes) (before .agrees)
     zeroed false = ordered-pays a later Write held (before .owes) (before .agrees)
 
-ended : (b : Body) (operation : Operation) (held : Store) (r : Result) (space check : List ℕ) → Paid (stated b (ResultAwaited operation held)) (exchanged (result r space check) (resultDone b (current b) operation held r space check))
-unfolding resultDone resultGiven resultBody resultDrive withGap noted notRefused callNoted pick
-ended b operation held r space check a before =
+writing :
+    (b : Body) (held : Store) (host space check : List ℕ) → Paid (stated b (DataAwaited held)) (exchanged (hostData host space check) (dataIn (stated b (DataAwaited held)) b host space check (DataAwaited held)))
+unfolding dataIn
+writing b held host space check = data-for Paid refusal b held _ host space check (written b held _ host space check)
+
+-- whatever bytes are delivered
+ended :
+    (b : Body) (operation : Operation) (held : Store) (r : Result) (bytes space check : List ℕ) → Paid (stated b (ResultAwaited operation held)) (exchanged (result r space check) (resultGiven b (current b) operation held r bytes space check))
+unfolding resultGiven resultBody resultDrive withGap noted notRefused callNoted pick
+ended b operation held r bytes space check a before =
     let agrees = before .agrees in
     let was = agrees .drive (b .selected) (agrees .low) in
-    let body = resultBody b (current b) operation held r (length (delivered (current b) operation r check)) (length space) in
-    rests-pay a body _ (ending-rests body operation held)
+    rests-pay a _ _ (ending-rests (resultBody b (current b) operation held r (length bytes) (length space)) operation held)
     (put-agrees a a b (b .selected) (resultDrive (current b) operation r) (agrees .low) refl agrees
     (record { report = was .report; track = was .track; density = was .density }) (λ d other matches. matches))
+
+ending :
+    (b : Body) (operation : Operation) (held : Store) (r : Result) (space check : List ℕ) → Paid (stated b (ResultAwaited operation held)) (exchanged (result r space check) (resultIn (stated b (ResultAwaited operation held)) b r space check (ResultAwaited operation held)))
+unfolding resultIn resultDone
+ending b operation held r space check = result-for Paid refusal b held _ operation r space check (ended b operation held r _ space check)
 
 -- ---- every call, and every list
 
@@ -375,7 +398,7 @@ pays =
       going = λ b held value accepts a before. quiet-pays a b (DataAwaited held) Nothing tt (record { agrees = before .agrees; owes = before .owes });
       staying = staying;
       writing = writing;
-      ending = ended;
+      ending = ending;
       resetting = λ c a before. reset-pays a (c .body) (before .agrees);
     }
 

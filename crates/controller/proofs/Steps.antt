@@ -10,7 +10,7 @@ use lib.ListN.{length}
 use borrow.Author.Tests.{leb-false}
 use Rattle.common.specs.Pick.{pick}
 use Rattle.common.proofs.PickLaws.{pick-by}
-use Rattle.status.specs.Drives.{driveOf, withDrive, reported}
+use Rattle.status.specs.declared.drives.Drive.{Drive}
 use Rattle.operations.specs.declared.operation.Operation.{Operation}
 use Rattle.operations.specs.declared.store.Store.{Store}
 use Rattle.link.specs.declared.state.Phase.{Phase}
@@ -18,7 +18,7 @@ use Rattle.link.specs.declared.state.Phase.the-variants.{Collecting, AckOffered
 use Rattle.link.specs.declared.state.Body.{Body}
 use Rattle.link.specs.declared.state.Action.the-variants.{Nothing}
 use Rattle.link.specs.declared.state.Turn.{Turn}
-use Rattle.link.specs.State.{setDrives, current, resetOf}
+use Rattle.link.specs.State.{resetOf}
 use Rattle.link.specs.Link.{goAnswered, goTaken, goRefused}
 use Rattle.link.specs.Loads.{loaded}
 use Rattle.link.specs.Damaged.{sound}
@@ -29,7 +29,7 @@ use Rattle.controller.specs.declared.controller.Reply.{Reply}
 use Rattle.controller.specs.Controller.{carried, refused}
 use Rattle.controller.specs.Stores.{storeOf, carriedOut}
 use Rattle.controller.specs.Records.{Answer, dataDone, resultDone}
-use Rattle.controller.specs.Machine.{unchanged, byteIn, brokenIn, tickIn, byteCall, brokenCall, tickCall, takenBody, takenIn, takenCall, reportCall, resetCall, dataFor, dataIn, dataCall, resultFor, resultIn, resultCall, Call, Exchange, plain, step}
+use Rattle.controller.specs.Machine.{unchanged, byteIn, brokenIn, tickIn, byteCall, brokenCall, tickCall, takenBody, takenIn, takenCall, reportNoted, reportCall, resetCall, dataFor, dataIn, dataCall, resultFor, resultIn, resultCall, Call, Exchange, plain, step}
 use Rattle.controller.specs.Machine.Call.{byte, taken, broken, report, hostData, result, tick, reset}
 use Rattle.controller.proofs.Resting.{Free, NoOrder, Rests, idle-rests, given-up-rests, byte-rests, send-rests, completed-rests, tick-rests, loaded-rests}
 
@@ -63,18 +63,13 @@ SaysNo (result r space check) = ⊥
 SaysNo tick = ⊥
 SaysNo reset = ⊥
 
--- a report is noted
-abbrev pub reportNoted : Controller → ℕ → ℕ → Turn
-reportNoted c n r =
-    record {
-      body = setDrives (c .body) (withDrive (c .body .drives) n (reported (driveOf (c .body .drives) n) r));
-      phase = c .phase;
-      action = Nothing;
-    }
+-- a refused call
+abbrev pub Refusals : (Controller → Exchange → Type 0) → Type 0
+Refusals P =
+    (c : Controller) (call : Call) (number : ℕ) (space check : List ℕ) → eqb number 0 ≡ false → P c (exchanged call (unchanged number c space check))
 
 pub record Kinds (P : Controller → Exchange → Type 0) : Type 0 where
-  pub refusal :
-      (c : Controller) (call : Call) (number : ℕ) (space check : List ℕ) → eqb number 0 ≡ false → P c (exchanged call (unchanged number c space check))
+  pub refusal : Refusals P
   pub talk : (c : Controller) (call : Call) (t : Turn) → Talk c call → Rests (c .body) t → P c (exchanged call (plain (carried t)))
   pub store :
       (b : Body) → eqb (b .collected .c0) 0x62 ≡ false → P (stated b AckOffered) (exchanged taken (plain (carried (carriedOut b (storeOf (b .collected))))))
@@ -84,10 +79,32 @@ pub record Kinds (P : Controller → Exchange → Type 0) : Type 0 where
   pub staying :
       (b : Body) (held : Store) (call : Call) → SaysNo call → P (stated b (GoOffered held)) (exchanged call (plain (carried (goRefused b held))))
   pub writing :
-      (b : Body) (held : Store) (host space check : List ℕ) → P (stated b (DataAwaited held)) (exchanged (hostData host space check) (dataDone b (current b) held host space check))
+      (b : Body) (held : Store) (host space check : List ℕ) → P (stated b (DataAwaited held)) (exchanged (hostData host space check) (dataIn (stated b (DataAwaited held)) b host space check (DataAwaited held)))
   pub ending :
-      (b : Body) (operation : Operation) (held : Store) (r : Result) (space check : List ℕ) → P (stated b (ResultAwaited operation held)) (exchanged (result r space check) (resultDone b (current b) operation held r space check))
+      (b : Body) (operation : Operation) (held : Store) (r : Result) (space check : List ℕ) → P (stated b (ResultAwaited operation held)) (exchanged (result r space check) (resultIn (stated b (ResultAwaited operation held)) b r space check (ResultAwaited operation held)))
   pub resetting : (c : Controller) → P c (exchanged reset (plain (carried (resetOf (c .body)))))
+
+-- a data call and a result while they are awaited: refused, or done for the drive
+module _ (P : Controller → Exchange → Type 0) (refusal : Refusals P) (b : Body) (held : Store) (drive : Drive) where
+  module _ (host space check : List ℕ) where
+    abbrev writes : Answer → Type 0
+    writes answer = P (stated b (DataAwaited held)) (exchanged (hostData host space check) answer)
+
+    pub data-for : writes (dataDone b drive held host space check) → writes (dataFor (stated b (DataAwaited held)) b drive held host space check)
+    unfolding dataFor
+    data-for done =
+        pick-by writes (eqb (dataRefusal drive held (length space) (length check)) 0) (λ good. done)
+        (λ some. refusal (stated b (DataAwaited held)) _ _ space check some)
+
+  module _ (operation : Operation) (r : Result) (space check : List ℕ) where
+    abbrev ends : Answer → Type 0
+    ends answer = P (stated b (ResultAwaited operation held)) (exchanged (result r space check) answer)
+
+    pub result-for : ends (resultDone b drive operation held r space check) → ends (resultFor (stated b (ResultAwaited operation held)) b drive operation held r space check)
+    unfolding resultFor
+    result-for done =
+        pick-by ends (eqb (resultRefusal drive operation r (length check)) 0) (λ good. done)
+        (λ some. refusal (stated b (ResultAwaited operation held)) _ _ space check some)
 
 -- ---- each call is of these kinds
 
@@ -144,10 +161,8 @@ module _ (P : Controller → Exchange → Type 0) (kinds : Kinds P) where
 
     module _ (host space check : List ℕ) where
       data-in : (phase : Phase) → P (stated b phase) (exchanged (hostData host space check) (dataIn (stated b phase) b host space check phase))
-      unfolding dataIn dataFor
-      data-in (DataAwaited held) =
-          pick-by (λ (a : Answer). P (stated b (DataAwaited held)) (exchanged (hostData host space check) a)) (eqb (dataRefusal (current b) held (length space) (length check)) 0)
-          (λ good. kinds .writing b held host space check) (λ some. kinds .refusal (stated b (DataAwaited held)) _ _ space check some)
+      unfolding dataIn
+      data-in (DataAwaited held) = kinds .writing b held host space check
       data-in Collecting = kinds .refusal (stated b Collecting) _ 3 space check refl
       data-in AckOffered = kinds .refusal (stated b AckOffered) _ 3 space check refl
       data-in (Sending s) = kinds .refusal (stated b (Sending s)) _ 3 space check refl
@@ -157,11 +172,8 @@ module _ (P : Controller → Exchange → Type 0) (kinds : Kinds P) where
 
     module _ (r : Result) (space check : List ℕ) where
       result-in : (phase : Phase) → P (stated b phase) (exchanged (result r space check) (resultIn (stated b phase) b r space check phase))
-      unfolding resultIn resultFor
-      result-in (ResultAwaited operation held) =
-          pick-by (λ (a : Answer). P (stated b (ResultAwaited operation held)) (exchanged (result r space check) a))
-          (eqb (resultRefusal (current b) operation r (length check)) 0) (λ good. kinds .ending b operation held r space check)
-          (λ some. kinds .refusal (stated b (ResultAwaited operation held)) _ _ space check some)
+      unfolding resultIn
+      result-in (ResultAwaited operation held) = kinds .ending b operation held r space check
       result-in Collecting = kinds .refusal (stated b Collecting) _ 3 space check refl
       result-in AckOffered = kinds .refusal (stated b AckOffered) _ 3 space check refl
       result-in (Sending s) = kinds .refusal (stated b (Sending s)) _ 3 space check refl

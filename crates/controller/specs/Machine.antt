@@ -88,18 +88,19 @@ takenIn c b (EndOffered interrupt) = refused 2 c
 unfoldable pub takenCall : Controller → Reply
 takenCall c = pick (sound (c .body) (c .phase)) (takenIn c (c .body) (c .phase)) (refused 1 c)
 
--- "5 drive above 3"
-unfoldable pub reportCall : Controller → ℕ → ℕ → Reply
-reportCall c drive report =
-    pick (sound (c .body) (c .phase))
-    (pick (leb 4 drive) (refused 5 c)
-    (carried
-    (record {
+-- a report is noted, in any phase
+unfoldable pub reportNoted : Controller → ℕ → ℕ → Turn
+reportNoted c drive report =
+    record {
       body = setDrives (c .body) (withDrive (c .body .drives) drive (reported (driveOf (c .body .drives) drive) report));
       phase = c .phase;
       action = Nothing;
-    })))
-    (refused 1 c)
+    }
+
+-- "5 drive above 3"
+unfoldable pub reportCall : Controller → ℕ → ℕ → Reply
+reportCall c drive report =
+    pick (sound (c .body) (c .phase)) (pick (leb 4 drive) (refused 5 c) (carried (reportNoted c drive report))) (refused 1 c)
 
 unfoldable pub resetCall : Controller → Reply
 resetCall c = pick (sound (c .body) (c .phase)) (carried (resetOf (c .body))) (refused 1 c)

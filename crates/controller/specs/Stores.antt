@@ -2,6 +2,7 @@
 -- else select it; decode; test. A code here ends the store with motion 00."
 -- Assumes nothing.
 use Prim.Native.Nat.{ℕ}
+use mathlib.Core.Bool.{Bool, _&&_}
 use lib.Dec.{leb, eqb}
 use Rattle.common.specs.Pick.{pick}
 use Rattle.operations.specs.declared.operation.Operation.{Operation}
@@ -92,7 +93,15 @@ decoded b store (Operate operation) = operated b operation store
 unfoldable pub cleared : Body → Body
 cleared b = setOutcome b noOutcome
 
+-- "a named drive above 3"
+unfoldable pub namesUnknown : Store → Bool
+namesUnknown store = namesDrive store && leb 4 (named store)
+
+-- "else select it": the drive that is named; without one, selection stays
+unfoldable pub selectedBy : Store → ℕ → ℕ
+selectedBy store selected = pick (namesDrive store) (named store) selected
+
 unfoldable pub carriedOut : Body → Store → Turn
 carriedOut b store =
-    pick (namesDrive store) (pick (leb 4 (named store)) (endedBy (cleared b) store 0x01) (decoded (setSelected (cleared b) (named store)) store (asked store)))
-    (decoded (cleared b) store (asked store))
+    pick (namesUnknown store) (endedBy (cleared b) store 0x01)
+    (decoded (setSelected (cleared b) (selectedBy store (b .selected))) store (asked store))

@@ -29,7 +29,7 @@ use status::strings::Six;
 use status::strings::order_of;
 use status::words::no_outcome;
 ghost use mathlib.Core.Path.{_≡_};
-ghost use Rattle.controller.specs.Stores.{storeOf, tracked, withDensity, motionOrder, pastTest, endedBy, settled, ordered, begun, operated, decoded, cleared, carriedOut};
+ghost use Rattle.controller.specs.Stores.{storeOf, tracked, withDensity, motionOrder, pastTest, endedBy, settled, ordered, begun, operated, decoded, cleared, namesUnknown, selectedBy, carriedOut};
 ghost use Rattle.controller.specs.Records.{ending};
 
 // The store that was collected.
@@ -239,21 +239,34 @@ fn clear_outcome(mut b: Body) -> Body
     b
 }
 
+// Whether a store names a drive above 3.
+fn names_unknown(store: Store) -> bool
+    ensures { λ r. ⌜ r ≡ namesUnknown store ⌝ }
+{
+    let names = names_drive(store);
+    let drive = named_drive(store);
+    if names { 4 <= drive } else { false }
+}
+
+// The drive that a store is for: the one that it names, or the one selected before.
+fn selected_by(store: Store, selected: u8) -> u8
+    ensures { λ r. ⌜ r ≡ selectedBy store selected ⌝ }
+{
+    let names = names_drive(store);
+    let drive = named_drive(store);
+    if names { drive } else { selected }
+}
+
 // A store is carried out: the drive that it names is selected first.
 pub fn carried_out(b: Body, store: Store) -> Turn
     ensures { λ r. ⌜ r ≡ carriedOut b store ⌝ }
 {
     let mut cleared = clear_outcome(b);
-    let asked = asked_for(store);
-    let names = names_drive(store);
-    if names {
-        let drive = named_drive(store);
-        let above = 4 <= drive;
-        if above {
-            return ended_by(cleared, store, 0x01);
-        }
-        cleared.selected = drive;
-        return decoded(cleared, store, asked);
+    let unknown = names_unknown(store);
+    if unknown {
+        return ended_by(cleared, store, 0x01);
     }
+    cleared.selected = selected_by(store, b.selected);
+    let asked = asked_for(store);
     decoded(cleared, store, asked)
 }

@@ -2,7 +2,7 @@
 -- Assumes nothing.
 use borrow.Author.Needs.{needs}
 use Rattle.common.specs.Pick.{pick}
-use Rattle.controller.specs.Machine.{reportCall}
+use Rattle.controller.specs.Machine.{reportNoted, reportCall}
 use Rattle.controller.proofs.controller.Controller.report.Statement.{statement}
 use Rattle.controller.proofs.controller.Controller.report.Tie as tie
 
@@ -13,7 +13,7 @@ refuse-requires : tie.Need-refuse-requires
 refuse-requires c κs = search needs
 
 returns : tie.Need-returns
-unfolding reportCall pick
+unfolding reportCall reportNoted pick
 returns c = simp (
   c .refuse .ensures,
   c .before .if2 .taken,
@@ -28,7 +28,7 @@ carried-requires : tie.Need-carried-requires
 carried-requires c κs = search needs
 
 returns-2 : tie.Need-returns-2
-unfolding reportCall pick
+unfolding reportCall reportNoted pick
 returns-2 c = simp (
   c .carried .ensures,
   c .before .put-report .ensures,
@@ -41,7 +41,7 @@ refuse-requires-2 : tie.Need-refuse-requires-2
 refuse-requires-2 c κs = search needs
 
 returns-3 : tie.Need-returns-3
-unfolding reportCall pick
+unfolding reportCall reportNoted pick
 returns-3 c = simp (
   c .refuse2 .ensures,
   c .before .if1 .left,
