@@ -2,19 +2,18 @@
 -- (`counts-are-own`, over the definitions).
 -- Assumes nothing.
 use mathlib.Core.Path.{_≡_, refl, sym, ap, ap₂, subst, subst₂, _∙_}
-use Prim.Native.Nat.{ℕ, _+_, _*_, _/_, _%_, _<_, _≤_}
+use Prim.Native.Nat.{ℕ, _+_, _*_, _/_, _%_}
 use native.Mathlib.Nat.{mod-lt, zero-lt-suc}
 use native.Mathlib.Omega.{arith}
-use mathlib.Core.Bool.{Bool, true, false, not, _&&_, _||_, true≢false, false≢true, and-false}
+use mathlib.Core.Bool.{Bool, true, false, not, _&&_, _||_, false≢true, and-false}
 use mathlib.Core.List.{List, [], _∷_}
 use lib.Arith.{digits-div, digits-mod}
-use lib.Dec.{leb, ltb, eqb}
+use lib.Dec.{ltb, eqb}
 use lib.ListN.{length}
 use borrow.Author.Tests.{eqb-true, not-true, not-false}
 use Rattle.common.specs.Pick.{pick}
 use Rattle.common.proofs.PickLaws.{by-test, both-hold, pick-by, pick-yes, pick-no, not-refused}
 use Rattle.marks.specs.Scan.{scanOf}
-use Rattle.records.specs.Count.{countOf}
 use Rattle.status.specs.declared.drives.Drive.{Drive}
 use Rattle.status.specs.declared.words.Outcome.{Outcome}
 use Rattle.status.specs.Words.{bit, noOutcome, primaryOf}
@@ -24,20 +23,20 @@ use Rattle.operations.specs.declared.decode.Decoded.{Decoded}
 use Rattle.operations.specs.declared.decode.Decoded.the-variants.{Reset, Code, Track, Enable, Density, Operate}
 use Rattle.operations.specs.declared.store.Store.{Store}
 use Rattle.operations.specs.Operation.{numberOf, moveOf}
-use Rattle.operations.specs.Store.{namesDrive, named, asked, heldCount}
+use Rattle.operations.specs.Store.{asked, heldCount}
 use Rattle.operations.specs.Test.{mayMove}
 use Rattle.link.specs.declared.state.Phase.{Phase}
 use Rattle.link.specs.declared.state.Phase.the-variants.{Collecting, AckOffered, Sending, GoOffered, DataAwaited, ResultAwaited, EndOffered}
 use Rattle.link.specs.declared.state.Body.{Body}
 use Rattle.link.specs.declared.state.Turn.{Turn}
-use Rattle.link.specs.State.{startBody, setSelected, setFlags, setOutcome, setCurrent, current, resetOf}
+use Rattle.link.specs.State.{startBody, setFlags, setOutcome, setCurrent, current, resetOf}
 use Rattle.link.specs.Completion.{primaryNow}
 use Rattle.link.specs.Link.{goTaken, goRefused}
 use Rattle.transfers.specs.Data.{isGcr, runsShort, withUnderflow}
-use Rattle.transfers.specs.Results.{Result, isGone, usesImage, scanCode, finalCode, wroteWell, delivered, resultSecondary, resultBits, withRetry}
+use Rattle.transfers.specs.Results.{Result, isGone, usesImage, scanCode, finalCode, wroteWell, resultSecondary, resultBits, withRetry}
 use Rattle.controller.specs.declared.controller.Controller.{Controller}
 use Rattle.controller.specs.Controller.{fresh, carried}
-use Rattle.controller.specs.Stores.{storeOf, endedBy, tracked, withDensity, pastTest, ordered, begun, operated, decoded, cleared, namesUnknown, carriedOut}
+use Rattle.controller.specs.Stores.{storeOf, tracked, withDensity, pastTest, ordered, begun, operated, decoded, cleared, namesUnknown, carriedOut}
 use Rattle.controller.specs.Records.{zeroedWords, dataDone, resultBody, resultGiven, resultDone}
 use Rattle.controller.specs.Machine.{unchanged, reportNoted, dataIn, resultIn, Call, Exchange, plain, step, run}
 use Rattle.controller.specs.Machine.Call.{byte, taken, broken, report, hostData, result, tick, reset}

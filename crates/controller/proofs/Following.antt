@@ -21,7 +21,7 @@ use Rattle.operations.specs.Test.{mayMove}
 use Rattle.records.specs.Image.{imageOf}
 use Rattle.status.specs.declared.drives.Drive.{Drive}
 use Rattle.status.specs.declared.drives.Drives.{Drives}
-use Rattle.status.specs.Drives.{reports, driveOf, withDrive, reported, copied}
+use Rattle.status.specs.Drives.{reports, driveOf, reported, copied}
 use Rattle.status.specs.Strings.{orderOf}
 use Rattle.status.proofs.DriveLaws.{put-same, put-other}
 use Rattle.operations.specs.declared.store.Store.{Store}
@@ -32,7 +32,7 @@ use Rattle.controller.specs.declared.controller.Controller.{Controller}
 use Rattle.link.specs.declared.state.Action.{Action}
 use Rattle.link.specs.declared.state.Action.the-variants.{Nothing, Byte, Text, Order}
 use Rattle.link.specs.declared.state.Turn.{Turn}
-use Rattle.link.specs.State.{setDrives, setSelected, setFlags, setOutcome, setCurrent, current}
+use Rattle.link.specs.State.{setSelected, setFlags, setOutcome, setCurrent, current}
 use Rattle.operations.specs.Store.{namesDrive, named, asked, thrownAway, heldCount}
 use Rattle.link.specs.Link.{goTaken, goRefused}
 use Rattle.controller.specs.Controller.{carried, refused}
@@ -41,7 +41,7 @@ use Rattle.transfers.specs.Data.{recordBytes, runsShort, withUnderflow, isGcr}
 use Rattle.transfers.specs.Results.{Result, withGap, resultDrive, finalCode, isGone, usesImage, delivered, fitting}
 use Rattle.controller.specs.Records.{resultGiven, zeroedWords, dataDone, resultBody, resultDone}
 use Rattle.controller.specs.Machine.{reportNoted, Call, Exchange, plain}
-use Rattle.controller.specs.Machine.Call.{byte, taken, broken, report, hostData, result}
+use Rattle.controller.specs.Machine.Call.{byte, taken, report, hostData, result}
 use Rattle.controller.specs.Lists.{notRefused, holdsStore}
 use Rattle.controller.specs.Separation.{Event, Output, isOf, isRead, storeEvent, awaitsGo, eventOf, eventsOf, ordersFor, bytesGiven, transferOf, outputsOf, asksReset, resets}
 use Rattle.controller.specs.Separation.Event.{reportCame, goAnswered, dataCame, resultCame}

@@ -4,7 +4,7 @@
 use mathlib.Core.Path.{_≡_, refl, sym, ap, ap₂, subst, _∙_}
 use Prim.Native.Nat.{ℕ, _≤_}
 use native.Mathlib.Omega.{arith}
-use mathlib.Core.Bool.{Bool, true, false, not, _&&_, and-true, and-false}
+use mathlib.Core.Bool.{Bool, true, false, not, _&&_, and-true}
 use mathlib.Core.List.{List, [], _∷_}
 use lib.Dec.{leb, eqb}
 use lib.ListN.{length}
@@ -34,7 +34,7 @@ use Rattle.link.specs.declared.state.Turn.{Turn}
 use Rattle.link.specs.State.{startBody, setDrives, setSelected, setFlags, setOutcome, setCurrent, current, resetOf}
 use Rattle.link.specs.Link.{goTaken, goRefused}
 use Rattle.transfers.specs.Data.{isGcr, runsShort, withUnderflow}
-use Rattle.transfers.specs.Results.{Result, movesTape, delivered, withGap, resultDrive}
+use Rattle.transfers.specs.Results.{Result, movesTape, withGap, resultDrive}
 use Rattle.controller.specs.declared.controller.Controller.{Controller}
 use Rattle.controller.specs.declared.controller.Reply.{Reply}
 use Rattle.controller.specs.Controller.{fresh, carried}
