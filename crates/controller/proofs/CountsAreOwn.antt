@@ -55,7 +55,8 @@ quarter false weight = refl
 
 -- the third byte by its last two bits: what is above them, bit 22, and the density
 third-byte :
-    (o : Outcome) (density : ℕ) → bit (o .parity) 128 + bit (o .overflow) 64 + bit (o .underflow) 32 + bit (o .wdl) 16 + bit (o .rdl) 8 + bit (o .supplied) 4 + bit false 2 + density % 2 ≡ ((bit (o .parity) 32 + bit (o .overflow) 16 + bit (o .underflow) 8 + bit (o .wdl) 4 + bit (o .rdl) 2 + bit (o .supplied) 1) * 2 + 0) * 2 + density % 2
+    (o : Outcome) (density : ℕ)
+    → bit (o .parity) 128 + bit (o .overflow) 64 + bit (o .underflow) 32 + bit (o .wdl) 16 + bit (o .rdl) 8 + bit (o .supplied) 4 + bit false 2 + density % 2 ≡ ((bit (o .parity) 32 + bit (o .overflow) 16 + bit (o .underflow) 8 + bit (o .wdl) 4 + bit (o .rdl) 2 + bit (o .supplied) 1) * 2 + 0) * 2 + density % 2
 unfolding bit pick
 third-byte o density =
     let parity = quarter (o .parity) 32 in
@@ -67,7 +68,10 @@ third-byte o density =
     omega arith
 
 -- it is clear where no count is marked as valid
-clear : (changed enable : Bool) (o : Outcome) (selected : ℕ) (drive : Drive) → o .counted ≡ false → bit22 (primaryOf changed enable o selected drive) ≡ false
+clear :
+    (changed enable : Bool) (o : Outcome) (selected : ℕ) (drive : Drive)
+    → o .counted ≡ false
+    → bit22 (primaryOf changed enable o selected drive) ≡ false
 unfolding bit22 primaryOf
 clear changed enable o selected drive none =
     let above = bit (o .parity) 32 + bit (o .overflow) 16 + bit (o .underflow) 8 + bit (o .wdl) 4 + bit (o .rdl) 2 + bit (o .supplied) 1 in
@@ -121,7 +125,10 @@ Keeps c x =
     (last : Store) (own : OwnRecord) → Kept last own (c .body) (c .phase) → Kept (lastStore last c x) (ownRecord (lastStore last c x) own c x) (x .answer .reply .controller .body) (x .answer .reply .controller .phase)
 
 rests-keep :
-    (last : Store) (own : OwnRecord) (b : Body) (t : Turn) → Rests b t → (b .outcome .counted ≡ true → own ≡ recordOf (b .secondary)) → Kept last own (t .body) (t .phase)
+    (last : Store) (own : OwnRecord) (b : Body) (t : Turn)
+    → Rests b t
+    → (b .outcome .counted ≡ true → own ≡ recordOf (b .secondary))
+    → Kept last own (t .body) (t .phase)
 rests-keep last own b t rests valid =
     record {
       hand = free-hand last _ (t .phase) (rests .free);
@@ -132,14 +139,21 @@ rests-keep last own b t rests valid =
 
 -- the last store and its record are as before
 kept :
-    (c : Controller) (x : Exchange) (last : Store) (own : OwnRecord) → carriesOut c x ≡ false → ownRecord last own c x ≡ own → Kept last own (x .answer .reply .controller .body) (x .answer .reply .controller .phase) → Kept (lastStore last c x) (ownRecord (lastStore last c x) own c x) (x .answer .reply .controller .body) (x .answer .reply .controller .phase)
+    (c : Controller) (x : Exchange) (last : Store) (own : OwnRecord)
+    → carriesOut c x ≡ false
+    → ownRecord last own c x ≡ own
+    → Kept last own (x .answer .reply .controller .body) (x .answer .reply .controller .phase)
+    → Kept (lastStore last c x) (ownRecord (lastStore last c x) own c x) (x .answer .reply .controller .body) (x .answer .reply .controller .phase)
 unfolding lastStore
 kept c x last own none same keeps =
     let next = x .answer .reply .controller in
     subst (λ (store : Store). Kept store (ownRecord store own c x) (next .body) (next .phase)) (sym (pick-no (storeOf (c .body .collected)) last none))
     (subst (λ (later : OwnRecord). Kept last later (next .body) (next .phase)) (sym same) keeps)
 
-refusal : (c : Controller) (call : Call) (number : ℕ) (space check : List ℕ) → eqb number 0 ≡ false → Keeps c (exchanged call (unchanged number c space check))
+refusal :
+    (c : Controller) (call : Call) (number : ℕ) (space check : List ℕ)
+    → eqb number 0 ≡ false
+    → Keeps c (exchanged call (unchanged number c space check))
 unfolding carriesOut notRefused ownRecord
 refusal c call number space check some last own before =
     kept c (exchanged call (unchanged number c space check)) last own
@@ -158,7 +172,10 @@ talk c (hostData host space check) t talks rests last own before = absurd talks
 talk c (result r space check) t talks rests last own before = absurd talks
 talk c reset t talks rests last own before = absurd talks
 
-staying : (b : Body) (held : Store) (call : Call) → SaysNo call → Keeps (stated b (GoOffered held)) (exchanged call (plain (carried (goRefused b held))))
+staying :
+    (b : Body) (held : Store) (call : Call)
+    → SaysNo call
+    → Keeps (stated b (GoOffered held)) (exchanged call (plain (carried (goRefused b held))))
 unfolding SaysNo lastStore carriesOut isTaken notRefused ownRecord recordAfter pick
 staying b held (byte value) refuses last own before = rests-keep last own b _ (go-refused-rests b held) (before .valid)
 staying b held broken refuses last own before = rests-keep last own b _ (go-refused-rests b held) (before .valid)
@@ -180,7 +197,10 @@ module _ (store : Store) where
   rests-open b t none rests = rests-keep store noRecord b t rests (none-valid _ _ none)
 
   begun-opens :
-      (b : Body) (operation : Operation) → b .outcome .counted ≡ false → asked store ≡ Operate operation → Kept store noRecord (begun (pastTest b operation) operation store .body) (begun (pastTest b operation) operation store .phase)
+      (b : Body) (operation : Operation)
+      → b .outcome .counted ≡ false
+      → asked store ≡ Operate operation
+      → Kept store noRecord (begun (pastTest b operation) operation store .body) (begun (pastTest b operation) operation store .phase)
   unfolding begun ordered pastTest pick InHand
   begun-opens b Read none asks = record { hand = record { same = refl; asks = asks; none = none }; valid = none-valid _ _ none }
   begun-opens b CheckBytes none asks = record { hand = record { same = refl; asks = asks; none = none }; valid = none-valid _ _ none }
@@ -195,7 +215,10 @@ module _ (store : Store) where
   begun-opens b WriteMark none asks = record { hand = record { same = refl; asks = asks; none = none }; valid = none-valid _ _ none }
 
   decoded-opens :
-      (b : Body) (decode : Decoded) → b .outcome .counted ≡ false → asked store ≡ decode → Kept store noRecord (decoded b store decode .body) (decoded b store decode .phase)
+      (b : Body) (decode : Decoded)
+      → b .outcome .counted ≡ false
+      → asked store ≡ decode
+      → Kept store noRecord (decoded b store decode .body) (decoded b store decode .phase)
   unfolding decoded operated resetOf startBody noOutcome InHand
   decoded-opens b Reset none asks = record { hand = tt; valid = none-valid false _ refl }
   decoded-opens b (Code code) none asks = rests-open b _ none (ended-rests b store code)
@@ -212,7 +235,10 @@ module _ (store : Store) where
       pick-by (λ (t : Turn). Kept store noRecord (t .body) (t .phase)) (namesUnknown store) (λ unknown. rests-open _ _ refl (ended-rests _ store 0x01))
       (λ drive. decoded-opens _ (asked store) refl refl)
 
-taking : (b : Body) → eqb (b .collected .c0) 0x62 ≡ false → Keeps (stated b AckOffered) (exchanged taken (plain (carried (carriedOut b (storeOf (b .collected))))))
+taking :
+    (b : Body)
+    → eqb (b .collected .c0) 0x62 ≡ false
+    → Keeps (stated b AckOffered) (exchanged taken (plain (carried (carriedOut b (storeOf (b .collected))))))
 unfolding lastStore carriesOut isTaken notRefused holdsStore ownRecord recordAfter pick
 taking b lead last own before =
     let store = storeOf (b .collected) in
@@ -224,7 +250,8 @@ taking b lead last own before =
 
 -- whatever drive is written
 written :
-    (b : Body) (held : Store) (drive : Drive) (host space check : List ℕ) → Keeps (stated b (DataAwaited held)) (exchanged (hostData host space check) (dataDone b drive held host space check))
+    (b : Body) (held : Store) (drive : Drive) (host space check : List ℕ)
+    → Keeps (stated b (DataAwaited held)) (exchanged (hostData host space check) (dataDone b drive held host space check))
 unfolding dataDone ordered withUnderflow zeroedWords lastStore carriesOut isTaken notRefused ownRecord recordAfter InHand pick
 written b held drive host space check last own before = zeroed (isGcr drive)
   where
@@ -236,7 +263,8 @@ written b held drive host space check last own before = zeroed (isGcr drive)
     zeroed false = record { hand = before .hand; valid = before .valid }
 
 writing :
-    (b : Body) (held : Store) (host space check : List ℕ) → Keeps (stated b (DataAwaited held)) (exchanged (hostData host space check) (dataIn (stated b (DataAwaited held)) b host space check (DataAwaited held)))
+    (b : Body) (held : Store) (host space check : List ℕ)
+    → Keeps (stated b (DataAwaited held)) (exchanged (hostData host space check) (dataIn (stated b (DataAwaited held)) b host space check (DataAwaited held)))
 unfolding dataIn
 writing b held host space check = data-for Keeps refusal b held _ host space check (written b held _ host space check)
 
@@ -256,7 +284,10 @@ writes-well SearchReverse code = refl
 writes-well WriteMark code = refl
 
 -- a result's code is 0 in the end only if the tape was there and the code was 0 at first
-final-zero : (drive : Drive) (operation : Operation) (r : Result) → finalCode drive operation r ≡ 0 → (isGone drive operation ≡ false) × (r .code ≡ 0)
+final-zero :
+    (drive : Drive) (operation : Operation) (r : Result)
+    → finalCode drive operation r ≡ 0
+    → (isGone drive operation ≡ false) × (r .code ≡ 0)
 unfolding finalCode scanCode
 final-zero drive operation r e =
     let (there, scanned) = not-refused (isGone drive operation) 0x07 (scanCode (r .marks) (r .code)) (λ e. omega arith) e in
@@ -293,7 +324,8 @@ module _ (drive : Drive) (operation : Operation) (last store : Store) (r : Resul
 
 -- whatever drive moved, and whatever bytes are delivered
 ended :
-    (b : Body) (operation : Operation) (held : Store) (drive : Drive) (r : Result) (bytes space check : List ℕ) → Keeps (stated b (ResultAwaited operation held)) (exchanged (result r space check) (resultGiven b drive operation held r bytes space check))
+    (b : Body) (operation : Operation) (held : Store) (drive : Drive) (r : Result) (bytes space check : List ℕ)
+    → Keeps (stated b (ResultAwaited operation held)) (exchanged (result r space check) (resultGiven b drive operation held r bytes space check))
 unfolding resultGiven resultBody resultBits withRetry lastStore carriesOut isTaken notRefused ownRecord recordAfter InHand pick
 ended b operation held drive r bytes space check last own before =
     let mine = before .hand in
@@ -302,7 +334,8 @@ ended b operation held drive r bytes space check last own before =
     (sym (ap (λ (t : Bool). t || (usesImage drive operation r || wroteWell operation (finalCode drive operation r))) (mine .none)) ∙ set))
 
 ending :
-    (b : Body) (operation : Operation) (held : Store) (r : Result) (space check : List ℕ) → Keeps (stated b (ResultAwaited operation held)) (exchanged (result r space check) (resultIn (stated b (ResultAwaited operation held)) b r space check (ResultAwaited operation held)))
+    (b : Body) (operation : Operation) (held : Store) (r : Result) (space check : List ℕ)
+    → Keeps (stated b (ResultAwaited operation held)) (exchanged (result r space check) (resultIn (stated b (ResultAwaited operation held)) b r space check (ResultAwaited operation held)))
 unfolding resultIn resultDone
 ending b operation held r space check = result-for Keeps refusal b held _ operation r space check (ended b operation held _ r _ space check)
 
@@ -323,7 +356,10 @@ keeps =
       resetting = λ c last own before. record { hand = tt; valid = λ set. absurd (false≢true set) };
     }
 
-own-from : (calls : List Call) (last : Store) (own : OwnRecord) (c : Controller) → Kept last own (c .body) (c .phase) → ValidFrom last own c (run c calls)
+own-from :
+    (calls : List Call) (last : Store) (own : OwnRecord) (c : Controller)
+    → Kept last own (c .body) (c .phase)
+    → ValidFrom last own c (run c calls)
 unfolding run ValidFrom Valid
 own-from [] last own c before = tt
 own-from (call ∷ calls) last own c before =

@@ -26,7 +26,8 @@ told-append v [] more = refl
 told-append v (event ∷ events) more = told-append (told v event) events more
 
 gives-append :
-    (d : ℕ) (v : View) (events more : List Event) → givesAll d v (events ++ more) ≡ givesAll d v events ++ givesAll d (toldAll v events) more
+    (d : ℕ) (v : View) (events more : List Event)
+    → givesAll d v (events ++ more) ≡ givesAll d v events ++ givesAll d (toldAll v events) more
 unfolding toldAll givesAll
 gives-append d v [] more = refl
 gives-append d v (event ∷ events) more =
@@ -41,7 +42,12 @@ record Determined (d : ℕ) (last : Store) (c : Controller) (xs : List Exchange)
   given : outputsFrom d last c xs ≡ givesAll d (viewOf d last c) (historyFrom d last c xs)
 
 determined :
-    (d : ℕ) → d ≤ 3 → (calls : List Call) (last : Store) (c : Controller) → InHand last (c .body .selected) (c .phase) → admittedFrom c (run c calls) ≡ true → Determined d last c (run c calls)
+    (d : ℕ)
+    → d ≤ 3
+    → (calls : List Call) (last : Store) (c : Controller)
+    → InHand last (c .body .selected) (c .phase)
+    → admittedFrom c (run c calls) ≡ true
+    → Determined d last c (run c calls)
 unfolding run after historyFrom outputsFrom admittedFrom toldAll givesAll
 determined d low [] last c held admits = record { drive = refl; given = refl }
 determined d low (call ∷ calls) last c held admitted =

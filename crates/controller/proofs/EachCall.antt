@@ -48,11 +48,18 @@ module _ (d : ℕ) (low : d ≤ 3) where
       (last : Store) → InHand last (c .body .selected) (c .phase) → admits c x ≡ true → Follows d (viewOf d last c) (lastStore last c x) c x
 
   -- a call that carries out no store
-  kept : (c : Controller) (x : Exchange) (last : Store) → carriesOut c x ≡ false → Follows d (viewOf d last c) last c x → Follows d (viewOf d last c) (lastStore last c x) c x
+  kept :
+      (c : Controller) (x : Exchange) (last : Store)
+      → carriesOut c x ≡ false
+      → Follows d (viewOf d last c) last c x
+      → Follows d (viewOf d last c) (lastStore last c x) c x
   unfolding lastStore
   kept c x last none = subst (λ (next : Store). Follows d (viewOf d last c) next c x) (sym (pick-no (storeOf (c .body .collected)) last none))
 
-  refusal : (c : Controller) (call : Call) (number : ℕ) (space check : List ℕ) → eqb number 0 ≡ false → Followed c (exchanged call (unchanged number c space check))
+  refusal :
+      (c : Controller) (call : Call) (number : ℕ) (space check : List ℕ)
+      → eqb number 0 ≡ false
+      → Followed c (exchanged call (unchanged number c space check))
   unfolding carriesOut notRefused
   refusal c call number space check some last held admitted =
       kept c _ last (ap (λ (t : Bool). isTaken call && (t && holdsStore c)) some ∙ and-false (isTaken call))
@@ -60,7 +67,12 @@ module _ (d : ℕ) (low : d ≤ 3) where
 
   -- with nothing in hand before and after, a call is no event of the drive
   rest-follows :
-      (c : Controller) (call : Call) (t : Turn) (last : Store) → Free (c .phase) → Rests (c .body) t → eventOf d last c call ≡ [] → transferOf d last [] call ≡ [] → Follows d (viewOf d last c) last c (exchanged call (plain (carried t)))
+      (c : Controller) (call : Call) (t : Turn) (last : Store)
+      → Free (c .phase)
+      → Rests (c .body) t
+      → eventOf d last c call ≡ []
+      → transferOf d last [] call ≡ []
+      → Follows d (viewOf d last c) last c (exchanged call (plain (carried t)))
   unfolding bytesGiven
   rest-follows c call t last free rests made nothing =
       passes-follows d last c _ _ made
@@ -84,7 +96,10 @@ module _ (d : ℕ) (low : d ≤ 3) where
   talk c (result r space check) t talks rests last held admitted = absurd talks
   talk c reset t talks rests last held admitted = absurd talks
 
-  store : (b : Body) → eqb (b .collected .c0) 0x62 ≡ false → Followed (stated b AckOffered) (exchanged taken (plain (carried (carriedOut b (storeOf (b .collected))))))
+  store :
+      (b : Body)
+      → eqb (b .collected .c0) 0x62 ≡ false
+      → Followed (stated b AckOffered) (exchanged taken (plain (carried (carriedOut b (storeOf (b .collected))))))
   unfolding lastStore carriesOut isTaken notRefused holdsStore admits Free
   store b lead last held admitted =
       let c = stated b AckOffered in
@@ -95,7 +110,10 @@ module _ (d : ℕ) (low : d ≤ 3) where
       subst (λ (next : Store). Follows d (viewOf d last c) next c x) (sym (pick-yes taking last holds))
       (subst (λ v. Follows d v taking c x) (sym (free-view d last c tt)) (carried-follows d low c taking holds names (not-true (resets taking) keeps)))
 
-  staying : (b : Body) (held : Store) (call : Call) → SaysNo call → Followed (stated b (GoOffered held)) (exchanged call (plain (carried (goRefused b held))))
+  staying :
+      (b : Body) (held : Store) (call : Call)
+      → SaysNo call
+      → Followed (stated b (GoOffered held)) (exchanged call (plain (carried (goRefused b held))))
   unfolding SaysNo InHand eventOf awaitsGo transferOf lastStore carriesOut isTaken pick
   staying b held (byte value) refuses last mine admitted = go-refused-follows d low last b held (byte value) (eqb value 0x06) refl refl refuses
   staying b held broken refuses last mine admitted = go-refused-follows d low last b held broken false refl refl refl
@@ -107,13 +125,15 @@ module _ (d : ℕ) (low : d ≤ 3) where
   staying b held reset refuses last mine admitted = absurd refuses
 
   writing :
-      (b : Body) (held : Store) (host space check : List ℕ) → Followed (stated b (DataAwaited held)) (exchanged (hostData host space check) (dataIn (stated b (DataAwaited held)) b host space check (DataAwaited held)))
+      (b : Body) (held : Store) (host space check : List ℕ)
+      → Followed (stated b (DataAwaited held)) (exchanged (hostData host space check) (dataIn (stated b (DataAwaited held)) b host space check (DataAwaited held)))
   unfolding dataIn InHand lastStore carriesOut isTaken pick
   writing b held host space check =
       data-for Followed refusal b held _ host space check (λ last mine admitted. data-follows d last b held host space check mine)
 
   ending :
-      (b : Body) (operation : Operation) (held : Store) (r : Result) (space check : List ℕ) → Followed (stated b (ResultAwaited operation held)) (exchanged (result r space check) (resultIn (stated b (ResultAwaited operation held)) b r space check (ResultAwaited operation held)))
+      (b : Body) (operation : Operation) (held : Store) (r : Result) (space check : List ℕ)
+      → Followed (stated b (ResultAwaited operation held)) (exchanged (result r space check) (resultIn (stated b (ResultAwaited operation held)) b r space check (ResultAwaited operation held)))
   unfolding resultIn InHand lastStore carriesOut isTaken pick
   ending b operation held r space check =
       result-for Followed refusal b held _ operation r space check (λ last mine admitted. result-follows d low last b operation held r space check mine)

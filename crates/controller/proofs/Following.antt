@@ -113,7 +113,11 @@ free-view d last c free =
     (ap (λ (hand : Hand). pick (isOf d last) hand empty) (free-hand (c .phase) free) ∙ pick-both (isOf d last) empty)
 
 pub rests-view :
-    (d : ℕ) → d ≤ 3 → (last : Store) (b : Body) (t : Turn) → Rests b t → viewOf d last (carried t .controller) ≡ resting (seen d b)
+    (d : ℕ)
+    → d ≤ 3
+    → (last : Store) (b : Body) (t : Turn)
+    → Rests b t
+    → viewOf d last (carried t .controller) ≡ resting (seen d b)
 rests-view d low last b t rests = free-view d last (carried t .controller) (rests .free) ∙ ap resting (rests .same .drive d low)
 
 -- no order at all is none for the drive
@@ -135,7 +139,10 @@ pub record Follows (d : ℕ) (v : View) (store : Store) (c : Controller) (x : Ex
 module _ (d : ℕ) (store : Store) (c : Controller) (call : Call) where
   -- a refused call: nothing moves
   pub refused-follows :
-      (number bytes : ℕ) (space check : List ℕ) → eqb number 0 ≡ false → InHand store (c .body .selected) (c .phase) → Follows d (viewOf d store c) store c (record { call = call; answer = record { reply = refused number c; bytes = bytes; space = space; check = check } })
+      (number bytes : ℕ) (space check : List ℕ)
+      → eqb number 0 ≡ false
+      → InHand store (c .body .selected) (c .phase)
+      → Follows d (viewOf d store c) store c (record { call = call; answer = record { reply = refused number c; bytes = bytes; space = space; check = check } })
   unfolding eventsOf outputsOf notRefused toldAll givesAll ordersFor
   refused-follows number bytes space check refusal held =
       let none = pick-no (eventOf d store c call) [] refusal in
@@ -175,7 +182,12 @@ module _ (d : ℕ) (store : Store) (c : Controller) (v : View) (x : Exchange) wh
       }
 
   -- a call that is one
-  does-follows : (event : Event) → eventOf d store c (x .call) ≡ event ∷ [] → Does d v event store x → HeldBy store x → Follows d v store c x
+  does-follows :
+      (event : Event)
+      → eventOf d store c (x .call) ≡ event ∷ []
+      → Does d v event store x
+      → HeldBy store x
+      → Follows d v store c x
   unfolding eventsOf outputsOf notRefused toldAll givesAll
   does-follows event made does held =
       let test = eq-eqb (x .answer .reply .refusal) 0 (does .done) in
@@ -190,7 +202,12 @@ module _ (d : ℕ) (store : Store) (c : Controller) (v : View) (x : Exchange) wh
 
   -- a call that is one if its store is the drive's own
   owned-follows :
-      (event : Event) → eventOf d store c (x .call) ≡ pick (isOf d store) (event ∷ []) [] → (isOf d store ≡ true → Does d v event store x) → (isOf d store ≡ false → Passes d v store x) → HeldBy store x → Follows d v store c x
+      (event : Event)
+      → eventOf d store c (x .call) ≡ pick (isOf d store) (event ∷ []) []
+      → (isOf d store ≡ true → Does d v event store x)
+      → (isOf d store ≡ false → Passes d v store x)
+      → HeldBy store x
+      → Follows d v store c x
   owned-follows event made own other held =
       by-test (isOf d store) (λ yes. does-follows event (made ∙ pick-yes (event ∷ []) [] yes) (own yes) held)
       (λ no. passes-follows (made ∙ pick-no (event ∷ []) [] no) (other no) held)
@@ -219,14 +236,19 @@ module _ (d : ℕ) (low : d ≤ 3) (b : Body) (t : Turn) (rests : Rests b t) whe
       }
 
 choose-start :
-    (d : ℕ) (may : Bool) (drive : Drive) (hand : Hand) (out : List Output) (t other : Turn) → Starts d (record { drive = drive; hand = hand }) out t → Starts d (resting drive) [] other → Starts d (record { drive = drive; hand = pick may hand empty }) (pick may out []) (pick may t other)
+    (d : ℕ) (may : Bool) (drive : Drive) (hand : Hand) (out : List Output) (t other : Turn)
+    → Starts d (record { drive = drive; hand = hand }) out t
+    → Starts d (resting drive) [] other
+    → Starts d (record { drive = drive; hand = pick may hand empty }) (pick may out []) (pick may t other)
 unfolding pick
 choose-start d true drive hand out t other moves ends = moves
 choose-start d false drive hand out t other moves ends = ends
 
 -- an order is given to the drive whose number it bears
 order-own :
-    (d : ℕ) (drives : Drives) (n code third fourth : ℕ) → n ≡ d → ordersFor d (Order (orderOf code n (driveOf drives n .track) (driveOf drives n .density) third fourth)) ≡ motion (orderOf code d (driveOf drives d .track) (driveOf drives d .density) third fourth) ∷ []
+    (d : ℕ) (drives : Drives) (n code third fourth : ℕ)
+    → n ≡ d
+    → ordersFor d (Order (orderOf code n (driveOf drives n .track) (driveOf drives n .density) third fourth)) ≡ motion (orderOf code d (driveOf drives d .track) (driveOf drives d .density) third fourth) ∷ []
 unfolding ordersFor orderOf
 order-own d drives n code third fourth e =
     subst
@@ -235,7 +257,9 @@ order-own d drives n code third fourth e =
 
 module _ (d : ℕ) (store : Store) where
   ordered-own :
-      (b : Body) (operation : Operation) → b .selected ≡ d → Starts d (record { drive = seen d b; hand = resultAwaited operation (bare store) }) (motion (orderOf (orderByte operation) d (seen d b .track) (seen d b .density) (store .third) (store .fourth)) ∷ []) (ordered b operation store)
+      (b : Body) (operation : Operation)
+      → b .selected ≡ d
+      → Starts d (record { drive = seen d b; hand = resultAwaited operation (bare store) }) (motion (orderOf (orderByte operation) d (seen d b .track) (seen d b .density) (store .third) (store .fourth)) ∷ []) (ordered b operation store)
   unfolding ordered motionOrder handIn
   ordered-own b operation e =
       record { view = refl; given = order-own d (b .drives) (b .selected) (orderByte operation) (store .third) (store .fourth) e }
@@ -246,7 +270,8 @@ module _ (d : ℕ) (store : Store) where
 
   module _ (b : Body) (n : ℕ) where
     begun-own :
-        n ≡ d → (operation : Operation) → Starts d (record { drive = seen d b; hand = handFor operation (bare store) }) (firstOrder d (seen d b) (bare store) operation) (begun (pastTest (setSelected b n) operation) operation store)
+        n ≡ d → (operation : Operation)
+        → Starts d (record { drive = seen d b; hand = handFor operation (bare store) }) (firstOrder d (seen d b) (bare store) operation) (begun (pastTest (setSelected b n) operation) operation store)
     unfolding begun pastTest pick handFor firstOrder handIn ordersFor
     begun-own e Write = record { view = refl; given = refl }
     begun-own e CheckBytes = record { view = refl; given = refl }
@@ -275,7 +300,9 @@ module _ (d : ℕ) (store : Store) where
     begun-other other WriteMark = ordered-other (setSelected b n) WriteMark other
 
     begun-held :
-        (operation : Operation) → Held store n operation store → InHand store (begun (pastTest (setSelected b n) operation) operation store .body .selected) (begun (pastTest (setSelected b n) operation) operation store .phase)
+        (operation : Operation)
+        → Held store n operation store
+        → InHand store (begun (pastTest (setSelected b n) operation) operation store .body .selected) (begun (pastTest (setSelected b n) operation) operation store .phase)
     unfolding begun pastTest pick ordered InHand
     begun-held Write held = held
     begun-held CheckBytes held = held
@@ -295,12 +322,18 @@ unfolding tracked pick
 tracked-seen drive track = same (eqb (drive .track) track)
   where
     same :
-        (t : Bool) → copied (pick t drive (record { report = drive .report; reviewed = drive .reviewed; track = track; density = drive .density; gap = pick (reports (drive .report) 1) 0 3 })) ≡ copied (pick t (copied drive) (record { report = drive .report; reviewed = drive .report; track = track; density = drive .density; gap = pick (reports (drive .report) 1) 0 3 }))
+        (t : Bool)
+        → copied (pick t drive (record { report = drive .report; reviewed = drive .reviewed; track = track; density = drive .density; gap = pick (reports (drive .report) 1) 0 3 })) ≡ copied (pick t (copied drive) (record { report = drive .report; reviewed = drive .report; track = track; density = drive .density; gap = pick (reports (drive .report) 1) 0 3 }))
     same true = refl
     same false = refl
 
 -- the record that is set is the selected drive's
-set-own : (d : ℕ) → d ≤ 3 → (b : Body) (n : ℕ) (set : Drive → Drive) → n ≡ d → seen d (setCurrent (setSelected b n) (set (driveOf (b .drives) n))) ≡ copied (set (driveOf (b .drives) d))
+set-own :
+    (d : ℕ)
+    → d ≤ 3
+    → (b : Body) (n : ℕ) (set : Drive → Drive)
+    → n ≡ d
+    → seen d (setCurrent (setSelected b n) (set (driveOf (b .drives) n))) ≡ copied (set (driveOf (b .drives) d))
 set-own d low b n set e =
     subst (λ (m : ℕ). seen d (setCurrent (setSelected b m) (set (driveOf (b .drives) m))) ≡ copied (set (driveOf (b .drives) d))) (sym e)
     (ap (λ (x : Drive). copied x) (put-same (b .drives) (set (driveOf (b .drives) d)) d low))
@@ -313,7 +346,9 @@ module _ (d : ℕ) (low : d ≤ 3) (store : Store) (b : Body) (n : ℕ) where
   selecting = setSelected b n
 
   decoded-own :
-      n ≡ d → (decode : Decoded) → asksReset decode ≡ false → Starts d (begins (seen d b) (bare store) decode) (givenAtStore d (seen d b) (bare store) decode) (decoded selecting store decode)
+      n ≡ d → (decode : Decoded)
+      → asksReset decode ≡ false
+      → Starts d (begins (seen d b) (bare store) decode) (givenAtStore d (seen d b) (bare store) decode) (decoded selecting store decode)
   unfolding decoded begins givenAtStore asksReset operated withDensity
   decoded-own e Reset keeps = absurd (true≢false keeps)
   decoded-own e (Code code) keeps = rests-start d low _ _ (ended-rests selecting store code)
@@ -352,7 +387,10 @@ module _ (d : ℕ) (low : d ≤ 3) (store : Store) (b : Body) (n : ℕ) where
       (λ not. rests-leave d low _ _ (ended-rests selecting store 0x04))
 
   decoded-held :
-      (decode : Decoded) → asksReset decode ≡ false → ((operation : Operation) → decode ≡ Operate operation → Held store n operation store) → InHand store (decoded selecting store decode .body .selected) (decoded selecting store decode .phase)
+      (decode : Decoded)
+      → asksReset decode ≡ false
+      → ((operation : Operation) → decode ≡ Operate operation → Held store n operation store)
+      → InHand store (decoded selecting store decode .body .selected) (decoded selecting store decode .phase)
   unfolding decoded asksReset operated
   decoded-held Reset keeps held = absurd (true≢false keeps)
   decoded-held (Code code) keeps held = free-held store _ _ (ended-rests selecting store code .free)
@@ -386,7 +424,10 @@ other-number d store names other = eqb-false (named store) d (subst (λ (t : Boo
 
 -- ---- taken
 
-carried-event : (d : ℕ) (store : Store) (c : Controller) → holdsStore c ≡ true → eventOf d store c taken ≡ pick (isOf d store) (storeEvent store ∷ []) []
+carried-event :
+    (d : ℕ) (store : Store) (c : Controller)
+    → holdsStore c ≡ true
+    → eventOf d store c taken ≡ pick (isOf d store) (storeEvent store ∷ []) []
 unfolding eventOf
 carried-event d store c holds = ap (λ (t : Bool). pick (t && isOf d store) (storeEvent store ∷ []) []) holds
 
@@ -409,7 +450,10 @@ module _ (d : ℕ) (low : d ≤ 3) (c : Controller) (store : Store) (holds : hol
       })
       (free-held store _ _ (rests .free))
 
-  decoded-follows : named store ≤ 3 → asksReset (asked store) ≡ false → answered (decoded (setSelected (cleared (c .body)) (named store)) store (asked store))
+  decoded-follows :
+      named store ≤ 3
+      → asksReset (asked store) ≡ false
+      → answered (decoded (setSelected (cleared (c .body)) (named store)) store (asked store))
   unfolding cleared transferOf told gives storeEvent asked
   decoded-follows within keeps =
       let b = cleared (c .body) in
@@ -424,7 +468,11 @@ module _ (d : ℕ) (low : d ≤ 3) (c : Controller) (store : Store) (holds : hol
 
   -- the drive is named
   choose-follows :
-      (naming above : Bool) (ended : Turn) (turned : ℕ → Turn) (selected : ℕ) → naming ≡ true → (above ≡ true → answered ended) → (above ≡ false → answered (turned (named store))) → answered (pick (naming && above) ended (turned (pick naming (named store) selected)))
+      (naming above : Bool) (ended : Turn) (turned : ℕ → Turn) (selected : ℕ)
+      → naming ≡ true
+      → (above ≡ true → answered ended)
+      → (above ≡ false → answered (turned (named store)))
+      → answered (pick (naming && above) ended (turned (pick naming (named store) selected)))
   unfolding pick
   choose-follows true true ended turned selected e ends turns = ends refl
   choose-follows true false ended turned selected e ends turns = turns refl
@@ -441,7 +489,9 @@ module _ (d : ℕ) (low : d ≤ 3) (c : Controller) (store : Store) (holds : hol
 
 module _ (d : ℕ) (low : d ≤ 3) (last : Store) (c : Controller) (n r : ℕ) where
   pub report-follows :
-      n ≤ 3 → InHand last (c .body .selected) (c .phase) → Follows d (viewOf d last c) last c (record { call = report n r; answer = plain (carried (reportNoted c n r)) })
+      n ≤ 3
+      → InHand last (c .body .selected) (c .phase)
+      → Follows d (viewOf d last c) last c (record { call = report n r; answer = plain (carried (reportNoted c n r)) })
   unfolding reportNoted eventOf transferOf ordersFor told gives reported
   report-follows within held =
       by-test (eqb n d)
@@ -471,7 +521,10 @@ module _ (d : ℕ) (low : d ≤ 3) (last : Store) (b : Body) (store : Store) whe
   offered = record { body = b; phase = GoOffered store }
 
   pub go-taken-follows :
-      (value : ℕ) → eqb value 0x06 ≡ true → Held last (b .selected) Write store → Follows d (viewOf d last offered) last offered (record { call = byte value; answer = plain (carried (goTaken b store)) })
+      (value : ℕ)
+      → eqb value 0x06 ≡ true
+      → Held last (b .selected) Write store
+      → Follows d (viewOf d last offered) last offered (record { call = byte value; answer = plain (carried (goTaken b store)) })
   unfolding eventOf awaitsGo transferOf ordersFor told gives goTaken handIn handAfterGo InHand
   go-taken-follows value accepts held =
       owned-follows d last offered _ _ (goAnswered (eqb value 0x06)) refl
@@ -493,7 +546,11 @@ module _ (d : ℕ) (low : d ≤ 3) (last : Store) (b : Body) (store : Store) whe
 
   -- a no, by a byte or a broken link
   pub go-refused-follows :
-      (call : Call) (accepts : Bool) → eventOf d last offered call ≡ pick (isOf d last) (goAnswered accepts ∷ []) [] → transferOf d last [] call ≡ [] → accepts ≡ false → Follows d (viewOf d last offered) last offered (record { call = call; answer = plain (carried (goRefused b store)) })
+      (call : Call) (accepts : Bool)
+      → eventOf d last offered call ≡ pick (isOf d last) (goAnswered accepts ∷ []) []
+      → transferOf d last [] call ≡ []
+      → accepts ≡ false
+      → Follows d (viewOf d last offered) last offered (record { call = call; answer = plain (carried (goRefused b store)) })
   unfolding told gives handAfterGo bytesGiven
   go-refused-follows call accepts made nothing refuses =
       let rests = go-refused-rests b store in
@@ -516,7 +573,9 @@ module _ (d : ℕ) (last : Store) (b : Body) (store : Store) where
 
   -- the zeroing of the words concerns no drive
   write-own :
-      (zeroes : Bool) → b .selected ≡ d → Starts d writing (motion (orderOf (orderByte Write) d (seen d b .track) (seen d b .density) (store .third) (store .fourth)) ∷ []) (ordered (zeroedWords b zeroes) Write store)
+      (zeroes : Bool)
+      → b .selected ≡ d
+      → Starts d writing (motion (orderOf (orderByte Write) d (seen d b .track) (seen d b .density) (store .third) (store .fourth)) ∷ []) (ordered (zeroedWords b zeroes) Write store)
   unfolding zeroedWords pick
   write-own true e = ordered-own d store (zeroedWords b true) Write e
   write-own false e = ordered-own d store b Write e
@@ -536,7 +595,8 @@ module _ (d : ℕ) (last : Store) (b : Body) (store : Store) (host space check :
   awaiting = record { body = b; phase = DataAwaited store }
 
   pub data-follows :
-      Held last (b .selected) Write store → Follows d (viewOf d last awaiting) last awaiting (record { call = hostData host space check; answer = dataDone b (current b) store host space check })
+      Held last (b .selected) Write store
+      → Follows d (viewOf d last awaiting) last awaiting (record { call = hostData host space check; answer = dataDone b (current b) store host space check })
   unfolding eventOf transferOf bytesGiven told gives dataDone handIn handAfterData givenAtData recordBytes thrownAway heldCount InHand ordered
   data-follows held =
       let body = setOutcome b (withUnderflow (b .outcome) (runsShort store host)) in
@@ -571,7 +631,8 @@ module _ (d : ℕ) (last : Store) (b : Body) (store : Store) (host space check :
 
 -- a read's bytes depend on the drive's report and on nothing else of the state
 read-seen :
-    (operation : Operation) (drive : Drive) (r : Result) (check : List ℕ) (space : ℕ) → pick (eqb (numberOf operation) (numberOf Read)) (delivery (fitting (delivered drive operation r check) space) ∷ []) [] ≡ pick (eqb (numberOf operation) (numberOf Read)) (delivery (fitting (delivered (copied drive) operation r []) space) ∷ []) []
+    (operation : Operation) (drive : Drive) (r : Result) (check : List ℕ) (space : ℕ)
+    → pick (eqb (numberOf operation) (numberOf Read)) (delivery (fitting (delivered drive operation r check) space) ∷ []) [] ≡ pick (eqb (numberOf operation) (numberOf Read)) (delivery (fitting (delivered (copied drive) operation r []) space) ∷ []) []
 unfolding delivered usesImage isGone pick
 read-seen Read drive r check space = refl
 read-seen CheckBytes drive r check space = refl
@@ -590,7 +651,8 @@ module _ (d : ℕ) (low : d ≤ 3) (last : Store) (b : Body) (operation : Operat
   moving = record { body = b; phase = ResultAwaited operation store }
 
   pub result-follows :
-      Held last (b .selected) operation store → Follows d (viewOf d last moving) last moving (record { call = result r space check; answer = resultDone b (current b) operation store r space check })
+      Held last (b .selected) operation store
+      → Follows d (viewOf d last moving) last moving (record { call = result r space check; answer = resultDone b (current b) operation store r space check })
   unfolding eventOf transferOf bytesGiven told gives resultDone resultGiven resultBody resultDrive withGap finalCode isGone handIn driveAfterResult givenAtResult isRead
   result-follows held =
       let bytes = delivered (current b) operation r check in

@@ -89,7 +89,10 @@ free-owes a (DataAwaited store) free = absurd free
 free-owes a (ResultAwaited operation store) free = absurd free
 
 -- the controller's order is the account's
-same-order : (a : Account) (b : Body) (operation : Operation) (store : Store) → Agreeing a b → accounted a operation store ≡ motionOrder b operation store
+same-order :
+    (a : Account) (b : Body) (operation : Operation) (store : Store)
+    → Agreeing a b
+    → accounted a operation store ≡ motionOrder b operation store
 unfolding motionOrder
 same-order a b operation store agrees =
     let (selected, track, density) : ((b .selected ≡ a .selected) × (current b .track ≡ a .track (b .selected)) × (current b .density ≡ a .density (b .selected))) =
@@ -116,7 +119,11 @@ Paid c x =
     (a : Account) → Kept a (c .body) (c .phase) → Pays (noted a c x) (turnOf (x .answer .reply))
 
 -- no order, and so nothing to pay
-quiet-pays : (a : Account) (b : Body) (phase : Phase) (action : Action) → NoOrder action → Kept a b phase → Pays a (record { body = b; phase = phase; action = action })
+quiet-pays :
+    (a : Account) (b : Body) (phase : Phase) (action : Action)
+    → NoOrder action
+    → Kept a b phase
+    → Pays a (record { body = b; phase = phase; action = action })
 unfolding NoOrder Asked given
 quiet-pays a b phase Nothing none kept = record { asked = tt; kept = kept }
 quiet-pays a b phase (Byte value) none kept = record { asked = tt; kept = kept }
@@ -142,7 +149,10 @@ rests-pay a b t rests agrees =
 as-before : (c : Controller) (x : Exchange) (a : Account) (t : Turn) → noted a c x ≡ a → Pays a t → Pays (noted a c x) t
 as-before c x a t same = subst (λ (later : Account). Pays later t) (sym same)
 
-refusal : (c : Controller) (call : Call) (number : ℕ) (space check : List ℕ) → eqb number 0 ≡ false → Paid c (exchanged call (unchanged number c space check))
+refusal :
+    (c : Controller) (call : Call) (number : ℕ) (space check : List ℕ)
+    → eqb number 0 ≡ false
+    → Paid c (exchanged call (unchanged number c space check))
 unfolding noted notRefused NoOrder
 refusal c call number space check some a before =
     as-before c (exchanged call (unchanged number c space check)) a _ (pick-no (callNoted a c call) a some) (quiet-pays a (c .body) (c .phase) Nothing tt before)
@@ -160,7 +170,10 @@ talk c (hostData host space check) t talks rests a before = absurd talks
 talk c (result r space check) t talks rests a before = absurd talks
 talk c reset t talks rests a before = absurd talks
 
-staying : (b : Body) (held : Store) (call : Call) → SaysNo call → Paid (stated b (GoOffered held)) (exchanged call (plain (carried (goRefused b held))))
+staying :
+    (b : Body) (held : Store) (call : Call)
+    → SaysNo call
+    → Paid (stated b (GoOffered held)) (exchanged call (plain (carried (goRefused b held))))
 unfolding SaysNo noted notRefused callNoted pick
 staying b held (byte value) refuses a before = rests-pay a b _ (go-refused-rests b held) (before .agrees)
 staying b held broken refuses a before = rests-pay a b _ (go-refused-rests b held) (before .agrees)
@@ -184,7 +197,13 @@ entered-other entries n value d other = pick-no value (entries d) (ne-eqb d n ot
 
 -- where what is said of a drive and its record change alike, the two agree again
 put-agrees :
-    (a later : Account) (b : Body) (n : ℕ) (drive : Drive) → n ≤ 3 → later .selected ≡ a .selected → Agreeing a b → Matches (later .report n) (later .track n) (later .density n) drive → ((d : ℕ) → (d ≡ n → ⊥) → Matches (a .report d) (a .track d) (a .density d) (seen d b) → Matches (later .report d) (later .track d) (later .density d) (seen d b)) → Agreeing later (setDrives b (withDrive (b .drives) n drive))
+    (a later : Account) (b : Body) (n : ℕ) (drive : Drive)
+    → n ≤ 3
+    → later .selected ≡ a .selected
+    → Agreeing a b
+    → Matches (later .report n) (later .track n) (later .density n) drive
+    → ((d : ℕ) → (d ≡ n → ⊥) → Matches (a .report d) (a .track d) (a .density d) (seen d b) → Matches (later .report d) (later .track d) (later .density d) (seen d b))
+    → Agreeing later (setDrives b (withDrive (b .drives) n drive))
 put-agrees a later b n drive within selected agrees own others =
     record {
       selected = agrees .selected ∙ sym selected;
@@ -251,7 +270,11 @@ reset-pays a b agrees =
           };
     }
 
-ordered-pays : (a : Account) (b : Body) (operation : Operation) (store : Store) → a .owed ≡ accounted a operation store ∷ [] → Agreeing a b → Pays a (ordered b operation store)
+ordered-pays :
+    (a : Account) (b : Body) (operation : Operation) (store : Store)
+    → a .owed ≡ accounted a operation store ∷ []
+    → Agreeing a b
+    → Pays a (ordered b operation store)
 unfolding ordered Asked given Owes
 ordered-pays a b operation store owed agrees =
     record { asked = owed ∙ ap (λ (o : Six). o ∷ []) (same-order a b operation store agrees); kept = record { agrees = agrees; owes = tt } }
@@ -276,7 +299,9 @@ module _ (a : Account) (b : Body) (store : Store) (agrees : Agreeing (owing a (b
   begun-pays WriteMark = ordered-pays (owingOrder WriteMark) b WriteMark store refl agrees
 
   -- the test is that of the account's report
-  operated-pays : (operation : Operation) → Pays (owing a (b .selected) (orderAsked a (b .selected) operation store)) (operated b operation store)
+  operated-pays :
+      (operation : Operation)
+      → Pays (owing a (b .selected) (orderAsked a (b .selected) operation store)) (operated b operation store)
   unfolding operated orderAsked pick
   operated-pays operation =
       subst
@@ -285,7 +310,8 @@ module _ (a : Account) (b : Body) (store : Store) (agrees : Agreeing (owing a (b
       (by-may (mayMove (moveOf operation) (current b .report)))
     where
       by-may :
-          (may : Bool) → Pays (owing a (b .selected) (pick (movesTape (moveOf operation) && may) (accounted (owing a (b .selected) []) operation store ∷ []) [])) (pick may (begun (pastTest b operation) operation store) (endedBy b store 0x04))
+          (may : Bool)
+          → Pays (owing a (b .selected) (pick (movesTape (moveOf operation) && may) (accounted (owing a (b .selected) []) operation store ∷ []) [])) (pick may (begun (pastTest b operation) operation store) (endedBy b store 0x04))
       by-may true =
           subst (λ (moves : Bool). Pays (owing a (b .selected) (pick moves (accounted (owing a (b .selected) []) operation store ∷ []) [])) (begun (pastTest b operation) operation store))
           (sym (and-true (movesTape (moveOf operation)))) (begun-pays operation)
@@ -326,7 +352,12 @@ module _ (a : Account) (b : Body) (store : Store) (agrees : Agreeing (owing a (b
 
 -- the account and the controller select the same drive
 choose :
-    (a : Account) (store : Store) (names above : Bool) (ended turned : Turn) → leb 4 (named store) ≡ above → Pays (owing a (a .selected) []) ended → (pick names (named store) (a .selected) ≤ 3 → Pays (askedNoted a (pick names (named store) (a .selected)) store (asked store)) turned) → a .selected ≤ 3 → Pays (pick (names && above) (owing a (a .selected) []) (askedNoted a (pick names (named store) (a .selected)) store (asked store))) (pick (names && above) ended turned)
+    (a : Account) (store : Store) (names above : Bool) (ended turned : Turn)
+    → leb 4 (named store) ≡ above
+    → Pays (owing a (a .selected) []) ended
+    → (pick names (named store) (a .selected) ≤ 3 → Pays (askedNoted a (pick names (named store) (a .selected)) store (asked store)) turned)
+    → a .selected ≤ 3
+    → Pays (pick (names && above) (owing a (a .selected) []) (askedNoted a (pick names (named store) (a .selected)) store (asked store))) (pick (names && above) ended turned)
 unfolding pick
 choose a store true true ended turned e ends turns low = ends
 choose a store true false ended turned e ends turns low = let below = leb-false 4 (named store) e in turns (omega arith)
@@ -343,7 +374,10 @@ carried-pays a b store agrees =
     (decoded-pays a (setSelected (cleared b) (pick (namesDrive store) (named store) (a .selected))) store (record { selected = refl; low = low; drive = agrees .drive }) (asked store)))
     within
 
-taking : (b : Body) → eqb (b .collected .c0) 0x62 ≡ false → Paid (stated b AckOffered) (exchanged taken (plain (carried (carriedOut b (storeOf (b .collected))))))
+taking :
+    (b : Body)
+    → eqb (b .collected .c0) 0x62 ≡ false
+    → Paid (stated b AckOffered) (exchanged taken (plain (carried (carriedOut b (storeOf (b .collected))))))
 unfolding noted notRefused callNoted holdsStore pick
 taking b lead a before =
     let store = storeOf (b .collected) in
@@ -353,7 +387,8 @@ taking b lead a before =
 
 -- whatever drive's density the image has
 written :
-    (b : Body) (held : Store) (drive : Drive) (host space check : List ℕ) → Paid (stated b (DataAwaited held)) (exchanged (hostData host space check) (dataDone b drive held host space check))
+    (b : Body) (held : Store) (drive : Drive) (host space check : List ℕ)
+    → Paid (stated b (DataAwaited held)) (exchanged (hostData host space check) (dataDone b drive held host space check))
 unfolding dataDone zeroedWords noted notRefused callNoted Owes pick
 written b held drive host space check a before = zeroed (isGcr drive)
   where
@@ -365,13 +400,15 @@ written b held drive host space check a before = zeroed (isGcr drive)
     zeroed false = ordered-pays a later Write held (before .owes) (before .agrees)
 
 writing :
-    (b : Body) (held : Store) (host space check : List ℕ) → Paid (stated b (DataAwaited held)) (exchanged (hostData host space check) (dataIn (stated b (DataAwaited held)) b host space check (DataAwaited held)))
+    (b : Body) (held : Store) (host space check : List ℕ)
+    → Paid (stated b (DataAwaited held)) (exchanged (hostData host space check) (dataIn (stated b (DataAwaited held)) b host space check (DataAwaited held)))
 unfolding dataIn
 writing b held host space check = data-for Paid refusal b held _ host space check (written b held _ host space check)
 
 -- whatever bytes are delivered
 ended :
-    (b : Body) (operation : Operation) (held : Store) (r : Result) (bytes space check : List ℕ) → Paid (stated b (ResultAwaited operation held)) (exchanged (result r space check) (resultGiven b (current b) operation held r bytes space check))
+    (b : Body) (operation : Operation) (held : Store) (r : Result) (bytes space check : List ℕ)
+    → Paid (stated b (ResultAwaited operation held)) (exchanged (result r space check) (resultGiven b (current b) operation held r bytes space check))
 unfolding resultGiven resultBody resultDrive withGap noted notRefused callNoted pick
 ended b operation held r bytes space check a before =
     let agrees = before .agrees in
@@ -381,7 +418,8 @@ ended b operation held r bytes space check a before =
     (record { report = was .report; track = was .track; density = was .density }) (λ d other matches. matches))
 
 ending :
-    (b : Body) (operation : Operation) (held : Store) (r : Result) (space check : List ℕ) → Paid (stated b (ResultAwaited operation held)) (exchanged (result r space check) (resultIn (stated b (ResultAwaited operation held)) b r space check (ResultAwaited operation held)))
+    (b : Body) (operation : Operation) (held : Store) (r : Result) (space check : List ℕ)
+    → Paid (stated b (ResultAwaited operation held)) (exchanged (result r space check) (resultIn (stated b (ResultAwaited operation held)) b r space check (ResultAwaited operation held)))
 unfolding resultIn resultDone
 ending b operation held r space check = result-for Paid refusal b held _ operation r space check (ended b operation held r _ space check)
 

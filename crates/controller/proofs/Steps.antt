@@ -71,16 +71,24 @@ pub record Kinds (P : Controller → Exchange → Type 0) : Type 0 where
   pub refusal : Refusals P
   pub talk : (c : Controller) (call : Call) (t : Turn) → Talk c call → Rests (c .body) t → P c (exchanged call (plain (carried t)))
   pub store :
-      (b : Body) → eqb (b .collected .c0) 0x62 ≡ false → P (stated b AckOffered) (exchanged taken (plain (carried (carriedOut b (storeOf (b .collected))))))
+      (b : Body)
+      → eqb (b .collected .c0) 0x62 ≡ false
+      → P (stated b AckOffered) (exchanged taken (plain (carried (carriedOut b (storeOf (b .collected))))))
   pub reporting : (c : Controller) (n r : ℕ) → n ≤ 3 → P c (exchanged (report n r) (plain (carried (reportNoted c n r))))
   pub going :
-      (b : Body) (held : Store) (value : ℕ) → eqb value 0x06 ≡ true → P (stated b (GoOffered held)) (exchanged (byte value) (plain (carried (goTaken b held))))
+      (b : Body) (held : Store) (value : ℕ)
+      → eqb value 0x06 ≡ true
+      → P (stated b (GoOffered held)) (exchanged (byte value) (plain (carried (goTaken b held))))
   pub staying :
-      (b : Body) (held : Store) (call : Call) → SaysNo call → P (stated b (GoOffered held)) (exchanged call (plain (carried (goRefused b held))))
+      (b : Body) (held : Store) (call : Call)
+      → SaysNo call
+      → P (stated b (GoOffered held)) (exchanged call (plain (carried (goRefused b held))))
   pub writing :
-      (b : Body) (held : Store) (host space check : List ℕ) → P (stated b (DataAwaited held)) (exchanged (hostData host space check) (dataIn (stated b (DataAwaited held)) b host space check (DataAwaited held)))
+      (b : Body) (held : Store) (host space check : List ℕ)
+      → P (stated b (DataAwaited held)) (exchanged (hostData host space check) (dataIn (stated b (DataAwaited held)) b host space check (DataAwaited held)))
   pub ending :
-      (b : Body) (operation : Operation) (held : Store) (r : Result) (space check : List ℕ) → P (stated b (ResultAwaited operation held)) (exchanged (result r space check) (resultIn (stated b (ResultAwaited operation held)) b r space check (ResultAwaited operation held)))
+      (b : Body) (operation : Operation) (held : Store) (r : Result) (space check : List ℕ)
+      → P (stated b (ResultAwaited operation held)) (exchanged (result r space check) (resultIn (stated b (ResultAwaited operation held)) b r space check (ResultAwaited operation held)))
   pub resetting : (c : Controller) → P c (exchanged reset (plain (carried (resetOf (c .body)))))
 
 -- a data call and a result while they are awaited: refused, or done for the drive
@@ -89,7 +97,9 @@ module _ (P : Controller → Exchange → Type 0) (refusal : Refusals P) (b : Bo
     abbrev writes : Answer → Type 0
     writes answer = P (stated b (DataAwaited held)) (exchanged (hostData host space check) answer)
 
-    pub data-for : writes (dataDone b drive held host space check) → writes (dataFor (stated b (DataAwaited held)) b drive held host space check)
+    pub data-for :
+        writes (dataDone b drive held host space check)
+        → writes (dataFor (stated b (DataAwaited held)) b drive held host space check)
     unfolding dataFor
     data-for done =
         pick-by writes (eqb (dataRefusal drive held (length space) (length check)) 0) (λ good. done)
@@ -99,7 +109,9 @@ module _ (P : Controller → Exchange → Type 0) (refusal : Refusals P) (b : Bo
     abbrev ends : Answer → Type 0
     ends answer = P (stated b (ResultAwaited operation held)) (exchanged (result r space check) answer)
 
-    pub result-for : ends (resultDone b drive operation held r space check) → ends (resultFor (stated b (ResultAwaited operation held)) b drive operation held r space check)
+    pub result-for :
+        ends (resultDone b drive operation held r space check)
+        → ends (resultFor (stated b (ResultAwaited operation held)) b drive operation held r space check)
     unfolding resultFor
     result-for done =
         pick-by ends (eqb (resultRefusal drive operation r (length check)) 0) (λ good. done)
@@ -159,7 +171,9 @@ module _ (P : Controller → Exchange → Type 0) (kinds : Kinds P) where
     taken-in (EndOffered interrupt) = refuses (stated b (EndOffered interrupt)) _ 2 refl
 
     module _ (host space check : List ℕ) where
-      data-in : (phase : Phase) → P (stated b phase) (exchanged (hostData host space check) (dataIn (stated b phase) b host space check phase))
+      data-in :
+          (phase : Phase)
+          → P (stated b phase) (exchanged (hostData host space check) (dataIn (stated b phase) b host space check phase))
       unfolding dataIn
       data-in (DataAwaited held) = kinds .writing b held host space check
       data-in Collecting = kinds .refusal (stated b Collecting) _ 3 space check refl
@@ -181,7 +195,10 @@ module _ (P : Controller → Exchange → Type 0) (kinds : Kinds P) where
       result-in (EndOffered interrupt) = kinds .refusal (stated b (EndOffered interrupt)) _ 3 space check refl
 
   module _ (c : Controller) where
-    abbrev by-soundness : (call : Call) (r : Reply) → P c (exchanged call (plain r)) → P c (exchanged call (plain (pick (sound (c .body) (c .phase)) r (refused 1 c))))
+    abbrev by-soundness :
+        (call : Call) (r : Reply)
+        → P c (exchanged call (plain r))
+        → P c (exchanged call (plain (pick (sound (c .body) (c .phase)) r (refused 1 c))))
     by-soundness call r shown =
         pick-by (λ (r : Reply). P c (exchanged call (plain r))) (sound (c .body) (c .phase)) (λ sane. shown) (λ hurt. refuses c call 1 refl)
 
