@@ -31,7 +31,7 @@ use Rattle.link.specs.declared.state.Body.{Body}
 use Rattle.link.specs.declared.state.Turn.{Turn}
 use Rattle.link.specs.State.{startBody, setFlags, setOutcome, setCurrent, current, resetOf}
 use Rattle.link.specs.Completion.{primaryNow}
-use Rattle.link.specs.Link.{goTaken, goRefused}
+use Rattle.link.specs.Link.{goTaken}
 use Rattle.transfers.specs.Data.{isGcr, runsShort, withUnderflow}
 use Rattle.transfers.specs.Results.{Result, isGone, usesImage, scanCode, finalCode, wroteWell, resultSecondary, resultBits, withRetry}
 use Rattle.controller.specs.declared.controller.Controller.{Controller}
@@ -44,7 +44,7 @@ use Rattle.controller.specs.Lists.{notRefused, isTaken, holdsStore, carr
 use Rattle.controller.specs.Counts.{OwnRecord, isWrite, passedBy, recordAfter, ownRecord, bit22, Valid, ValidFrom, CountsAreOwn}
 use Rattle.controller.specs.Counts.OwnRecord.{noRecord, recordOf}
 use Rattle.controller.proofs.Resting.{Free, Rests, ended-rests, settled-rests, go-refused-rests, ending-rests}
-use Rattle.controller.proofs.Steps.{stated, exchanged, Talk, SaysNo, Kinds, data-for, result-for, by-step}
+use Rattle.controller.proofs.Steps.{stated, exchanged, Talk, SaysNo, OfRefusals, OfTalk, OfStores, OfNo, OfData, OfResults, Kinds, data-for, result-for, by-step}
 
 -- ---- bit 22 of the word
 
@@ -150,41 +150,35 @@ kept c x last own none same keeps =
     subst (λ (store : Store). Kept store (ownRecord store own c x) (next .body) (next .phase)) (sym (pick-no (storeOf (c .body .collected)) last none))
     (subst (λ (later : OwnRecord). Kept last later (next .body) (next .phase)) (sym same) keeps)
 
-refusal :
-    (c : Controller) (call : Call) (number : ℕ) (space check : List ℕ)
-    → eqb number 0 ≡ false
-    → Keeps c (exchanged call (unchanged number c space check))
+refusals-case : OfRefusals Keeps
 unfolding carriesOut notRefused ownRecord
-refusal c call number space check some last own before =
+refusals-case c call number space check some last own before =
     kept c (exchanged call (unchanged number c space check)) last own
     (ap (λ (t : Bool). isTaken call && (t && holdsStore c)) some ∙ and-false (isTaken call)) (pick-no (recordAfter last own c call) own some) before
 
-talk : (c : Controller) (call : Call) (t : Turn) → Talk c call → Rests (c .body) t → Keeps c (exchanged call (plain (carried t)))
+talk-case : OfTalk Keeps
 unfolding Talk lastStore carriesOut isTaken notRefused holdsStore ownRecord recordAfter pick
-talk c (byte value) t free rests last own before = rests-keep last own (c .body) t rests (before .valid)
-talk c broken t free rests last own before = rests-keep last own (c .body) t rests (before .valid)
-talk c tick t free rests last own before = rests-keep last own (c .body) t rests (before .valid)
-talk c taken t (free, load) rests last own before =
+talk-case c (byte value) t free rests last own before = rests-keep last own (c .body) t rests (before .valid)
+talk-case c broken t free rests last own before = rests-keep last own (c .body) t rests (before .valid)
+talk-case c tick t free rests last own before = rests-keep last own (c .body) t rests (before .valid)
+talk-case c taken t (free, load) rests last own before =
     let none = ap not load in
     kept c (exchanged taken (plain (carried t))) last own none (pick-no noRecord own none) (rests-keep last own (c .body) t rests (before .valid))
-talk c (report drive r) t talks rests last own before = absurd talks
-talk c (hostData host space check) t talks rests last own before = absurd talks
-talk c (result r space check) t talks rests last own before = absurd talks
-talk c reset t talks rests last own before = absurd talks
+talk-case c (report drive r) t talks rests last own before = absurd talks
+talk-case c (hostData host space check) t talks rests last own before = absurd talks
+talk-case c (result r space check) t talks rests last own before = absurd talks
+talk-case c reset t talks rests last own before = absurd talks
 
-staying :
-    (b : Body) (held : Store) (call : Call)
-    → SaysNo call
-    → Keeps (stated b (GoOffered held)) (exchanged call (plain (carried (goRefused b held))))
+no-case : OfNo Keeps
 unfolding SaysNo lastStore carriesOut isTaken notRefused ownRecord recordAfter pick
-staying b held (byte value) refuses last own before = rests-keep last own b _ (go-refused-rests b held) (before .valid)
-staying b held broken refuses last own before = rests-keep last own b _ (go-refused-rests b held) (before .valid)
-staying b held taken refuses last own before = absurd refuses
-staying b held (report drive r) refuses last own before = absurd refuses
-staying b held (hostData host space check) refuses last own before = absurd refuses
-staying b held (result r space check) refuses last own before = absurd refuses
-staying b held tick refuses last own before = absurd refuses
-staying b held reset refuses last own before = absurd refuses
+no-case b held (byte value) refuses last own before = rests-keep last own b _ (go-refused-rests b held) (before .valid)
+no-case b held broken refuses last own before = rests-keep last own b _ (go-refused-rests b held) (before .valid)
+no-case b held taken refuses last own before = absurd refuses
+no-case b held (report drive r) refuses last own before = absurd refuses
+no-case b held (hostData host space check) refuses last own before = absurd refuses
+no-case b held (result r space check) refuses last own before = absurd refuses
+no-case b held tick refuses last own before = absurd refuses
+no-case b held reset refuses last own before = absurd refuses
 
 -- ---- a store is carried out: it has no record yet, and bit 22 is clear
 
@@ -235,12 +229,9 @@ module _ (store : Store) where
       pick-by (λ (t : Turn). Kept store noRecord (t .body) (t .phase)) (namesUnknown store) (λ unknown. rests-open _ _ refl (ended-rests _ store 0x01))
       (λ drive. decoded-opens _ (asked store) refl refl)
 
-taking :
-    (b : Body)
-    → eqb (b .collected .c0) 0x62 ≡ false
-    → Keeps (stated b AckOffered) (exchanged taken (plain (carried (carriedOut b (storeOf (b .collected))))))
+stores-case : OfStores Keeps
 unfolding lastStore carriesOut isTaken notRefused holdsStore ownRecord recordAfter pick
-taking b lead last own before =
+stores-case b lead last own before =
     let store = storeOf (b .collected) in
     let t = carriedOut b store in
     subst₂ (λ (next : Store) (later : OwnRecord). Kept next later (t .body) (t .phase)) (sym (pick-yes store last (ap not lead)))
@@ -262,11 +253,9 @@ written b held drive host space check last own before = zeroed (isGcr drive)
     zeroed true = record { hand = before .hand; valid = before .valid }
     zeroed false = record { hand = before .hand; valid = before .valid }
 
-writing :
-    (b : Body) (held : Store) (host space check : List ℕ)
-    → Keeps (stated b (DataAwaited held)) (exchanged (hostData host space check) (dataIn (stated b (DataAwaited held)) b host space check (DataAwaited held)))
+writes-case : OfData Keeps
 unfolding dataIn
-writing b held host space check = data-for Keeps refusal b held _ host space check (written b held _ host space check)
+writes-case b held host space check = data-for Keeps refusals-case b held _ host space check (written b held _ host space check)
 
 -- a write well done, by the number of its operation
 writes-well : (operation : Operation) (code : ℕ) → wroteWell operation code ≡ (eqb (numberOf operation) (numberOf Write) && eqb code 0)
@@ -333,11 +322,9 @@ ended b operation held drive r bytes space check last own before =
     (λ set. either-told drive operation last held r (b .secondary) (mine .same) (mine .asks)
     (sym (ap (λ (t : Bool). t || (usesImage drive operation r || wroteWell operation (finalCode drive operation r))) (mine .none)) ∙ set))
 
-ending :
-    (b : Body) (operation : Operation) (held : Store) (r : Result) (space check : List ℕ)
-    → Keeps (stated b (ResultAwaited operation held)) (exchanged (result r space check) (resultIn (stated b (ResultAwaited operation held)) b r space check (ResultAwaited operation held)))
+results-case : OfResults Keeps
 unfolding resultIn resultDone
-ending b operation held r space check = result-for Keeps refusal b held _ operation r space check (ended b operation held _ r _ space check)
+results-case b operation held r space check = result-for Keeps refusals-case b held _ operation r space check (ended b operation held _ r _ space check)
 
 -- ---- every call, and every list
 
@@ -345,15 +332,15 @@ keeps : Kinds Keeps
 unfolding goTaken reportNoted resetOf startBody noOutcome lastStore carriesOut isTaken notRefused ownRecord recordAfter InHand pick
 keeps =
     record {
-      refusal = refusal;
-      talk = talk;
-      store = taking;
-      reporting = λ c n r within last own before. record { hand = before .hand; valid = before .valid };
-      going = λ b held value accepts last own before. record { hand = before .hand; valid = before .valid };
-      staying = staying;
-      writing = writing;
-      ending = ending;
-      resetting = λ c last own before. record { hand = tt; valid = λ set. absurd (false≢true set) };
+      refusals = refusals-case;
+      talk = talk-case;
+      stores = stores-case;
+      reports = λ c n r within last own before. record { hand = before .hand; valid = before .valid };
+      yes = λ b held value accepts last own before. record { hand = before .hand; valid = before .valid };
+      no = no-case;
+      writes = writes-case;
+      results = results-case;
+      resets = λ c last own before. record { hand = tt; valid = λ set. absurd (false≢true set) };
     }
 
 own-from :

@@ -3,31 +3,26 @@
 use mathlib.Core.Path.{_≡_, refl, sym, ap, subst, _∙_}
 use Prim.Native.Nat.{ℕ, _≤_}
 use mathlib.Core.Bool.{Bool, true, false, not, _&&_, false≢true, and-false}
-use mathlib.Core.List.{List, [], _∷_}
+use mathlib.Core.List.{[], _∷_}
 use lib.Dec.{eqb}
 use borrow.Author.Tests.{not-true}
 use Rattle.common.specs.Pick.{pick}
 use Rattle.common.proofs.PickLaws.{both-hold, pick-yes, pick-no}
-use Rattle.operations.specs.declared.operation.Operation.{Operation}
 use Rattle.operations.specs.declared.store.Store.{Store}
 use Rattle.operations.specs.Store.{namesDrive}
 use Rattle.link.specs.declared.state.Phase.{Phase}
 use Rattle.link.specs.declared.state.Phase.the-variants.{Collecting, AckOffered, Sending, GoOffered, DataAwaited, ResultAwaited, EndOffered}
-use Rattle.link.specs.declared.state.Body.{Body}
 use Rattle.link.specs.declared.state.Turn.{Turn}
-use Rattle.link.specs.State.{resetOf}
-use Rattle.link.specs.Link.{goRefused}
 use Rattle.controller.specs.declared.controller.Controller.{Controller}
 use Rattle.controller.specs.Controller.{carried}
 use Rattle.controller.specs.Stores.{storeOf, carriedOut}
-use Rattle.transfers.specs.Results.{Result}
-use Rattle.controller.specs.Machine.{unchanged, dataIn, resultIn, Call, Exchange, plain, step}
+use Rattle.controller.specs.Machine.{dataIn, resultIn, Call, Exchange, plain, step}
 use Rattle.controller.specs.Machine.Call.{byte, taken, broken, report, hostData, result, tick, reset}
 use Rattle.controller.specs.Lists.{notRefused, isTaken, holdsStore, carriesOut, lastStore}
 use Rattle.controller.specs.Separation.{isOf, storeEvent, awaitsGo, eventOf, bytesGiven, transferOf, isReset, resets, admits}
 use Rattle.controller.specs.Separation.Event.{goAnswered}
 use Rattle.controller.proofs.Resting.{Free, Rests}
-use Rattle.controller.proofs.Steps.{stated, exchanged, Talk, SaysNo, Kinds, data-for, result-for, by-step}
+use Rattle.controller.proofs.Steps.{stated, exchanged, Talk, SaysNo, OfRefusals, OfTalk, OfStores, OfNo, OfData, OfResults, OfResets, Kinds, data-for, result-for, by-step}
 use Rattle.controller.proofs.Following.{viewOf, InHand, free-held, free-view, rests-view, none-for, Follows, refused-follows, passes-follows, carried-follows, report-follows, go-taken-follows, go-refused-follows, data-follows, result-follows}
 
 -- with nothing in hand no answer to GO is awaited
@@ -56,12 +51,9 @@ module _ (d : ℕ) (low : d ≤ 3) where
   unfolding lastStore
   kept c x last none = subst (λ (next : Store). Follows d (viewOf d last c) next c x) (sym (pick-no (storeOf (c .body .collected)) last none))
 
-  refusal :
-      (c : Controller) (call : Call) (number : ℕ) (space check : List ℕ)
-      → eqb number 0 ≡ false
-      → Followed c (exchanged call (unchanged number c space check))
+  refusals-case : OfRefusals Followed
   unfolding carriesOut notRefused
-  refusal c call number space check some last held admitted =
+  refusals-case c call number space check some last held admitted =
       kept c _ last (ap (λ (t : Bool). isTaken call && (t && holdsStore c)) some ∙ and-false (isTaken call))
       (refused-follows d last c call number 0 space check some held)
 
@@ -79,29 +71,26 @@ module _ (d : ℕ) (low : d ≤ 3) where
       (record { view = rests-view d low last (c .body) t rests ∙ sym (free-view d last c free); transfer = nothing; quiet = none-for d (t .action) (rests .quiet) })
       (free-held last _ _ (rests .free))
 
-  talk : (c : Controller) (call : Call) (t : Turn) → Talk c call → Rests (c .body) t → Followed c (exchanged call (plain (carried t)))
+  talk-case : OfTalk Followed
   unfolding Talk eventOf transferOf holdsStore lastStore carriesOut isTaken pick
-  talk c (byte value) t free rests last held admitted =
+  talk-case c (byte value) t free rests last held admitted =
       rest-follows c (byte value) t last free rests (pick-no (goAnswered (eqb value 0x06) ∷ []) [] (ap (λ (go : Bool). go && isOf d last) (free-goes (c .phase) free))) refl
-  talk c broken t free rests last held admitted =
+  talk-case c broken t free rests last held admitted =
       rest-follows c broken t last free rests (pick-no (goAnswered false ∷ []) [] (ap (λ (go : Bool). go && isOf d last) (free-goes (c .phase) free))) refl
-  talk c tick t free rests last held admitted = rest-follows c tick t last free rests refl refl
-  talk c taken t (free, load) rests last held admitted =
+  talk-case c tick t free rests last held admitted = rest-follows c tick t last free rests refl refl
+  talk-case c taken t (free, load) rests last held admitted =
       let x : Exchange = exchanged taken (plain (carried t)) in
       let none = ap not load in
       kept c x last (ap (λ (t : Bool). notRefused x && t) none ∙ and-false (notRefused x))
       (rest-follows c taken t last free rests (pick-no (storeEvent last ∷ []) [] (ap (λ (t : Bool). t && isOf d last) none)) refl)
-  talk c (report drive r) t talks rests last held admitted = absurd talks
-  talk c (hostData host space check) t talks rests last held admitted = absurd talks
-  talk c (result r space check) t talks rests last held admitted = absurd talks
-  talk c reset t talks rests last held admitted = absurd talks
+  talk-case c (report drive r) t talks rests last held admitted = absurd talks
+  talk-case c (hostData host space check) t talks rests last held admitted = absurd talks
+  talk-case c (result r space check) t talks rests last held admitted = absurd talks
+  talk-case c reset t talks rests last held admitted = absurd talks
 
-  store :
-      (b : Body)
-      → eqb (b .collected .c0) 0x62 ≡ false
-      → Followed (stated b AckOffered) (exchanged taken (plain (carried (carriedOut b (storeOf (b .collected))))))
+  stores-case : OfStores Followed
   unfolding lastStore carriesOut isTaken notRefused holdsStore admits Free
-  store b lead last held admitted =
+  stores-case b lead last held admitted =
       let c = stated b AckOffered in
       let taking = storeOf (b .collected) in
       let x : Exchange = exchanged taken (plain (carried (carriedOut b taking))) in
@@ -110,52 +99,45 @@ module _ (d : ℕ) (low : d ≤ 3) where
       subst (λ (next : Store). Follows d (viewOf d last c) next c x) (sym (pick-yes taking last holds))
       (subst (λ v. Follows d v taking c x) (sym (free-view d last c tt)) (carried-follows d low c taking holds names (not-true (resets taking) keeps)))
 
-  staying :
-      (b : Body) (held : Store) (call : Call)
-      → SaysNo call
-      → Followed (stated b (GoOffered held)) (exchanged call (plain (carried (goRefused b held))))
+  no-case : OfNo Followed
   unfolding SaysNo InHand eventOf awaitsGo transferOf lastStore carriesOut isTaken pick
-  staying b held (byte value) refuses last mine admitted = go-refused-follows d low last b held (byte value) (eqb value 0x06) refl refl refuses
-  staying b held broken refuses last mine admitted = go-refused-follows d low last b held broken false refl refl refl
-  staying b held taken refuses last mine admitted = absurd refuses
-  staying b held (report drive r) refuses last mine admitted = absurd refuses
-  staying b held (hostData host space check) refuses last mine admitted = absurd refuses
-  staying b held (result r space check) refuses last mine admitted = absurd refuses
-  staying b held tick refuses last mine admitted = absurd refuses
-  staying b held reset refuses last mine admitted = absurd refuses
+  no-case b held (byte value) refuses last mine admitted = go-refused-follows d low last b held (byte value) (eqb value 0x06) refl refl refuses
+  no-case b held broken refuses last mine admitted = go-refused-follows d low last b held broken false refl refl refl
+  no-case b held taken refuses last mine admitted = absurd refuses
+  no-case b held (report drive r) refuses last mine admitted = absurd refuses
+  no-case b held (hostData host space check) refuses last mine admitted = absurd refuses
+  no-case b held (result r space check) refuses last mine admitted = absurd refuses
+  no-case b held tick refuses last mine admitted = absurd refuses
+  no-case b held reset refuses last mine admitted = absurd refuses
 
-  writing :
-      (b : Body) (held : Store) (host space check : List ℕ)
-      → Followed (stated b (DataAwaited held)) (exchanged (hostData host space check) (dataIn (stated b (DataAwaited held)) b host space check (DataAwaited held)))
+  writes-case : OfData Followed
   unfolding dataIn InHand lastStore carriesOut isTaken pick
-  writing b held host space check =
-      data-for Followed refusal b held _ host space check (λ last mine admitted. data-follows d last b held host space check mine)
+  writes-case b held host space check =
+      data-for Followed refusals-case b held _ host space check (λ last mine admitted. data-follows d last b held host space check mine)
 
-  ending :
-      (b : Body) (operation : Operation) (held : Store) (r : Result) (space check : List ℕ)
-      → Followed (stated b (ResultAwaited operation held)) (exchanged (result r space check) (resultIn (stated b (ResultAwaited operation held)) b r space check (ResultAwaited operation held)))
+  results-case : OfResults Followed
   unfolding resultIn InHand lastStore carriesOut isTaken pick
-  ending b operation held r space check =
-      result-for Followed refusal b held _ operation r space check (λ last mine admitted. result-follows d low last b operation held r space check mine)
+  results-case b operation held r space check =
+      result-for Followed refusals-case b held _ operation r space check (λ last mine admitted. result-follows d low last b operation held r space check mine)
 
   -- a reset is not admitted
-  resetting : (c : Controller) → Followed c (exchanged reset (plain (carried (resetOf (c .body)))))
+  resets-case : OfResets Followed
   unfolding admits carriesOut isTaken notRefused isReset pick
-  resetting c last held admitted = absurd (false≢true admitted)
+  resets-case c last held admitted = absurd (false≢true admitted)
 
   followed : Kinds Followed
   unfolding lastStore carriesOut isTaken InHand pick
   followed =
       record {
-        refusal = refusal;
-        talk = talk;
-        store = store;
-        reporting = λ c n r within last held admitted. report-follows d low last c n r within held;
-        going = λ b held value yes last mine admitted. go-taken-follows d low last b held value yes mine;
-        staying = staying;
-        writing = writing;
-        ending = ending;
-        resetting = resetting;
+        refusals = refusals-case;
+        talk = talk-case;
+        stores = stores-case;
+        reports = λ c n r within last held admitted. report-follows d low last c n r within held;
+        yes = λ b held value yes last mine admitted. go-taken-follows d low last b held value yes mine;
+        no = no-case;
+        writes = writes-case;
+        results = results-case;
+        resets = resets-case;
       }
 
   pub step-follows : (c : Controller) (call : Call) → Followed c (exchanged call (step c call))

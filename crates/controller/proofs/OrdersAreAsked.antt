@@ -32,7 +32,7 @@ use Rattle.link.specs.declared.state.Action.{Action}
 use Rattle.link.specs.declared.state.Action.the-variants.{Nothing, Byte, Text, Order}
 use Rattle.link.specs.declared.state.Turn.{Turn}
 use Rattle.link.specs.State.{startBody, setDrives, setSelected, setFlags, setOutcome, setCurrent, current, resetOf}
-use Rattle.link.specs.Link.{goTaken, goRefused}
+use Rattle.link.specs.Link.{goTaken}
 use Rattle.transfers.specs.Data.{isGcr, runsShort, withUnderflow}
 use Rattle.transfers.specs.Results.{Result, movesTape, withGap, resultDrive}
 use Rattle.controller.specs.declared.controller.Controller.{Controller}
@@ -45,7 +45,7 @@ use Rattle.controller.specs.Machine.Call.{byte, taken, broken, report, h
 use Rattle.controller.specs.Lists.{notRefused, holdsStore}
 use Rattle.controller.specs.Orders.{Account, restarted, opened, owing, entered, orderAsked, askedNoted, storeNoted, callNoted, noted, Asked, given, AskedFrom, OrdersAreAsked}
 use Rattle.controller.proofs.Resting.{seen, Free, NoOrder, Rests, ended-rests, settled-rests, go-refused-rests, ending-rests}
-use Rattle.controller.proofs.Steps.{stated, exchanged, Talk, SaysNo, Kinds, data-for, result-for, by-step}
+use Rattle.controller.proofs.Steps.{stated, exchanged, Talk, SaysNo, OfRefusals, OfTalk, OfStores, OfReports, OfNo, OfData, OfResults, Kinds, data-for, result-for, by-step}
 
 -- ---- the account agrees with the controller
 
@@ -149,40 +149,34 @@ rests-pay a b t rests agrees =
 as-before : (c : Controller) (x : Exchange) (a : Account) (t : Turn) → noted a c x ≡ a → Pays a t → Pays (noted a c x) t
 as-before c x a t same = subst (λ (later : Account). Pays later t) (sym same)
 
-refusal :
-    (c : Controller) (call : Call) (number : ℕ) (space check : List ℕ)
-    → eqb number 0 ≡ false
-    → Paid c (exchanged call (unchanged number c space check))
+refusals-case : OfRefusals Paid
 unfolding noted notRefused NoOrder
-refusal c call number space check some a before =
+refusals-case c call number space check some a before =
     as-before c (exchanged call (unchanged number c space check)) a _ (pick-no (callNoted a c call) a some) (quiet-pays a (c .body) (c .phase) Nothing tt before)
 
-talk : (c : Controller) (call : Call) (t : Turn) → Talk c call → Rests (c .body) t → Paid c (exchanged call (plain (carried t)))
+talk-case : OfTalk Paid
 unfolding Talk noted notRefused callNoted holdsStore pick
-talk c (byte value) t free rests a before = rests-pay a (c .body) t rests (before .agrees)
-talk c broken t free rests a before = rests-pay a (c .body) t rests (before .agrees)
-talk c tick t free rests a before = rests-pay a (c .body) t rests (before .agrees)
-talk c taken t (free, load) rests a before =
+talk-case c (byte value) t free rests a before = rests-pay a (c .body) t rests (before .agrees)
+talk-case c broken t free rests a before = rests-pay a (c .body) t rests (before .agrees)
+talk-case c tick t free rests a before = rests-pay a (c .body) t rests (before .agrees)
+talk-case c taken t (free, load) rests a before =
     as-before c (exchanged taken (plain (carried t))) a t (pick-no (storeNoted a (storeOf (c .body .collected))) a (ap not load))
     (rests-pay a (c .body) t rests (before .agrees))
-talk c (report drive r) t talks rests a before = absurd talks
-talk c (hostData host space check) t talks rests a before = absurd talks
-talk c (result r space check) t talks rests a before = absurd talks
-talk c reset t talks rests a before = absurd talks
+talk-case c (report drive r) t talks rests a before = absurd talks
+talk-case c (hostData host space check) t talks rests a before = absurd talks
+talk-case c (result r space check) t talks rests a before = absurd talks
+talk-case c reset t talks rests a before = absurd talks
 
-staying :
-    (b : Body) (held : Store) (call : Call)
-    → SaysNo call
-    → Paid (stated b (GoOffered held)) (exchanged call (plain (carried (goRefused b held))))
+no-case : OfNo Paid
 unfolding SaysNo noted notRefused callNoted pick
-staying b held (byte value) refuses a before = rests-pay a b _ (go-refused-rests b held) (before .agrees)
-staying b held broken refuses a before = rests-pay a b _ (go-refused-rests b held) (before .agrees)
-staying b held taken refuses a before = absurd refuses
-staying b held (report drive r) refuses a before = absurd refuses
-staying b held (hostData host space check) refuses a before = absurd refuses
-staying b held (result r space check) refuses a before = absurd refuses
-staying b held tick refuses a before = absurd refuses
-staying b held reset refuses a before = absurd refuses
+no-case b held (byte value) refuses a before = rests-pay a b _ (go-refused-rests b held) (before .agrees)
+no-case b held broken refuses a before = rests-pay a b _ (go-refused-rests b held) (before .agrees)
+no-case b held taken refuses a before = absurd refuses
+no-case b held (report drive r) refuses a before = absurd refuses
+no-case b held (hostData host space check) refuses a before = absurd refuses
+no-case b held (result r space check) refuses a before = absurd refuses
+no-case b held tick refuses a before = absurd refuses
+no-case b held reset refuses a before = absurd refuses
 
 -- ---- one drive's record is another
 
@@ -221,9 +215,9 @@ put-agrees a later b n drive within selected agrees own others =
           (sym (put-other (b .drives) drive n d within low (λ e. apart (sym e)))) (others d apart (agrees .drive d low)));
     }
 
-reporting : (c : Controller) (n r : ℕ) → n ≤ 3 → Paid c (exchanged (report n r) (plain (carried (reportNoted c n r))))
+reports-case : OfReports Paid
 unfolding noted notRefused callNoted reportNoted NoOrder reported Owes pick
-reporting c n r within a before =
+reports-case c n r within a before =
     let later = callNoted a c (report n r) in
     let was = before .agrees .drive n within in
     quiet-pays later _ (c .phase) Nothing tt
@@ -374,12 +368,9 @@ carried-pays a b store agrees =
     (decoded-pays a (setSelected (cleared b) (pick (namesDrive store) (named store) (a .selected))) store (record { selected = refl; low = low; drive = agrees .drive }) (asked store)))
     within
 
-taking :
-    (b : Body)
-    → eqb (b .collected .c0) 0x62 ≡ false
-    → Paid (stated b AckOffered) (exchanged taken (plain (carried (carriedOut b (storeOf (b .collected))))))
+stores-case : OfStores Paid
 unfolding noted notRefused callNoted holdsStore pick
-taking b lead a before =
+stores-case b lead a before =
     let store = storeOf (b .collected) in
     subst (λ (later : Account). Pays later (carriedOut b store)) (sym (pick-yes (storeNoted a store) a (ap not lead))) (carried-pays a b store (before .agrees))
 
@@ -399,11 +390,9 @@ written b held drive host space check a before = zeroed (isGcr drive)
     zeroed true = ordered-pays a (zeroedWords later true) Write held (before .owes) (before .agrees)
     zeroed false = ordered-pays a later Write held (before .owes) (before .agrees)
 
-writing :
-    (b : Body) (held : Store) (host space check : List ℕ)
-    → Paid (stated b (DataAwaited held)) (exchanged (hostData host space check) (dataIn (stated b (DataAwaited held)) b host space check (DataAwaited held)))
+writes-case : OfData Paid
 unfolding dataIn
-writing b held host space check = data-for Paid refusal b held _ host space check (written b held _ host space check)
+writes-case b held host space check = data-for Paid refusals-case b held _ host space check (written b held _ host space check)
 
 -- whatever bytes are delivered
 ended :
@@ -417,11 +406,9 @@ ended b operation held r bytes space check a before =
     (put-agrees a a b (b .selected) (resultDrive (current b) operation r) (agrees .low) refl agrees
     (record { report = was .report; track = was .track; density = was .density }) (λ d other matches. matches))
 
-ending :
-    (b : Body) (operation : Operation) (held : Store) (r : Result) (space check : List ℕ)
-    → Paid (stated b (ResultAwaited operation held)) (exchanged (result r space check) (resultIn (stated b (ResultAwaited operation held)) b r space check (ResultAwaited operation held)))
+results-case : OfResults Paid
 unfolding resultIn resultDone
-ending b operation held r space check = result-for Paid refusal b held _ operation r space check (ended b operation held r _ space check)
+results-case b operation held r space check = result-for Paid refusals-case b held _ operation r space check (ended b operation held r _ space check)
 
 -- ---- every call, and every list
 
@@ -429,15 +416,15 @@ pays : Kinds Paid
 unfolding goTaken noted notRefused callNoted NoOrder Owes pick
 pays =
     record {
-      refusal = refusal;
-      talk = talk;
-      store = taking;
-      reporting = reporting;
-      going = λ b held value accepts a before. quiet-pays a b (DataAwaited held) Nothing tt (record { agrees = before .agrees; owes = before .owes });
-      staying = staying;
-      writing = writing;
-      ending = ending;
-      resetting = λ c a before. reset-pays a (c .body) (before .agrees);
+      refusals = refusals-case;
+      talk = talk-case;
+      stores = stores-case;
+      reports = reports-case;
+      yes = λ b held value accepts a before. quiet-pays a b (DataAwaited held) Nothing tt (record { agrees = before .agrees; owes = before .owes });
+      no = no-case;
+      writes = writes-case;
+      results = results-case;
+      resets = λ c a before. reset-pays a (c .body) (before .agrees);
     }
 
 asked-from : (calls : List Call) (a : Account) (c : Controller) → Kept a (c .body) (c .phase) → AskedFrom a c (run c calls)

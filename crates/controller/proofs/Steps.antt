@@ -62,66 +62,96 @@ SaysNo (result r space check) = ⊥
 SaysNo tick = ⊥
 SaysNo reset = ⊥
 
+-- what is claimed of a call in a state, with its answer
+abbrev pub Claim : Type 1
+Claim = Controller → Exchange → Type 0
+
 -- a refused call
-abbrev pub Refusals : (Controller → Exchange → Type 0) → Type 0
-Refusals P =
+abbrev pub OfRefusals : Claim → Type 0
+OfRefusals P =
     (c : Controller) (call : Call) (number : ℕ) (space check : List ℕ) → eqb number 0 ≡ false → P c (exchanged call (unchanged number c space check))
 
-pub record Kinds (P : Controller → Exchange → Type 0) : Type 0 where
-  pub refusal : Refusals P
-  pub talk : (c : Controller) (call : Call) (t : Turn) → Talk c call → Rests (c .body) t → P c (exchanged call (plain (carried t)))
-  pub store :
-      (b : Body)
-      → eqb (b .collected .c0) 0x62 ≡ false
-      → P (stated b AckOffered) (exchanged taken (plain (carried (carriedOut b (storeOf (b .collected))))))
-  pub reporting : (c : Controller) (n r : ℕ) → n ≤ 3 → P c (exchanged (report n r) (plain (carried (reportNoted c n r))))
-  pub going :
-      (b : Body) (held : Store) (value : ℕ)
-      → eqb value 0x06 ≡ true
-      → P (stated b (GoOffered held)) (exchanged (byte value) (plain (carried (goTaken b held))))
-  pub staying :
-      (b : Body) (held : Store) (call : Call)
-      → SaysNo call
-      → P (stated b (GoOffered held)) (exchanged call (plain (carried (goRefused b held))))
-  pub writing :
-      (b : Body) (held : Store) (host space check : List ℕ)
-      → P (stated b (DataAwaited held)) (exchanged (hostData host space check) (dataIn (stated b (DataAwaited held)) b host space check (DataAwaited held)))
-  pub ending :
-      (b : Body) (operation : Operation) (held : Store) (r : Result) (space check : List ℕ)
-      → P (stated b (ResultAwaited operation held)) (exchanged (result r space check) (resultIn (stated b (ResultAwaited operation held)) b r space check (ResultAwaited operation held)))
-  pub resetting : (c : Controller) → P c (exchanged reset (plain (carried (resetOf (c .body)))))
+-- a call that concerns the link alone
+abbrev pub OfTalk : Claim → Type 0
+OfTalk P = (c : Controller) (call : Call) (t : Turn) → Talk c call → Rests (c .body) t → P c (exchanged call (plain (carried t)))
+
+-- a store is carried out
+abbrev pub OfStores : Claim → Type 0
+OfStores P =
+    (b : Body)
+    → eqb (b .collected .c0) 0x62 ≡ false
+    → P (stated b AckOffered) (exchanged taken (plain (carried (carriedOut b (storeOf (b .collected))))))
+
+abbrev pub OfReports : Claim → Type 0
+OfReports P = (c : Controller) (n r : ℕ) → n ≤ 3 → P c (exchanged (report n r) (plain (carried (reportNoted c n r))))
+
+-- GO is answered by a yes, or by a no
+abbrev pub OfYes : Claim → Type 0
+OfYes P =
+    (b : Body) (held : Store) (value : ℕ)
+    → eqb value 0x06 ≡ true
+    → P (stated b (GoOffered held)) (exchanged (byte value) (plain (carried (goTaken b held))))
+
+abbrev pub OfNo : Claim → Type 0
+OfNo P =
+    (b : Body) (held : Store) (call : Call) → SaysNo call → P (stated b (GoOffered held)) (exchanged call (plain (carried (goRefused b held))))
+
+-- a data call or a result comes where it is awaited
+abbrev pub OfData : Claim → Type 0
+OfData P =
+    (b : Body) (held : Store) (host space check : List ℕ)
+    → let c = stated b (DataAwaited held) in P c (exchanged (hostData host space check) (dataIn c b host space check (DataAwaited held)))
+
+abbrev pub OfResults : Claim → Type 0
+OfResults P =
+    (b : Body) (operation : Operation) (held : Store) (r : Result) (space check : List ℕ)
+    → let c = stated b (ResultAwaited operation held) in P c (exchanged (result r space check) (resultIn c b r space check (ResultAwaited operation held)))
+
+abbrev pub OfResets : Claim → Type 0
+OfResets P = (c : Controller) → P c (exchanged reset (plain (carried (resetOf (c .body)))))
+
+pub record Kinds (P : Claim) : Type 0 where
+  pub refusals : OfRefusals P
+  pub talk : OfTalk P
+  pub stores : OfStores P
+  pub reports : OfReports P
+  pub yes : OfYes P
+  pub no : OfNo P
+  pub writes : OfData P
+  pub results : OfResults P
+  pub resets : OfResets P
 
 -- a data call and a result while they are awaited: refused, or done for the drive
-module _ (P : Controller → Exchange → Type 0) (refusal : Refusals P) (b : Body) (held : Store) (drive : Drive) where
+module _ (P : Claim) (refusals : OfRefusals P) (b : Body) (held : Store) (drive : Drive) where
   module _ (host space check : List ℕ) where
-    abbrev writes : Answer → Type 0
-    writes answer = P (stated b (DataAwaited held)) (exchanged (hostData host space check) answer)
+    abbrev written : Answer → Type 0
+    written answer = P (stated b (DataAwaited held)) (exchanged (hostData host space check) answer)
 
     pub data-for :
-        writes (dataDone b drive held host space check)
-        → writes (dataFor (stated b (DataAwaited held)) b drive held host space check)
+        written (dataDone b drive held host space check)
+        → written (dataFor (stated b (DataAwaited held)) b drive held host space check)
     unfolding dataFor
     data-for done =
-        pick-by writes (eqb (dataRefusal drive held (length space) (length check)) 0) (λ good. done)
-        (λ some. refusal (stated b (DataAwaited held)) _ _ space check some)
+        pick-by written (eqb (dataRefusal drive held (length space) (length check)) 0) (λ good. done)
+        (λ some. refusals (stated b (DataAwaited held)) _ _ space check some)
 
   module _ (operation : Operation) (r : Result) (space check : List ℕ) where
-    abbrev ends : Answer → Type 0
-    ends answer = P (stated b (ResultAwaited operation held)) (exchanged (result r space check) answer)
+    abbrev ended : Answer → Type 0
+    ended answer = P (stated b (ResultAwaited operation held)) (exchanged (result r space check) answer)
 
     pub result-for :
-        ends (resultDone b drive operation held r space check)
-        → ends (resultFor (stated b (ResultAwaited operation held)) b drive operation held r space check)
+        ended (resultDone b drive operation held r space check)
+        → ended (resultFor (stated b (ResultAwaited operation held)) b drive operation held r space check)
     unfolding resultFor
     result-for done =
-        pick-by ends (eqb (resultRefusal drive operation r (length check)) 0) (λ good. done)
-        (λ some. refusal (stated b (ResultAwaited operation held)) _ _ space check some)
+        pick-by ended (eqb (resultRefusal drive operation r (length check)) 0) (λ good. done)
+        (λ some. refusals (stated b (ResultAwaited operation held)) _ _ space check some)
 
 -- ---- each call is of these kinds
 
-module _ (P : Controller → Exchange → Type 0) (kinds : Kinds P) where
+module _ (P : Claim) (kinds : Kinds P) where
   refuses : (c : Controller) (call : Call) (number : ℕ) → eqb number 0 ≡ false → P c (exchanged call (plain (refused number c)))
-  refuses c call number some = kinds .refusal c call number [] [] some
+  refuses c call number some = kinds .refusals c call number [] [] some
 
   module _ (b : Body) where
     byte-in : (value : ℕ) (phase : Phase) → P (stated b phase) (exchanged (byte value) (plain (byteIn (stated b phase) b value phase)))
@@ -130,8 +160,8 @@ module _ (P : Controller → Exchange → Type 0) (kinds : Kinds P) where
     byte-in value AckOffered = kinds .talk (stated b AckOffered) _ _ tt (idle-rests b Nothing tt)
     byte-in value (Sending s) = kinds .talk (stated b (Sending s)) _ _ tt (send-rests b value s)
     byte-in value (GoOffered held) =
-        pick-by (λ (t : Turn). P (stated b (GoOffered held)) (exchanged (byte value) (plain (carried t)))) (eqb value 0x06) (λ yes. kinds .going b held value yes)
-        (λ no. kinds .staying b held (byte value) no)
+        pick-by (λ (t : Turn). P (stated b (GoOffered held)) (exchanged (byte value) (plain (carried t)))) (eqb value 0x06) (λ yes. kinds .yes b held value yes)
+        (λ no. kinds .no b held (byte value) no)
     byte-in value (DataAwaited held) = refuses (stated b (DataAwaited held)) _ 2 refl
     byte-in value (ResultAwaited operation held) = refuses (stated b (ResultAwaited operation held)) _ 2 refl
     byte-in value (EndOffered interrupt) = kinds .talk (stated b (EndOffered interrupt)) _ _ tt (completed-rests b interrupt)
@@ -141,7 +171,7 @@ module _ (P : Controller → Exchange → Type 0) (kinds : Kinds P) where
     broken-in Collecting = kinds .talk (stated b Collecting) _ _ tt (idle-rests b Nothing tt)
     broken-in AckOffered = kinds .talk (stated b AckOffered) _ _ tt (idle-rests b Nothing tt)
     broken-in (Sending s) = kinds .talk (stated b (Sending s)) _ _ tt (given-up-rests b (s .kind))
-    broken-in (GoOffered held) = kinds .staying b held broken tt
+    broken-in (GoOffered held) = kinds .no b held broken tt
     broken-in (DataAwaited held) = refuses (stated b (DataAwaited held)) _ 2 refl
     broken-in (ResultAwaited operation held) = refuses (stated b (ResultAwaited operation held)) _ 2 refl
     broken-in (EndOffered interrupt) = kinds .talk (stated b (EndOffered interrupt)) _ _ tt (completed-rests b interrupt)
@@ -162,7 +192,7 @@ module _ (P : Controller → Exchange → Type 0) (kinds : Kinds P) where
     unfolding takenIn takenBody Talk Free
     taken-in AckOffered =
         pick-by (λ (t : Turn). P (stated b AckOffered) (exchanged taken (plain (carried t)))) (eqb (b .collected .c0) 0x62)
-        (λ load. kinds .talk (stated b AckOffered) _ _ (tt, load) (loaded-rests b (b .collected .c1))) (λ other. kinds .store b other)
+        (λ load. kinds .talk (stated b AckOffered) _ _ (tt, load) (loaded-rests b (b .collected .c1))) (λ other. kinds .stores b other)
     taken-in Collecting = refuses (stated b Collecting) _ 2 refl
     taken-in (Sending s) = refuses (stated b (Sending s)) _ 2 refl
     taken-in (GoOffered held) = refuses (stated b (GoOffered held)) _ 2 refl
@@ -175,24 +205,24 @@ module _ (P : Controller → Exchange → Type 0) (kinds : Kinds P) where
           (phase : Phase)
           → P (stated b phase) (exchanged (hostData host space check) (dataIn (stated b phase) b host space check phase))
       unfolding dataIn
-      data-in (DataAwaited held) = kinds .writing b held host space check
-      data-in Collecting = kinds .refusal (stated b Collecting) _ 3 space check refl
-      data-in AckOffered = kinds .refusal (stated b AckOffered) _ 3 space check refl
-      data-in (Sending s) = kinds .refusal (stated b (Sending s)) _ 3 space check refl
-      data-in (GoOffered held) = kinds .refusal (stated b (GoOffered held)) _ 3 space check refl
-      data-in (ResultAwaited operation held) = kinds .refusal (stated b (ResultAwaited operation held)) _ 3 space check refl
-      data-in (EndOffered interrupt) = kinds .refusal (stated b (EndOffered interrupt)) _ 3 space check refl
+      data-in (DataAwaited held) = kinds .writes b held host space check
+      data-in Collecting = kinds .refusals (stated b Collecting) _ 3 space check refl
+      data-in AckOffered = kinds .refusals (stated b AckOffered) _ 3 space check refl
+      data-in (Sending s) = kinds .refusals (stated b (Sending s)) _ 3 space check refl
+      data-in (GoOffered held) = kinds .refusals (stated b (GoOffered held)) _ 3 space check refl
+      data-in (ResultAwaited operation held) = kinds .refusals (stated b (ResultAwaited operation held)) _ 3 space check refl
+      data-in (EndOffered interrupt) = kinds .refusals (stated b (EndOffered interrupt)) _ 3 space check refl
 
     module _ (r : Result) (space check : List ℕ) where
       result-in : (phase : Phase) → P (stated b phase) (exchanged (result r space check) (resultIn (stated b phase) b r space check phase))
       unfolding resultIn
-      result-in (ResultAwaited operation held) = kinds .ending b operation held r space check
-      result-in Collecting = kinds .refusal (stated b Collecting) _ 3 space check refl
-      result-in AckOffered = kinds .refusal (stated b AckOffered) _ 3 space check refl
-      result-in (Sending s) = kinds .refusal (stated b (Sending s)) _ 3 space check refl
-      result-in (GoOffered held) = kinds .refusal (stated b (GoOffered held)) _ 3 space check refl
-      result-in (DataAwaited held) = kinds .refusal (stated b (DataAwaited held)) _ 3 space check refl
-      result-in (EndOffered interrupt) = kinds .refusal (stated b (EndOffered interrupt)) _ 3 space check refl
+      result-in (ResultAwaited operation held) = kinds .results b operation held r space check
+      result-in Collecting = kinds .refusals (stated b Collecting) _ 3 space check refl
+      result-in AckOffered = kinds .refusals (stated b AckOffered) _ 3 space check refl
+      result-in (Sending s) = kinds .refusals (stated b (Sending s)) _ 3 space check refl
+      result-in (GoOffered held) = kinds .refusals (stated b (GoOffered held)) _ 3 space check refl
+      result-in (DataAwaited held) = kinds .refusals (stated b (DataAwaited held)) _ 3 space check refl
+      result-in (EndOffered interrupt) = kinds .refusals (stated b (EndOffered interrupt)) _ 3 space check refl
 
   module _ (c : Controller) where
     abbrev by-soundness :
@@ -205,7 +235,7 @@ module _ (P : Controller → Exchange → Type 0) (kinds : Kinds P) where
     reported-at : (n r : ℕ) → P c (exchanged (report n r) (plain (pick (leb 4 n) (refused 5 c) (carried (reportNoted c n r)))))
     reported-at n r =
         pick-by (λ (reply : Reply). P c (exchanged (report n r) (plain reply))) (leb 4 n) (λ high. refuses c _ 5 refl)
-        (λ few. let below = leb-false 4 n few in kinds .reporting c n r (omega arith))
+        (λ few. let below = leb-false 4 n few in kinds .reports c n r (omega arith))
 
     pub by-step : (call : Call) → P c (exchanged call (step c call))
     unfolding step byteCall brokenCall tickCall takenCall reportCall resetCall dataCall resultCall
@@ -214,10 +244,10 @@ module _ (P : Controller → Exchange → Type 0) (kinds : Kinds P) where
     by-step tick = by-soundness tick _ (tick-in (c .body) (c .phase))
     by-step taken = by-soundness taken _ (taken-in (c .body) (c .phase))
     by-step (report n r) = by-soundness (report n r) _ (reported-at n r)
-    by-step reset = by-soundness reset _ (kinds .resetting c)
+    by-step reset = by-soundness reset _ (kinds .resets c)
     by-step (hostData host space check) =
         pick-by (λ (a : Answer). P c (exchanged (hostData host space check) a)) (sound (c .body) (c .phase))
-        (λ sane. data-in (c .body) host space check (c .phase)) (λ hurt. kinds .refusal c _ 1 space check refl)
+        (λ sane. data-in (c .body) host space check (c .phase)) (λ hurt. kinds .refusals c _ 1 space check refl)
     by-step (result r space check) =
         pick-by (λ (a : Answer). P c (exchanged (result r space check) a)) (sound (c .body) (c .phase))
-        (λ sane. result-in (c .body) r space check (c .phase)) (λ hurt. kinds .refusal c _ 1 space check refl)
+        (λ sane. result-in (c .body) r space check (c .phase)) (λ hurt. kinds .refusals c _ 1 space check refl)
