@@ -1,13 +1,11 @@
--- Wherever bit 22 of primary is set, secondary is the count of the record that the last store carried out itself passed or wrote
--- (`counts-are-own`, over the definitions).
+-- Wherever bit 22 of primary is set, in the state or in what is sent, the count is that of the record that the last store carried out itself
+-- passed or wrote (`counts-are-own`, over the definitions).
 -- Assumes nothing.
 use mathlib.Core.Path.{_≡_, refl, sym, ap, ap₂, subst, subst₂, _∙_}
-use Prim.Native.Nat.{ℕ, _+_, _*_, _/_, _%_}
-use native.Mathlib.Nat.{mod-lt, zero-lt-suc}
+use Prim.Native.Nat.{ℕ}
 use native.Mathlib.Omega.{arith}
 use mathlib.Core.Bool.{Bool, true, false, not, _&&_, _||_, false≢true, and-false}
 use mathlib.Core.List.{List, [], _∷_}
-use lib.Arith.{digits-div, digits-mod}
 use lib.Dec.{ltb, eqb}
 use lib.ListN.{length}
 use borrow.Author.Tests.{eqb-true, not-true, not-false}
@@ -15,8 +13,7 @@ use Rattle.common.specs.Pick.{pick}
 use Rattle.common.proofs.PickLaws.{by-test, both-hold, pick-by, pick-yes, pick-no, not-refused}
 use Rattle.marks.specs.Scan.{scanOf}
 use Rattle.status.specs.declared.drives.Drive.{Drive}
-use Rattle.status.specs.declared.words.Outcome.{Outcome}
-use Rattle.status.specs.Words.{bit, noOutcome, primaryOf}
+use Rattle.status.specs.Words.{noOutcome}
 use Rattle.operations.specs.declared.operation.Operation.{Operation}
 use Rattle.operations.specs.declared.operation.Operation.the-variants.{Read, CheckBytes, Write, Erase, Rewind, FastForward, SkipForward, SkipReverse, SearchForward, SearchReverse, WriteMark}
 use Rattle.operations.specs.declared.decode.Decoded.{Decoded}
@@ -28,9 +25,10 @@ use Rattle.operations.specs.Test.{mayMove}
 use Rattle.link.specs.declared.state.Phase.{Phase}
 use Rattle.link.specs.declared.state.Phase.the-variants.{Collecting, AckOffered, Sending, GoOffered, DataAwaited, ResultAwaited, EndOffered}
 use Rattle.link.specs.declared.state.Body.{Body}
+use Rattle.link.specs.declared.state.Action.{Action}
+use Rattle.link.specs.declared.state.Action.the-variants.{Nothing, Byte, Text, Order}
 use Rattle.link.specs.declared.state.Turn.{Turn}
 use Rattle.link.specs.State.{startBody, setFlags, setOutcome, setCurrent, current, resetOf}
-use Rattle.link.specs.Completion.{primaryNow}
 use Rattle.link.specs.Link.{goTaken}
 use Rattle.transfers.specs.Data.{isGcr, runsShort, withUnderflow}
 use Rattle.transfers.specs.Results.{Result, isGone, usesImage, scanCode, finalCode, wroteWell, resultSecondary, resultBits, withRetry}
@@ -41,52 +39,11 @@ use Rattle.controller.specs.Records.{zeroedWords, dataDone, resultBody, 
 use Rattle.controller.specs.Machine.{unchanged, reportNoted, dataIn, resultIn, Call, Exchange, plain, step, run}
 use Rattle.controller.specs.Machine.Call.{byte, taken, broken, report, hostData, result, tick, reset}
 use Rattle.controller.specs.Lists.{notRefused, isTaken, holdsStore, carriesOut, lastStore, noStore}
-use Rattle.controller.specs.Counts.{OwnRecord, isWrite, passedBy, recordAfter, ownRecord, bit22, Valid, ValidFrom, CountsAreOwn}
+use Rattle.controller.specs.Counts.{OwnRecord, isWrite, passedBy, recordAfter, ownRecord, Sends, ValidFrom, CountsAreOwn}
 use Rattle.controller.specs.Counts.OwnRecord.{noRecord, recordOf}
 use Rattle.controller.proofs.Resting.{Free, Rests, ended-rests, settled-rests, go-refused-rests, ending-rests}
-use Rattle.controller.proofs.Steps.{stated, exchanged, Talk, SaysNo, OfRefusals, OfTalk, OfStores, OfNo, OfData, OfResults, Kinds, data-for, result-for, by-step}
-
--- ---- bit 22 of the word
-
-quarter : (set : Bool) (weight : ℕ) → bit set (4 * weight) ≡ 4 * bit set weight
-unfolding bit pick
-quarter true weight = refl
-quarter false weight = refl
-
--- the third byte by its last two bits: what is above them, bit 22, and the density
-third-byte :
-    (o : Outcome) (density : ℕ)
-    → bit (o .parity) 128 + bit (o .overflow) 64 + bit (o .underflow) 32 + bit (o .wdl) 16 + bit (o .rdl) 8 + bit (o .supplied) 4 + bit false 2 + density % 2 ≡ ((bit (o .parity) 32 + bit (o .overflow) 16 + bit (o .underflow) 8 + bit (o .wdl) 4 + bit (o .rdl) 2 + bit (o .supplied) 1) * 2 + 0) * 2 + density % 2
-unfolding bit pick
-third-byte o density =
-    let parity = quarter (o .parity) 32 in
-    let overflow = quarter (o .overflow) 16 in
-    let underflow = quarter (o .underflow) 8 in
-    let wdl = quarter (o .wdl) 4 in
-    let rdl = quarter (o .rdl) 2 in
-    let supplied = quarter (o .supplied) 1 in
-    omega arith
-
--- it is clear where no count is marked as valid
-clear :
-    (changed enable : Bool) (o : Outcome) (selected : ℕ) (drive : Drive)
-    → o .counted ≡ false
-    → bit22 (primaryOf changed enable o selected drive) ≡ false
-unfolding bit22 primaryOf
-clear changed enable o selected drive none =
-    let above = bit (o .parity) 32 + bit (o .overflow) 16 + bit (o .underflow) 8 + bit (o .wdl) 4 + bit (o .rdl) 2 + bit (o .supplied) 1 in
-    ap
-    (λ (counted : Bool). eqb ((bit (o .parity) 128 + bit (o .overflow) 64 + bit (o .underflow) 32 + bit (o .wdl) 16 + bit (o .rdl) 8 + bit (o .supplied) 4 + bit counted 2 + drive .density % 2) / 2 % 2) 1)
-    none
-    ∙ ap (λ (n : ℕ). eqb (n / 2 % 2) 1) (third-byte o (drive .density))
-    ∙ ap (λ (n : ℕ). eqb (n % 2) 1) (digits-div (above * 2 + 0) (mod-lt (drive .density) (zero-lt-suc 1)))
-    ∙ ap (λ (n : ℕ). eqb n 1) (digits-mod above (zero-lt-suc 1))
-
-marked : (b : Body) → bit22 (primaryNow b) ≡ true → b .outcome .counted ≡ true
-unfolding primaryNow
-marked b set =
-    by-test (b .outcome .counted) (λ yes. yes)
-    (λ none. absurd (false≢true (sym (clear (b .changed) (b .enable) (b .outcome) (b .selected) (current b) none) ∙ set)))
+use Rattle.controller.proofs.Speaking.{marked, Holds, Says, Speaks, ended-speaks, settled-speaks, go-refused-speaks, ending-speaks}
+use Rattle.controller.proofs.Steps.{stated, exchanged, turnOf, Talk, SaysNo, OfRefusals, OfTalk, OfStores, OfNo, OfData, OfResults, Kinds, data-for, result-for, by-step}
 
 -- ---- what is kept from call to call
 
@@ -118,61 +75,75 @@ free-hand last counted (ResultAwaited operation store) free = absurd free
 record Kept (last : Store) (own : OwnRecord) (b : Body) (phase : Phase) : Type 0 where
   pub hand : InHand last (b .outcome .counted) phase
   pub valid : b .outcome .counted ≡ true → own ≡ recordOf (b .secondary)
+  pub holds : Holds (b .outcome .counted) (b .secondary) phase
+
+record Goes (last : Store) (own : OwnRecord) (t : Turn) : Type 0 where
+  pub kept : Kept last own (t .body) (t .phase)
+  pub says : Says (t .body .outcome .counted) (t .body .secondary) (t .action)
 
 -- what is claimed of a call
 abbrev Keeps : Controller → Exchange → Type 0
 Keeps c x =
-    (last : Store) (own : OwnRecord) → Kept last own (c .body) (c .phase) → Kept (lastStore last c x) (ownRecord (lastStore last c x) own c x) (x .answer .reply .controller .body) (x .answer .reply .controller .phase)
+    (last : Store) (own : OwnRecord)
+    → Kept last own (c .body) (c .phase)
+    → Goes (lastStore last c x) (ownRecord (lastStore last c x) own c x) (turnOf (x .answer .reply))
 
 rests-keep :
     (last : Store) (own : OwnRecord) (b : Body) (t : Turn)
     → Rests b t
+    → Speaks t
     → (b .outcome .counted ≡ true → own ≡ recordOf (b .secondary))
-    → Kept last own (t .body) (t .phase)
-rests-keep last own b t rests valid =
+    → Goes last own t
+rests-keep last own b t rests speaks valid =
     record {
-      hand = free-hand last _ (t .phase) (rests .free);
-      valid = λ set. valid (sym (rests .same .counted) ∙ set) ∙ ap recordOf (sym (rests .same .secondary));
+      kept =
+          record {
+            hand = free-hand last _ (t .phase) (rests .free);
+            valid = λ set. valid (sym (rests .same .counted) ∙ set) ∙ ap recordOf (sym (rests .same .secondary));
+            holds = speaks .holds;
+          };
+      says = speaks .says;
     }
 
 -- ---- calls that carry out no store
 
 -- the last store and its record are as before
-kept :
-    (c : Controller) (x : Exchange) (last : Store) (own : OwnRecord)
+as-before :
+    (c : Controller) (x : Exchange) (last : Store) (own : OwnRecord) (t : Turn)
     → carriesOut c x ≡ false
     → ownRecord last own c x ≡ own
-    → Kept last own (x .answer .reply .controller .body) (x .answer .reply .controller .phase)
-    → Kept (lastStore last c x) (ownRecord (lastStore last c x) own c x) (x .answer .reply .controller .body) (x .answer .reply .controller .phase)
+    → Goes last own t
+    → Goes (lastStore last c x) (ownRecord (lastStore last c x) own c x) t
 unfolding lastStore
-kept c x last own none same keeps =
-    let next = x .answer .reply .controller in
-    subst (λ (store : Store). Kept store (ownRecord store own c x) (next .body) (next .phase)) (sym (pick-no (storeOf (c .body .collected)) last none))
-    (subst (λ (later : OwnRecord). Kept last later (next .body) (next .phase)) (sym same) keeps)
+as-before c x last own t none same goes =
+    subst (λ (store : Store). Goes store (ownRecord store own c x) t) (sym (pick-no (storeOf (c .body .collected)) last none))
+    (subst (λ (later : OwnRecord). Goes last later t) (sym same) goes)
 
 refusals-case : OfRefusals Keeps
-unfolding carriesOut notRefused ownRecord
+unfolding carriesOut notRefused ownRecord Says
 refusals-case c call number space check some last own before =
-    kept c (exchanged call (unchanged number c space check)) last own
-    (ap (λ (t : Bool). isTaken call && (t && holdsStore c)) some ∙ and-false (isTaken call)) (pick-no (recordAfter last own c call) own some) before
+    as-before c (exchanged call (unchanged number c space check)) last own _
+    (ap (λ (t : Bool). isTaken call && (t && holdsStore c)) some ∙ and-false (isTaken call)) (pick-no (recordAfter last own c call) own some)
+    (record { kept = before; says = tt })
 
 talk-case : OfTalk Keeps
 unfolding Talk lastStore carriesOut isTaken notRefused holdsStore ownRecord recordAfter pick
-talk-case c (byte value) t free rests last own before = rests-keep last own (c .body) t rests (before .valid)
-talk-case c broken t free rests last own before = rests-keep last own (c .body) t rests (before .valid)
-talk-case c tick t free rests last own before = rests-keep last own (c .body) t rests (before .valid)
-talk-case c taken t (free, load) rests last own before =
+talk-case c (byte value) t free rests speaks last own before = rests-keep last own (c .body) t rests (speaks (before .holds)) (before .valid)
+talk-case c broken t free rests speaks last own before = rests-keep last own (c .body) t rests (speaks (before .holds)) (before .valid)
+talk-case c tick t free rests speaks last own before = rests-keep last own (c .body) t rests (speaks (before .holds)) (before .valid)
+talk-case c taken t (free, load) rests speaks last own before =
     let none = ap not load in
-    kept c (exchanged taken (plain (carried t))) last own none (pick-no noRecord own none) (rests-keep last own (c .body) t rests (before .valid))
-talk-case c (report drive r) t talks rests last own before = absurd talks
-talk-case c (hostData host space check) t talks rests last own before = absurd talks
-talk-case c (result r space check) t talks rests last own before = absurd talks
-talk-case c reset t talks rests last own before = absurd talks
+    as-before c (exchanged taken (plain (carried t))) last own t none (pick-no noRecord own none)
+    (rests-keep last own (c .body) t rests (speaks (before .holds)) (before .valid))
+talk-case c (report drive r) t talks rests speaks last own before = absurd talks
+talk-case c (hostData host space check) t talks rests speaks last own before = absurd talks
+talk-case c (result r space check) t talks rests speaks last own before = absurd talks
+talk-case c reset t talks rests speaks last own before = absurd talks
 
 no-case : OfNo Keeps
 unfolding SaysNo lastStore carriesOut isTaken notRefused ownRecord recordAfter pick
-no-case b held (byte value) refuses last own before = rests-keep last own b _ (go-refused-rests b held) (before .valid)
-no-case b held broken refuses last own before = rests-keep last own b _ (go-refused-rests b held) (before .valid)
+no-case b held (byte value) refuses last own before = rests-keep last own b _ (go-refused-rests b held) (go-refused-speaks b held) (before .valid)
+no-case b held broken refuses last own before = rests-keep last own b _ (go-refused-rests b held) (go-refused-speaks b held) (before .valid)
 no-case b held taken refuses last own before = absurd refuses
 no-case b held (report drive r) refuses last own before = absurd refuses
 no-case b held (hostData host space check) refuses last own before = absurd refuses
@@ -187,46 +158,48 @@ module _ (store : Store) where
   none-valid : (counted : Bool) (count : ℕ) → counted ≡ false → counted ≡ true → noRecord ≡ recordOf count
   none-valid counted count none set = absurd (false≢true (sym none ∙ set))
 
-  rests-open : (b : Body) (t : Turn) → b .outcome .counted ≡ false → Rests b t → Kept store noRecord (t .body) (t .phase)
-  rests-open b t none rests = rests-keep store noRecord b t rests (none-valid _ _ none)
+  rests-open : (b : Body) (t : Turn) → b .outcome .counted ≡ false → Rests b t → Speaks t → Goes store noRecord t
+  rests-open b t none rests speaks = rests-keep store noRecord b t rests speaks (none-valid _ _ none)
 
   begun-opens :
       (b : Body) (operation : Operation)
       → b .outcome .counted ≡ false
       → asked store ≡ Operate operation
-      → Kept store noRecord (begun (pastTest b operation) operation store .body) (begun (pastTest b operation) operation store .phase)
-  unfolding begun ordered pastTest pick InHand
-  begun-opens b Read none asks = record { hand = record { same = refl; asks = asks; none = none }; valid = none-valid _ _ none }
-  begun-opens b CheckBytes none asks = record { hand = record { same = refl; asks = asks; none = none }; valid = none-valid _ _ none }
-  begun-opens b Write none asks = record { hand = record { same = refl; asks = asks; none = none }; valid = none-valid _ _ none }
-  begun-opens b Erase none asks = record { hand = record { same = refl; asks = asks; none = none }; valid = none-valid _ _ none }
-  begun-opens b Rewind none asks = record { hand = record { same = refl; asks = asks; none = none }; valid = none-valid _ _ none }
-  begun-opens b FastForward none asks = record { hand = record { same = refl; asks = asks; none = none }; valid = none-valid _ _ none }
-  begun-opens b SkipForward none asks = record { hand = record { same = refl; asks = asks; none = none }; valid = none-valid _ _ none }
-  begun-opens b SkipReverse none asks = record { hand = record { same = refl; asks = asks; none = none }; valid = none-valid _ _ none }
-  begun-opens b SearchForward none asks = record { hand = record { same = refl; asks = asks; none = none }; valid = none-valid _ _ none }
-  begun-opens b SearchReverse none asks = record { hand = record { same = refl; asks = asks; none = none }; valid = none-valid _ _ none }
-  begun-opens b WriteMark none asks = record { hand = record { same = refl; asks = asks; none = none }; valid = none-valid _ _ none }
+      → Goes store noRecord (begun (pastTest b operation) operation store)
+  unfolding begun ordered pastTest pick InHand Holds Says
+  begun-opens b Read none asks = record { kept = record { hand = record { same = refl; asks = asks; none = none }; valid = none-valid _ _ none; holds = tt }; says = tt }
+  begun-opens b CheckBytes none asks = record { kept = record { hand = record { same = refl; asks = asks; none = none }; valid = none-valid _ _ none; holds = tt }; says = tt }
+  begun-opens b Write none asks = record { kept = record { hand = record { same = refl; asks = asks; none = none }; valid = none-valid _ _ none; holds = tt }; says = tt }
+  begun-opens b Erase none asks = record { kept = record { hand = record { same = refl; asks = asks; none = none }; valid = none-valid _ _ none; holds = tt }; says = tt }
+  begun-opens b Rewind none asks = record { kept = record { hand = record { same = refl; asks = asks; none = none }; valid = none-valid _ _ none; holds = tt }; says = tt }
+  begun-opens b FastForward none asks = record { kept = record { hand = record { same = refl; asks = asks; none = none }; valid = none-valid _ _ none; holds = tt }; says = tt }
+  begun-opens b SkipForward none asks = record { kept = record { hand = record { same = refl; asks = asks; none = none }; valid = none-valid _ _ none; holds = tt }; says = tt }
+  begun-opens b SkipReverse none asks = record { kept = record { hand = record { same = refl; asks = asks; none = none }; valid = none-valid _ _ none; holds = tt }; says = tt }
+  begun-opens b SearchForward none asks = record { kept = record { hand = record { same = refl; asks = asks; none = none }; valid = none-valid _ _ none; holds = tt }; says = tt }
+  begun-opens b SearchReverse none asks = record { kept = record { hand = record { same = refl; asks = asks; none = none }; valid = none-valid _ _ none; holds = tt }; says = tt }
+  begun-opens b WriteMark none asks = record { kept = record { hand = record { same = refl; asks = asks; none = none }; valid = none-valid _ _ none; holds = tt }; says = tt }
 
   decoded-opens :
       (b : Body) (decode : Decoded)
       → b .outcome .counted ≡ false
       → asked store ≡ decode
-      → Kept store noRecord (decoded b store decode .body) (decoded b store decode .phase)
-  unfolding decoded operated resetOf startBody noOutcome InHand
-  decoded-opens b Reset none asks = record { hand = tt; valid = none-valid false _ refl }
-  decoded-opens b (Code code) none asks = rests-open b _ none (ended-rests b store code)
-  decoded-opens b (Track track) none asks = rests-open (setCurrent b (tracked (current b) track)) _ none (settled-rests _ store)
-  decoded-opens b (Enable enable) none asks = rests-open (setFlags b (b .changed) enable) _ none (settled-rests _ store)
-  decoded-opens b (Density density) none asks = rests-open (setCurrent b (withDensity (current b) density)) _ none (settled-rests _ store)
+      → Goes store noRecord (decoded b store decode)
+  unfolding decoded operated resetOf startBody noOutcome InHand Holds Says
+  decoded-opens b Reset none asks = record { kept = record { hand = tt; valid = none-valid false _ refl; holds = tt }; says = tt }
+  decoded-opens b (Code code) none asks = rests-open b _ none (ended-rests b store code) (ended-speaks b store code)
+  decoded-opens b (Track track) none asks =
+      rests-open (setCurrent b (tracked (current b) track)) _ none (settled-rests _ store) (settled-speaks _ store)
+  decoded-opens b (Enable enable) none asks = rests-open (setFlags b (b .changed) enable) _ none (settled-rests _ store) (settled-speaks _ store)
+  decoded-opens b (Density density) none asks =
+      rests-open (setCurrent b (withDensity (current b) density)) _ none (settled-rests _ store) (settled-speaks _ store)
   decoded-opens b (Operate operation) none asks =
-      pick-by (λ (t : Turn). Kept store noRecord (t .body) (t .phase)) (mayMove (moveOf operation) (current b .report))
-      (λ may. begun-opens b operation none asks) (λ not. rests-open b _ none (ended-rests b store 0x04))
+      pick-by (Goes store noRecord) (mayMove (moveOf operation) (current b .report)) (λ may. begun-opens b operation none asks)
+      (λ not. rests-open b _ none (ended-rests b store 0x04) (ended-speaks b store 0x04))
 
-  carried-opens : (b : Body) → Kept store noRecord (carriedOut b store .body) (carriedOut b store .phase)
+  carried-opens : (b : Body) → Goes store noRecord (carriedOut b store)
   unfolding carriedOut cleared noOutcome
   carried-opens b =
-      pick-by (λ (t : Turn). Kept store noRecord (t .body) (t .phase)) (namesUnknown store) (λ unknown. rests-open _ _ refl (ended-rests _ store 0x01))
+      pick-by (Goes store noRecord) (namesUnknown store) (λ unknown. rests-open _ _ refl (ended-rests _ store 0x01) (ended-speaks _ store 0x01))
       (λ drive. decoded-opens _ (asked store) refl refl)
 
 stores-case : OfStores Keeps
@@ -234,7 +207,7 @@ unfolding lastStore carriesOut isTaken notRefused holdsStore ownRecord recordAft
 stores-case b lead last own before =
     let store = storeOf (b .collected) in
     let t = carriedOut b store in
-    subst₂ (λ (next : Store) (later : OwnRecord). Kept next later (t .body) (t .phase)) (sym (pick-yes store last (ap not lead)))
+    subst₂ (λ (next : Store) (later : OwnRecord). Goes next later t) (sym (pick-yes store last (ap not lead)))
     (sym (pick-yes noRecord own (ap not lead))) (carried-opens store b)
 
 -- ---- the calls of a store
@@ -243,15 +216,15 @@ stores-case b lead last own before =
 written :
     (b : Body) (held : Store) (drive : Drive) (host space check : List ℕ)
     → Keeps (stated b (DataAwaited held)) (exchanged (hostData host space check) (dataDone b drive held host space check))
-unfolding dataDone ordered withUnderflow zeroedWords lastStore carriesOut isTaken notRefused ownRecord recordAfter InHand pick
+unfolding dataDone ordered withUnderflow zeroedWords lastStore carriesOut isTaken notRefused ownRecord recordAfter InHand Holds Says pick
 written b held drive host space check last own before = zeroed (isGcr drive)
   where
     later : Body
     later = setOutcome b (withUnderflow (b .outcome) (runsShort held host))
 
-    zeroed : (zeroes : Bool) → Kept last own (zeroedWords later zeroes) (ResultAwaited Write held)
-    zeroed true = record { hand = before .hand; valid = before .valid }
-    zeroed false = record { hand = before .hand; valid = before .valid }
+    zeroed : (zeroes : Bool) → Goes last own (ordered (zeroedWords later zeroes) Write held)
+    zeroed true = record { kept = record { hand = before .hand; valid = before .valid; holds = tt }; says = tt }
+    zeroed false = record { kept = record { hand = before .hand; valid = before .valid; holds = tt }; says = tt }
 
 writes-case : OfData Keeps
 unfolding dataIn
@@ -318,7 +291,8 @@ ended :
 unfolding resultGiven resultBody resultBits withRetry lastStore carriesOut isTaken notRefused ownRecord recordAfter InHand pick
 ended b operation held drive r bytes space check last own before =
     let mine = before .hand in
-    rests-keep last (passedBy last r) _ _ (ending-rests (resultBody b drive operation held r (length bytes) (length space)) operation held)
+    let body = resultBody b drive operation held r (length bytes) (length space) in
+    rests-keep last (passedBy last r) body _ (ending-rests body operation held) (ending-speaks body operation held)
     (λ set. either-told drive operation last held r (b .secondary) (mine .same) (mine .asks)
     (sym (ap (λ (t : Bool). t || (usesImage drive operation r || wroteWell operation (finalCode drive operation r))) (mine .none)) ∙ set))
 
@@ -329,33 +303,54 @@ results-case b operation held r space check = result-for Keeps refusals-case b h
 -- ---- every call, and every list
 
 keeps : Kinds Keeps
-unfolding goTaken reportNoted resetOf startBody noOutcome lastStore carriesOut isTaken notRefused ownRecord recordAfter InHand pick
+unfolding goTaken reportNoted resetOf startBody noOutcome lastStore carriesOut isTaken notRefused ownRecord recordAfter InHand Holds Says pick
 keeps =
     record {
       refusals = refusals-case;
       talk = talk-case;
       stores = stores-case;
-      reports = λ c n r within last own before. record { hand = before .hand; valid = before .valid };
-      yes = λ b held value accepts last own before. record { hand = before .hand; valid = before .valid };
+      reports = λ c n r within last own before. record { kept = record { hand = before .hand; valid = before .valid; holds = before .holds }; says = tt };
+      yes = λ b held value accepts last own before. record { kept = record { hand = before .hand; valid = before .valid; holds = tt }; says = tt };
       no = no-case;
       writes = writes-case;
       results = results-case;
-      resets = λ c last own before. record { hand = tt; valid = λ set. absurd (false≢true set) };
+      resets = λ c last own before. record { kept = record { hand = tt; valid = λ set. absurd (false≢true set); holds = tt }; says = tt };
     }
+
+-- what is sent is the record's own
+sends-own :
+    (own : OwnRecord) (counted : Bool) (count : ℕ) (action : Action)
+    → (counted ≡ true → own ≡ recordOf count)
+    → Says counted count action
+    → Sends own count action
+unfolding Says Sends
+sends-own own counted count (Text string) valid honest =
+    record {
+      secondary = λ lead. (valid (honest .brings lead .0), honest .brings lead .1);
+      primary = λ lead set. valid (honest .marks lead set);
+    }
+sends-own own counted count Nothing valid honest = tt
+sends-own own counted count (Byte b) valid honest = tt
+sends-own own counted count (Order order) valid honest = tt
 
 own-from :
     (calls : List Call) (last : Store) (own : OwnRecord) (c : Controller)
     → Kept last own (c .body) (c .phase)
     → ValidFrom last own c (run c calls)
-unfolding run ValidFrom Valid
+unfolding run ValidFrom
 own-from [] last own c before = tt
 own-from (call ∷ calls) last own c before =
     let x = exchanged call (step c call) in
-    let next = step c call .reply .controller in
+    let reply = step c call .reply in
     let store = lastStore last c x in
-    let after = by-step Keeps keeps c call last own before in
-    (λ set. after .valid (marked (next .body) set), own-from calls store (ownRecord store own c x) next after)
+    let goes = by-step Keeps keeps c call last own before in (
+      record {
+        stands = λ set. goes .kept .valid (marked (reply .controller .body) set);
+        sends = sends-own _ _ _ (reply .action) (goes .kept .valid) (goes .says);
+      },
+      own-from calls store (ownRecord store own c x) (reply .controller) (goes .kept),
+    )
 
 pub counts-are-own : (calls : List Call) → CountsAreOwn (run fresh calls)
-unfolding fresh startBody noOutcome InHand
-counts-are-own calls = own-from calls noStore noRecord fresh (record { hand = tt; valid = λ set. absurd (false≢true set) })
+unfolding fresh startBody noOutcome InHand Holds
+counts-are-own calls = own-from calls noStore noRecord fresh (record { hand = tt; valid = λ set. absurd (false≢true set); holds = tt })

@@ -73,20 +73,20 @@ module _ (d : ℕ) (low : d ≤ 3) where
 
   talk-case : OfTalk Followed
   unfolding Talk eventOf transferOf holdsStore lastStore carriesOut isTaken pick
-  talk-case c (byte value) t free rests last held admitted =
+  talk-case c (byte value) t free rests speaks last held admitted =
       rest-follows c (byte value) t last free rests (pick-no (goAnswered (eqb value 0x06) ∷ []) [] (ap (λ (go : Bool). go && isOf d last) (free-goes (c .phase) free))) refl
-  talk-case c broken t free rests last held admitted =
+  talk-case c broken t free rests speaks last held admitted =
       rest-follows c broken t last free rests (pick-no (goAnswered false ∷ []) [] (ap (λ (go : Bool). go && isOf d last) (free-goes (c .phase) free))) refl
-  talk-case c tick t free rests last held admitted = rest-follows c tick t last free rests refl refl
-  talk-case c taken t (free, load) rests last held admitted =
+  talk-case c tick t free rests speaks last held admitted = rest-follows c tick t last free rests refl refl
+  talk-case c taken t (free, load) rests speaks last held admitted =
       let x : Exchange = exchanged taken (plain (carried t)) in
       let none = ap not load in
       kept c x last (ap (λ (t : Bool). notRefused x && t) none ∙ and-false (notRefused x))
       (rest-follows c taken t last free rests (pick-no (storeEvent last ∷ []) [] (ap (λ (t : Bool). t && isOf d last) none)) refl)
-  talk-case c (report drive r) t talks rests last held admitted = absurd talks
-  talk-case c (hostData host space check) t talks rests last held admitted = absurd talks
-  talk-case c (result r space check) t talks rests last held admitted = absurd talks
-  talk-case c reset t talks rests last held admitted = absurd talks
+  talk-case c (report drive r) t talks rests speaks last held admitted = absurd talks
+  talk-case c (hostData host space check) t talks rests speaks last held admitted = absurd talks
+  talk-case c (result r space check) t talks rests speaks last held admitted = absurd talks
+  talk-case c reset t talks rests speaks last held admitted = absurd talks
 
   stores-case : OfStores Followed
   unfolding lastStore carriesOut isTaken notRefused holdsStore admits Free

@@ -1,6 +1,7 @@
 pub mod TransferLaws
 pub mod BenchCases
 pub mod Resting
+pub mod Speaking
 pub mod Steps
 pub mod OneDrive
 pub mod Following

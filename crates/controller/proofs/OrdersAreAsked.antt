@@ -36,7 +36,6 @@ use Rattle.link.specs.Link.{goTaken}
 use Rattle.transfers.specs.Data.{isGcr, runsShort, withUnderflow}
 use Rattle.transfers.specs.Results.{Result, movesTape, withGap, resultDrive}
 use Rattle.controller.specs.declared.controller.Controller.{Controller}
-use Rattle.controller.specs.declared.controller.Reply.{Reply}
 use Rattle.controller.specs.Controller.{fresh, carried}
 use Rattle.controller.specs.Stores.{storeOf, endedBy, tracked, withDensity, motionOrder, pastTest, ordered, begun, operated, decoded, cleared, namesUnknown, selectedBy, carriedOut}
 use Rattle.controller.specs.Records.{zeroedWords, dataDone, resultBody, resultGiven, resultDone}
@@ -45,7 +44,7 @@ use Rattle.controller.specs.Machine.Call.{byte, taken, broken, report, h
 use Rattle.controller.specs.Lists.{notRefused, holdsStore}
 use Rattle.controller.specs.Orders.{Account, restarted, opened, owing, entered, orderAsked, askedNoted, storeNoted, callNoted, noted, Asked, given, AskedFrom, OrdersAreAsked}
 use Rattle.controller.proofs.Resting.{seen, Free, NoOrder, Rests, ended-rests, settled-rests, go-refused-rests, ending-rests}
-use Rattle.controller.proofs.Steps.{stated, exchanged, Talk, SaysNo, OfRefusals, OfTalk, OfStores, OfReports, OfNo, OfData, OfResults, Kinds, data-for, result-for, by-step}
+use Rattle.controller.proofs.Steps.{stated, exchanged, turnOf, Talk, SaysNo, OfRefusals, OfTalk, OfStores, OfReports, OfNo, OfData, OfResults, Kinds, data-for, result-for, by-step}
 
 -- ---- the account agrees with the controller
 
@@ -109,10 +108,6 @@ record Pays (a : Account) (t : Turn) : Type 0 where
   pub asked : Asked a (t .action)
   pub kept : Kept (given a (t .action)) (t .body) (t .phase)
 
--- what a reply leaves and does
-abbrev turnOf : Reply → Turn
-turnOf reply = record { body = reply .controller .body; phase = reply .controller .phase; action = reply .action }
-
 -- what is claimed of a call
 abbrev Paid : Controller → Exchange → Type 0
 Paid c x =
@@ -156,16 +151,16 @@ refusals-case c call number space check some a before =
 
 talk-case : OfTalk Paid
 unfolding Talk noted notRefused callNoted holdsStore pick
-talk-case c (byte value) t free rests a before = rests-pay a (c .body) t rests (before .agrees)
-talk-case c broken t free rests a before = rests-pay a (c .body) t rests (before .agrees)
-talk-case c tick t free rests a before = rests-pay a (c .body) t rests (before .agrees)
-talk-case c taken t (free, load) rests a before =
+talk-case c (byte value) t free rests speaks a before = rests-pay a (c .body) t rests (before .agrees)
+talk-case c broken t free rests speaks a before = rests-pay a (c .body) t rests (before .agrees)
+talk-case c tick t free rests speaks a before = rests-pay a (c .body) t rests (before .agrees)
+talk-case c taken t (free, load) rests speaks a before =
     as-before c (exchanged taken (plain (carried t))) a t (pick-no (storeNoted a (storeOf (c .body .collected))) a (ap not load))
     (rests-pay a (c .body) t rests (before .agrees))
-talk-case c (report drive r) t talks rests a before = absurd talks
-talk-case c (hostData host space check) t talks rests a before = absurd talks
-talk-case c (result r space check) t talks rests a before = absurd talks
-talk-case c reset t talks rests a before = absurd talks
+talk-case c (report drive r) t talks rests speaks a before = absurd talks
+talk-case c (hostData host space check) t talks rests speaks a before = absurd talks
+talk-case c (result r space check) t talks rests speaks a before = absurd talks
+talk-case c reset t talks rests speaks a before = absurd talks
 
 no-case : OfNo Paid
 unfolding SaysNo noted notRefused callNoted pick

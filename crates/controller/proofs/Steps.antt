@@ -31,6 +31,7 @@ use Rattle.controller.specs.Records.{Answer, dataDone, resultDone}
 use Rattle.controller.specs.Machine.{unchanged, byteIn, brokenIn, tickIn, byteCall, brokenCall, tickCall, takenBody, takenIn, takenCall, reportNoted, reportCall, resetCall, dataFor, dataIn, dataCall, resultFor, resultIn, resultCall, Call, Exchange, plain, step}
 use Rattle.controller.specs.Machine.Call.{byte, taken, broken, report, hostData, result, tick, reset}
 use Rattle.controller.proofs.Resting.{Free, NoOrder, Rests, idle-rests, given-up-rests, byte-rests, send-rests, completed-rests, tick-rests, loaded-rests}
+use Rattle.controller.proofs.Speaking.{Holds, Says, Speaks, idle-speaks, given-up-speaks, byte-speaks, send-speaks, completed-speaks, tick-speaks, loaded-speaks}
 
 -- ---- the kinds
 
@@ -62,6 +63,10 @@ SaysNo (result r space check) = ⊥
 SaysNo tick = ⊥
 SaysNo reset = ⊥
 
+-- what a reply leaves and does
+abbrev pub turnOf : Reply → Turn
+turnOf reply = record { body = reply .controller .body; phase = reply .controller .phase; action = reply .action }
+
 -- what is claimed of a call in a state, with its answer
 abbrev pub Claim : Type 1
 Claim = Controller → Exchange → Type 0
@@ -73,7 +78,12 @@ OfRefusals P =
 
 -- a call that concerns the link alone
 abbrev pub OfTalk : Claim → Type 0
-OfTalk P = (c : Controller) (call : Call) (t : Turn) → Talk c call → Rests (c .body) t → P c (exchanged call (plain (carried t)))
+OfTalk P =
+    (c : Controller) (call : Call) (t : Turn)
+    → Talk c call
+    → Rests (c .body) t
+    → (Holds (c .body .outcome .counted) (c .body .secondary) (c .phase) → Speaks t)
+    → P c (exchanged call (plain (carried t)))
 
 -- a store is carried out
 abbrev pub OfStores : Claim → Type 0
@@ -155,32 +165,32 @@ module _ (P : Claim) (kinds : Kinds P) where
 
   module _ (b : Body) where
     byte-in : (value : ℕ) (phase : Phase) → P (stated b phase) (exchanged (byte value) (plain (byteIn (stated b phase) b value phase)))
-    unfolding byteIn goAnswered Talk SaysNo Free NoOrder
-    byte-in value Collecting = kinds .talk (stated b Collecting) _ _ tt (byte-rests b value)
-    byte-in value AckOffered = kinds .talk (stated b AckOffered) _ _ tt (idle-rests b Nothing tt)
-    byte-in value (Sending s) = kinds .talk (stated b (Sending s)) _ _ tt (send-rests b value s)
+    unfolding byteIn goAnswered Talk SaysNo Free NoOrder Holds Says
+    byte-in value Collecting = kinds .talk (stated b Collecting) _ _ tt (byte-rests b value) (λ held. byte-speaks b value)
+    byte-in value AckOffered = kinds .talk (stated b AckOffered) _ _ tt (idle-rests b Nothing tt) (λ held. idle-speaks b Nothing tt)
+    byte-in value (Sending s) = kinds .talk (stated b (Sending s)) _ _ tt (send-rests b value s) (send-speaks b value s)
     byte-in value (GoOffered held) =
         pick-by (λ (t : Turn). P (stated b (GoOffered held)) (exchanged (byte value) (plain (carried t)))) (eqb value 0x06) (λ yes. kinds .yes b held value yes)
         (λ no. kinds .no b held (byte value) no)
     byte-in value (DataAwaited held) = refuses (stated b (DataAwaited held)) _ 2 refl
     byte-in value (ResultAwaited operation held) = refuses (stated b (ResultAwaited operation held)) _ 2 refl
-    byte-in value (EndOffered interrupt) = kinds .talk (stated b (EndOffered interrupt)) _ _ tt (completed-rests b interrupt)
+    byte-in value (EndOffered interrupt) = kinds .talk (stated b (EndOffered interrupt)) _ _ tt (completed-rests b interrupt) (λ held. completed-speaks b interrupt)
 
     broken-in : (phase : Phase) → P (stated b phase) (exchanged broken (plain (brokenIn (stated b phase) b phase)))
-    unfolding brokenIn Talk SaysNo Free NoOrder
-    broken-in Collecting = kinds .talk (stated b Collecting) _ _ tt (idle-rests b Nothing tt)
-    broken-in AckOffered = kinds .talk (stated b AckOffered) _ _ tt (idle-rests b Nothing tt)
-    broken-in (Sending s) = kinds .talk (stated b (Sending s)) _ _ tt (given-up-rests b (s .kind))
+    unfolding brokenIn Talk SaysNo Free NoOrder Says
+    broken-in Collecting = kinds .talk (stated b Collecting) _ _ tt (idle-rests b Nothing tt) (λ held. idle-speaks b Nothing tt)
+    broken-in AckOffered = kinds .talk (stated b AckOffered) _ _ tt (idle-rests b Nothing tt) (λ held. idle-speaks b Nothing tt)
+    broken-in (Sending s) = kinds .talk (stated b (Sending s)) _ _ tt (given-up-rests b (s .kind)) (λ held. given-up-speaks b (s .kind))
     broken-in (GoOffered held) = kinds .no b held broken tt
     broken-in (DataAwaited held) = refuses (stated b (DataAwaited held)) _ 2 refl
     broken-in (ResultAwaited operation held) = refuses (stated b (ResultAwaited operation held)) _ 2 refl
-    broken-in (EndOffered interrupt) = kinds .talk (stated b (EndOffered interrupt)) _ _ tt (completed-rests b interrupt)
+    broken-in (EndOffered interrupt) = kinds .talk (stated b (EndOffered interrupt)) _ _ tt (completed-rests b interrupt) (λ held. completed-speaks b interrupt)
 
     tick-in : (phase : Phase) → P (stated b phase) (exchanged tick (plain (tickIn (stated b phase) b phase)))
     unfolding tickIn Talk Free
     tick-in Collecting =
         pick-by (λ (r : Reply). P (stated b Collecting) (exchanged tick (plain r))) (eqb (b .collected .length) 0)
-        (λ idle. kinds .talk (stated b Collecting) _ _ tt (tick-rests b)) (λ part. refuses (stated b Collecting) _ 4 refl)
+        (λ idle. kinds .talk (stated b Collecting) _ _ tt (tick-rests b) (λ held. tick-speaks b)) (λ part. refuses (stated b Collecting) _ 4 refl)
     tick-in AckOffered = refuses (stated b AckOffered) _ 4 refl
     tick-in (Sending s) = refuses (stated b (Sending s)) _ 4 refl
     tick-in (GoOffered held) = refuses (stated b (GoOffered held)) _ 4 refl
@@ -192,7 +202,7 @@ module _ (P : Claim) (kinds : Kinds P) where
     unfolding takenIn takenBody Talk Free
     taken-in AckOffered =
         pick-by (λ (t : Turn). P (stated b AckOffered) (exchanged taken (plain (carried t)))) (eqb (b .collected .c0) 0x62)
-        (λ load. kinds .talk (stated b AckOffered) _ _ (tt, load) (loaded-rests b (b .collected .c1))) (λ other. kinds .stores b other)
+        (λ load. kinds .talk (stated b AckOffered) _ _ (tt, load) (loaded-rests b (b .collected .c1)) (λ held. loaded-speaks b (b .collected .c1))) (λ other. kinds .stores b other)
     taken-in Collecting = refuses (stated b Collecting) _ 2 refl
     taken-in (Sending s) = refuses (stated b (Sending s)) _ 2 refl
     taken-in (GoOffered held) = refuses (stated b (GoOffered held)) _ 2 refl

@@ -16,10 +16,15 @@ use Rattle.operations.specs.declared.store.Store.{Store}
 use Rattle.operations.specs.Operation.{numberOf}
 use Rattle.operations.specs.Store.{asked, heldCount}
 use Rattle.status.specs.declared.words.Word.{Word}
-use Rattle.link.specs.declared.state.Body.{Body}
+use Rattle.status.specs.declared.strings.Six.{Six}
+use Rattle.status.specs.Words.{secondaryWord}
+use Rattle.status.specs.Strings.{stringOf}
+use Rattle.link.specs.declared.state.Action.{Action}
+use Rattle.link.specs.declared.state.Action.the-variants.{Nothing, Byte, Text, Order}
 use Rattle.link.specs.Completion.{primaryNow}
 use Rattle.transfers.specs.Results.{Result}
 use Rattle.controller.specs.declared.controller.Controller.{Controller}
+use Rattle.controller.specs.declared.controller.Reply.{Reply}
 use Rattle.controller.specs.Controller.{fresh}
 use Rattle.controller.specs.Machine.{Call, Exchange}
 use Rattle.controller.specs.Machine.Call.{byte, taken, broken, report, hostData, result, tick, reset}
@@ -67,14 +72,30 @@ ownRecord store own c x = pick (notRefused x) (recordAfter store own c (x .call)
 unfoldable pub bit22 : Word → Bool
 bit22 word = eqb (word .b2 / 2 % 2) 1
 
--- what holds after a call
-unfoldable pub Valid : OwnRecord → Body → Type 0
-Valid own b = bit22 (primaryNow b) ≡ true → own ≡ recordOf (b .secondary)
+-- "A sent string is six bytes: lead, four status bytes, check": the word that it brings
+unfoldable pub wordIn : Six → Word
+wordIn string = record { b0 = string .b1; b1 = string .b2; b2 = string .b3; b3 = string .b4 }
+
+-- "if bit 22 send secondary; then primary": a secondary that is sent is this record's, and so is the count that a primary that is sent marks
+pub record Brings (own : OwnRecord) (count : ℕ) (string : Six) : Type 0 where
+  pub secondary : string .b0 ≡ 0x68 → (own ≡ recordOf count) × (string ≡ stringOf 0x68 (secondaryWord count))
+  pub primary : string .b0 ≡ 0x69 → bit22 (wordIn string) ≡ true → own ≡ recordOf count
+
+unfoldable pub Sends : OwnRecord → ℕ → Action → Type 0
+Sends own count (Text string) = Brings own count string
+Sends own count Nothing = Unit
+Sends own count (Byte b) = Unit
+Sends own count (Order order) = Unit
+
+-- what holds after a call: of primary as it stands, and of what is sent
+pub record Valid (own : OwnRecord) (reply : Reply) : Type 0 where
+  pub stands : bit22 (primaryNow (reply .controller .body)) ≡ true → own ≡ recordOf (reply .controller .body .secondary)
+  pub sends : Sends own (reply .controller .body .secondary) (reply .action)
 
 unfoldable pub ValidFrom : Store → OwnRecord → Controller → List Exchange → Type 0
 ValidFrom last own c [] = Unit
 ValidFrom last own c (x ∷ xs) =
-    Valid (ownRecord (lastStore last c x) own c x) (x .answer .reply .controller .body)
+    Valid (ownRecord (lastStore last c x) own c x) (x .answer .reply)
     × ValidFrom (lastStore last c x) (ownRecord (lastStore last c x) own c x) (x .answer .reply .controller) xs
 
 abbrev pub CountsAreOwn : List Exchange → Type 0
