@@ -41,8 +41,8 @@ use Rattle.controller.specs.Machine.Call.{byte, taken, broken, report, h
 use Rattle.controller.specs.Lists.{notRefused, isTaken, holdsStore, carriesOut, lastStore, noStore}
 use Rattle.controller.specs.Counts.{OwnRecord, isWrite, passedBy, recordAfter, ownRecord, Sends, ValidFrom, CountsAreOwn}
 use Rattle.controller.specs.Counts.OwnRecord.{noRecord, recordOf}
-use Rattle.controller.proofs.Resting.{Free, Rests, ended-rests, settled-rests, go-refused-rests, ending-rests}
-use Rattle.controller.proofs.Speaking.{marked, Holds, Says, Speaks, ended-speaks, settled-speaks, go-refused-speaks, ending-speaks}
+use Rattle.controller.proofs.Steps.Resting.{Free, Rests, ended-rests, settled-rests, go-refused-rests, ending-rests}
+use Rattle.controller.proofs.Steps.Speaking.{marked, Holds, Says, Speaks, ended-speaks, settled-speaks, go-refused-speaks, ending-speaks}
 use Rattle.controller.proofs.Steps.{stated, exchanged, turnOf, Talk, SaysNo, OfRefusals, OfTalk, OfStores, OfNo, OfData, OfResults, Kinds, data-for, result-for, by-step}
 
 -- ---- what is kept from call to call

@@ -1,6 +1,11 @@
 -- Demand 3 over the definitions: what a drive ends with and was given is a function of its own history alone, so two lists with the same
 -- history of a drive agree on it.
 -- Assumes nothing.
+pub mod OneDrive
+pub mod Views
+pub mod Stores
+pub mod Calls
+pub mod EachCall
 use mathlib.Core.Path.{_≡_, refl, sym, ap, ap₂, _∙_}
 use Prim.Native.Nat.{ℕ, _≤_}
 use mathlib.Core.Bool.{true}
@@ -13,10 +18,10 @@ use Rattle.controller.specs.Controller.{fresh}
 use Rattle.controller.specs.Machine.{Call, Exchange, step, run}
 use Rattle.controller.specs.Lists.{lastStore, noStore, after}
 use Rattle.controller.specs.Separation.{Event, Output, eventsOf, historyFrom, outputsFrom, admits, admittedFrom, Separate}
-use Rattle.controller.proofs.OneDrive.{View, told, gives, toldAll, givesAll}
-use Rattle.controller.proofs.Resting.{seen}
-use Rattle.controller.proofs.Following.{viewOf, InHand}
-use Rattle.controller.proofs.EachCall.{step-follows}
+use Rattle.controller.proofs.DrivesAreSeparate.OneDrive.{View, told, gives, toldAll, givesAll}
+use Rattle.controller.proofs.Steps.Resting.{seen}
+use Rattle.controller.proofs.DrivesAreSeparate.Views.{viewOf, InHand}
+use Rattle.controller.proofs.DrivesAreSeparate.EachCall.{step-follows}
 
 -- ---- one event after another
 

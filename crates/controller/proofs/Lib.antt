@@ -1,11 +1,6 @@
 pub mod TransferLaws
 pub mod BenchCases
-pub mod Resting
-pub mod Speaking
 pub mod Steps
-pub mod OneDrive
-pub mod Following
-pub mod EachCall
 pub mod DrivesAreSeparate
 pub mod CountsAreOwn
 pub mod OrdersAreAsked

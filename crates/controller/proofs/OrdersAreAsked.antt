@@ -1,142 +1,50 @@
 -- Every motion order is the one that the last store asked for, with the drive it selected and what was last chosen for that drive; none goes
 -- out unasked, and no store gives two (`orders-are-asked`, over the definitions).
 -- Assumes nothing.
-use mathlib.Core.Path.{_≡_, refl, sym, ap, ap₂, subst, _∙_}
+pub mod Accounts
+use mathlib.Core.Path.{_≡_, refl, sym, ap, subst, _∙_}
 use Prim.Native.Nat.{ℕ, _≤_}
 use native.Mathlib.Omega.{arith}
 use mathlib.Core.Bool.{Bool, true, false, not, _&&_, and-true}
 use mathlib.Core.List.{List, [], _∷_}
 use lib.Dec.{leb, eqb}
 use lib.ListN.{length}
-use borrow.Author.Tests.{eqb-true, eqb-false, eq-eqb, ne-eqb, leb-false}
+use borrow.Author.Tests.{eqb-true, leb-false}
 use Rattle.common.specs.Pick.{pick}
-use Rattle.common.proofs.PickLaws.{by-test, pick-by, pick-yes, pick-no}
+use Rattle.common.proofs.PickLaws.{pick-by, pick-yes, pick-no}
 use Rattle.status.specs.declared.drives.Drive.{Drive}
 use Rattle.status.specs.declared.drives.Drives.{Drives}
 use Rattle.status.specs.declared.strings.Six.{Six}
-use Rattle.status.specs.Drives.{driveOf, withDrive, reported, copied, freshWith, freshDrives, resetDrives}
-use Rattle.status.specs.Strings.{orderOf}
-use Rattle.status.proofs.DriveLaws.{by-four, put-same, put-other}
+use Rattle.status.specs.Drives.{driveOf, reported, copied, freshWith, freshDrives, resetDrives}
+use Rattle.status.proofs.DriveLaws.{by-four}
 use Rattle.operations.specs.declared.operation.Operation.{Operation}
 use Rattle.operations.specs.declared.operation.Operation.the-variants.{Read, CheckBytes, Write, Erase, Rewind, FastForward, SkipForward, SkipReverse, SearchForward, SearchReverse, WriteMark}
 use Rattle.operations.specs.declared.decode.Decoded.{Decoded}
 use Rattle.operations.specs.declared.decode.Decoded.the-variants.{Reset, Code, Track, Enable, Density, Operate}
 use Rattle.operations.specs.declared.store.Store.{Store}
-use Rattle.operations.specs.Operation.{moveOf, orderByte}
+use Rattle.operations.specs.Operation.{moveOf}
 use Rattle.operations.specs.Store.{namesDrive, named, asked}
 use Rattle.operations.specs.Test.{mayMove}
 use Rattle.link.specs.declared.state.Phase.{Phase}
 use Rattle.link.specs.declared.state.Phase.the-variants.{Collecting, AckOffered, Sending, GoOffered, DataAwaited, ResultAwaited, EndOffered}
 use Rattle.link.specs.declared.state.Body.{Body}
-use Rattle.link.specs.declared.state.Action.{Action}
-use Rattle.link.specs.declared.state.Action.the-variants.{Nothing, Byte, Text, Order}
+use Rattle.link.specs.declared.state.Action.the-variants.{Nothing}
 use Rattle.link.specs.declared.state.Turn.{Turn}
-use Rattle.link.specs.State.{startBody, setDrives, setSelected, setFlags, setOutcome, setCurrent, current, resetOf}
+use Rattle.link.specs.State.{startBody, setSelected, setFlags, setOutcome, setCurrent, current, resetOf}
 use Rattle.link.specs.Link.{goTaken}
 use Rattle.transfers.specs.Data.{isGcr, runsShort, withUnderflow}
 use Rattle.transfers.specs.Results.{Result, movesTape, withGap, resultDrive}
 use Rattle.controller.specs.declared.controller.Controller.{Controller}
 use Rattle.controller.specs.Controller.{fresh, carried}
-use Rattle.controller.specs.Stores.{storeOf, endedBy, tracked, withDensity, motionOrder, pastTest, ordered, begun, operated, decoded, cleared, namesUnknown, selectedBy, carriedOut}
+use Rattle.controller.specs.Stores.{storeOf, endedBy, tracked, withDensity, pastTest, ordered, begun, operated, decoded, cleared, namesUnknown, selectedBy, carriedOut}
 use Rattle.controller.specs.Records.{zeroedWords, dataDone, resultBody, resultGiven, resultDone}
 use Rattle.controller.specs.Machine.{unchanged, reportNoted, dataIn, resultIn, Call, Exchange, plain, step, run}
 use Rattle.controller.specs.Machine.Call.{byte, taken, broken, report, hostData, result, tick, reset}
 use Rattle.controller.specs.Lists.{notRefused, holdsStore}
 use Rattle.controller.specs.Orders.{Account, restarted, opened, owing, entered, orderAsked, askedNoted, storeNoted, callNoted, noted, Asked, given, AskedFrom, OrdersAreAsked}
-use Rattle.controller.proofs.Resting.{seen, Free, NoOrder, Rests, ended-rests, settled-rests, go-refused-rests, ending-rests}
-use Rattle.controller.proofs.Steps.{stated, exchanged, turnOf, Talk, SaysNo, OfRefusals, OfTalk, OfStores, OfReports, OfNo, OfData, OfResults, Kinds, data-for, result-for, by-step}
-
--- ---- the account agrees with the controller
-
--- what is said of a drive is what the controller has of it
-record Matches (last chosen dense : ℕ) (drive : Drive) : Type 0 where
-  pub report : drive .report ≡ last
-  pub track : drive .track ≡ chosen
-  pub density : drive .density ≡ dense
-
-record Agrees (said : ℕ) (last chosen dense : ℕ → ℕ) (now : ℕ) (drives : Drives) : Type 0 where
-  pub selected : now ≡ said
-  pub low : now ≤ 3
-  pub drive : (d : ℕ) → d ≤ 3 → Matches (last d) (chosen d) (dense d) (copied (driveOf drives d))
-
-abbrev Agreeing : Account → Body → Type 0
-Agreeing a b = Agrees (a .selected) (a .report) (a .track) (a .density) (b .selected) (b .drives)
-
--- the order of an operation, as the account has it
-abbrev accounted : Account → Operation → Store → Six
-accounted a operation store =
-    orderOf (orderByte operation) (a .selected) (a .track (a .selected)) (a .density (a .selected)) (store .third) (store .fourth)
-
--- a write in hand is owed its order
-unfoldable Owes : Account → Phase → Type 0
-Owes a Collecting = Unit
-Owes a AckOffered = Unit
-Owes a (Sending s) = Unit
-Owes a (EndOffered interrupt) = Unit
-Owes a (GoOffered store) = a .owed ≡ accounted a Write store ∷ []
-Owes a (DataAwaited store) = a .owed ≡ accounted a Write store ∷ []
-Owes a (ResultAwaited operation store) = Unit
-
-free-owes : (a : Account) (phase : Phase) → Free phase → Owes a phase
-unfolding Owes Free
-free-owes a Collecting free = tt
-free-owes a AckOffered free = tt
-free-owes a (Sending s) free = tt
-free-owes a (EndOffered interrupt) free = tt
-free-owes a (GoOffered store) free = absurd free
-free-owes a (DataAwaited store) free = absurd free
-free-owes a (ResultAwaited operation store) free = absurd free
-
--- the controller's order is the account's
-same-order :
-    (a : Account) (b : Body) (operation : Operation) (store : Store)
-    → Agreeing a b
-    → accounted a operation store ≡ motionOrder b operation store
-unfolding motionOrder
-same-order a b operation store agrees =
-    let (selected, track, density) : ((b .selected ≡ a .selected) × (current b .track ≡ a .track (b .selected)) × (current b .density ≡ a .density (b .selected))) =
-    (agrees .selected, agrees .drive (b .selected) (agrees .low) .track, agrees .drive (b .selected) (agrees .low) .density) in
-    subst (λ (d : ℕ). orderOf (orderByte operation) d (a .track d) (a .density d) (store .third) (store .fourth) ≡ motionOrder b operation store) selected
-    (sym (ap₂ (λ (t n : ℕ). orderOf (orderByte operation) (b .selected) t n (store .third) (store .fourth)) track density))
-
-record Kept (a : Account) (b : Body) (phase : Phase) : Type 0 where
-  pub agrees : Agreeing a b
-  pub owes : Owes a phase
-
--- a turn that gives the order owed, or none, and leaves an account that agrees
-record Pays (a : Account) (t : Turn) : Type 0 where
-  pub asked : Asked a (t .action)
-  pub kept : Kept (given a (t .action)) (t .body) (t .phase)
-
--- what is claimed of a call
-abbrev Paid : Controller → Exchange → Type 0
-Paid c x =
-    (a : Account) → Kept a (c .body) (c .phase) → Pays (noted a c x) (turnOf (x .answer .reply))
-
--- no order, and so nothing to pay
-quiet-pays :
-    (a : Account) (b : Body) (phase : Phase) (action : Action)
-    → NoOrder action
-    → Kept a b phase
-    → Pays a (record { body = b; phase = phase; action = action })
-unfolding NoOrder Asked given
-quiet-pays a b phase Nothing none kept = record { asked = tt; kept = kept }
-quiet-pays a b phase (Byte value) none kept = record { asked = tt; kept = kept }
-quiet-pays a b phase (Text string) none kept = record { asked = tt; kept = kept }
-quiet-pays a b phase (Order order) none kept = absurd none
-
-same-agrees : (a : Account) (b : Body) (t : Turn) → Rests b t → Agreeing a b → Agreeing a (t .body)
-same-agrees a b t rests agrees =
-    record {
-      selected = rests .same .selected ∙ agrees .selected;
-      low = subst (λ (n : ℕ). n ≤ 3) (sym (rests .same .selected)) (agrees .low);
-      drive = λ d low. subst (Matches (a .report d) (a .track d) (a .density d)) (sym (rests .same .drive d low)) (agrees .drive d low);
-    }
-
-rests-pay : (a : Account) (b : Body) (t : Turn) → Rests b t → Agreeing a b → Pays a t
-rests-pay a b t rests agrees =
-    quiet-pays a (t .body) (t .phase) (t .action) (rests .quiet)
-    (record { agrees = same-agrees a b t rests agrees; owes = free-owes a (t .phase) (rests .free) })
+use Rattle.controller.proofs.Steps.Resting.{NoOrder, ended-rests, settled-rests, go-refused-rests, ending-rests}
+use Rattle.controller.proofs.Steps.{stated, exchanged, Talk, SaysNo, OfRefusals, OfTalk, OfStores, OfReports, OfNo, OfData, OfResults, Kinds, data-for, result-for, by-step}
+use Rattle.controller.proofs.OrdersAreAsked.Accounts.{Agreeing, Kept, Matches, Owes, Paid, Pays, accounted, entered-other, entered-own, put-agrees, quiet-pays, rests-pay, same-order}
 
 -- ---- calls that carry out no store
 
@@ -173,42 +81,7 @@ no-case b held (result r space check) refuses a before = absurd refuses
 no-case b held tick refuses a before = absurd refuses
 no-case b held reset refuses a before = absurd refuses
 
--- ---- one drive's record is another
-
--- an entry for the drive, and for another
-entered-own : (entries : ℕ → ℕ) (n value d : ℕ) → d ≡ n → entered entries n value d ≡ value
-unfolding entered
-entered-own entries n value d e = pick-yes value (entries d) (eq-eqb d n e)
-
-entered-other : (entries : ℕ → ℕ) (n value d : ℕ) → (d ≡ n → ⊥) → entered entries n value d ≡ entries d
-unfolding entered
-entered-other entries n value d other = pick-no value (entries d) (ne-eqb d n other)
-
--- where what is said of a drive and its record change alike, the two agree again
-put-agrees :
-    (a later : Account) (b : Body) (n : ℕ) (drive : Drive)
-    → n ≤ 3
-    → later .selected ≡ a .selected
-    → Agreeing a b
-    → Matches (later .report n) (later .track n) (later .density n) drive
-    → ((d : ℕ) → (d ≡ n → ⊥) → Matches (a .report d) (a .track d) (a .density d) (seen d b) → Matches (later .report d) (later .track d) (later .density d) (seen d b))
-    → Agreeing later (setDrives b (withDrive (b .drives) n drive))
-put-agrees a later b n drive within selected agrees own others =
-    record {
-      selected = agrees .selected ∙ sym selected;
-      low = agrees .low;
-      drive =
-          λ d low. by-test (eqb d n)
-          (λ same.
-          subst (λ (m : ℕ). Matches (later .report m) (later .track m) (later .density m) (copied (driveOf (withDrive (b .drives) n drive) m)))
-          (sym (eqb-true d n same))
-          (subst (λ (x : Drive). Matches (later .report n) (later .track n) (later .density n) (copied x)) (sym (put-same (b .drives) drive n within))
-          (record { report = own .report; track = own .track; density = own .density })))
-          (λ other.
-          let apart : d ≡ n → ⊥ = eqb-false d n other in
-          subst (λ (x : Drive). Matches (later .report d) (later .track d) (later .density d) (copied x))
-          (sym (put-other (b .drives) drive n d within low (λ e. apart (sym e)))) (others d apart (agrees .drive d low)));
-    }
+-- ---- a report
 
 reports-case : OfReports Paid
 unfolding noted notRefused callNoted reportNoted NoOrder reported Owes pick

@@ -1,5 +1,7 @@
 -- What a call can come to: nine kinds of step. A claim of every call is shown kind by kind (`by-step`).
 -- Assumes nothing.
+pub mod Resting
+pub mod Speaking
 use mathlib.Core.Path.{_≡_, refl}
 use Prim.Native.Nat.{ℕ, _≤_}
 use native.Mathlib.Omega.{arith}
@@ -30,8 +32,8 @@ use Rattle.controller.specs.Stores.{storeOf, carriedOut}
 use Rattle.controller.specs.Records.{Answer, dataDone, resultDone}
 use Rattle.controller.specs.Machine.{unchanged, byteIn, brokenIn, tickIn, byteCall, brokenCall, tickCall, takenBody, takenIn, takenCall, reportNoted, reportCall, resetCall, dataFor, dataIn, dataCall, resultFor, resultIn, resultCall, Call, Exchange, plain, step}
 use Rattle.controller.specs.Machine.Call.{byte, taken, broken, report, hostData, result, tick, reset}
-use Rattle.controller.proofs.Resting.{Free, NoOrder, Rests, idle-rests, given-up-rests, byte-rests, send-rests, completed-rests, tick-rests, loaded-rests}
-use Rattle.controller.proofs.Speaking.{Holds, Says, Speaks, idle-speaks, given-up-speaks, byte-speaks, send-speaks, completed-speaks, tick-speaks, loaded-speaks}
+use Rattle.controller.proofs.Steps.Resting.{Free, NoOrder, Rests, idle-rests, given-up-rests, byte-rests, send-rests, completed-rests, tick-rests, loaded-rests}
+use Rattle.controller.proofs.Steps.Speaking.{Holds, Says, Speaks, idle-speaks, given-up-speaks, byte-speaks, send-speaks, completed-speaks, tick-speaks, loaded-speaks}
 
 -- ---- the kinds
 

@@ -21,9 +21,11 @@ use Rattle.controller.specs.Machine.Call.{byte, taken, broken, report, h
 use Rattle.controller.specs.Lists.{notRefused, isTaken, holdsStore, carriesOut, lastStore}
 use Rattle.controller.specs.Separation.{isOf, storeEvent, awaitsGo, eventOf, bytesGiven, transferOf, isReset, resets, admits}
 use Rattle.controller.specs.Separation.Event.{goAnswered}
-use Rattle.controller.proofs.Resting.{Free, Rests}
+use Rattle.controller.proofs.Steps.Resting.{Free, Rests}
 use Rattle.controller.proofs.Steps.{stated, exchanged, Talk, SaysNo, OfRefusals, OfTalk, OfStores, OfNo, OfData, OfResults, OfResets, Kinds, data-for, result-for, by-step}
-use Rattle.controller.proofs.Following.{viewOf, InHand, free-held, free-view, rests-view, none-for, Follows, refused-follows, passes-follows, carried-follows, report-follows, go-taken-follows, go-refused-follows, data-follows, result-follows}
+use Rattle.controller.proofs.DrivesAreSeparate.Views.{viewOf, InHand, free-held, free-view, rests-view, none-for, Follows, refused-follows, passes-follows}
+use Rattle.controller.proofs.DrivesAreSeparate.Stores.{carried-follows}
+use Rattle.controller.proofs.DrivesAreSeparate.Calls.{report-follows, go-taken-follows, go-refused-follows, data-follows, result-follows}
 
 -- with nothing in hand no answer to GO is awaited
 free-goes : (phase : Phase) → Free phase → awaitsGo phase ≡ false

@@ -1,0 +1,250 @@
+-- A report, an answer to GO, a data call and a result are followed by the machine of one drive.
+-- Assumes nothing.
+use mathlib.Core.Path.{_≡_, refl, sym, ap, ap₂, subst, _∙_}
+use Prim.Native.Nat.{ℕ, _≤_}
+use mathlib.Core.Bool.{Bool, true, false, _&&_}
+use mathlib.Core.List.{List, [], _∷_, _++_, append-nil}
+use lib.Dec.{eqb}
+use lib.ListN.{length, take}
+use borrow.Author.Tests.{eqb-true, eqb-false}
+use Rattle.common.specs.Pick.{pick}
+use Rattle.common.specs.Given.{given}
+use Rattle.common.proofs.GivenLaws.{given-front}
+use Rattle.common.proofs.PickLaws.{by-test, pick-yes, pick-no}
+use Rattle.operations.specs.declared.operation.Operation.{Operation}
+use Rattle.operations.specs.declared.operation.Operation.the-variants.{Read, CheckBytes, Write, Erase, Rewind, FastForward, SkipForward, SkipReverse, SearchForward, SearchReverse, WriteMark}
+use Rattle.operations.specs.declared.decode.Decoded.{Decoded}
+use Rattle.operations.specs.Operation.{numberOf, orderByte}
+use Rattle.records.specs.Image.{imageOf}
+use Rattle.status.specs.declared.drives.Drive.{Drive}
+use Rattle.status.specs.Drives.{driveOf, reported, copied}
+use Rattle.status.specs.Strings.{orderOf}
+use Rattle.operations.specs.declared.store.Store.{Store}
+use Rattle.link.specs.declared.state.Phase.the-variants.{GoOffered, DataAwaited, ResultAwaited}
+use Rattle.link.specs.declared.state.Body.{Body}
+use Rattle.controller.specs.declared.controller.Controller.{Controller}
+use Rattle.link.specs.State.{setSelected, setOutcome, current}
+use Rattle.operations.specs.Store.{asked, thrownAway, heldCount}
+use Rattle.link.specs.Link.{goTaken, goRefused}
+use Rattle.controller.specs.Controller.{carried}
+use Rattle.controller.specs.Stores.{ordered}
+use Rattle.transfers.specs.Data.{recordBytes, runsShort, withUnderflow, isGcr}
+use Rattle.transfers.specs.Results.{Result, withGap, resultDrive, finalCode, isGone, usesImage, delivered, fitting}
+use Rattle.controller.specs.Records.{resultGiven, zeroedWords, dataDone, resultBody, resultDone}
+use Rattle.controller.specs.Machine.{reportNoted, Call, plain}
+use Rattle.controller.specs.Machine.Call.{byte, report, hostData, result}
+use Rattle.controller.specs.Separation.{Output, isOf, isRead, awaitsGo, eventOf, ordersFor, bytesGiven, transferOf}
+use Rattle.controller.specs.Separation.Event.{reportCame, goAnswered, dataCame, resultCame}
+use Rattle.controller.specs.Separation.Output.{motion, image, delivery}
+use Rattle.controller.proofs.DrivesAreSeparate.OneDrive.{Hand, View, resting, handAfterGo, handAfterData, givenAtData, driveAfterResult, givenAtResult, told, gives}
+use Rattle.controller.proofs.DrivesAreSeparate.OneDrive.Hand.{empty, goOffered, dataAwaited, resultAwaited}
+use Rattle.controller.proofs.Steps.Resting.{seen, go-refused-rests, ending-rests}
+use Rattle.controller.proofs.DrivesAreSeparate.Views.{Follows, Held, InHand, bare, does-follows, free-held, handIn, none-for, owned-follows, passes-follows, rests-view, viewOf}
+use Rattle.controller.proofs.DrivesAreSeparate.Stores.{Leaves, Starts, ordered-other, ordered-own, other-number, other-view, own-number, own-view, set-other, set-own}
+
+-- ---- a report
+
+module _ (d : ℕ) (low : d ≤ 3) (last : Store) (c : Controller) (n r : ℕ) where
+  pub report-follows :
+      n ≤ 3
+      → InHand last (c .body .selected) (c .phase)
+      → Follows d (viewOf d last c) last c (record { call = report n r; answer = plain (carried (reportNoted c n r)) })
+  unfolding reportNoted eventOf transferOf ordersFor told gives reported
+  report-follows within held =
+      by-test (eqb n d)
+      (λ same. does-follows d last c _ _ (reportCame r) (pick-yes (reportCame r ∷ []) [] same)
+      (record {
+        done = refl;
+        view =
+            ap (λ (drive : Drive). record { drive = drive; hand = viewOf d last c .hand })
+            (set-own d low (c .body) n (λ (x : Drive). reported x r) (eqb-true n d same));
+        given = refl;
+      })
+      held)
+      (λ other. passes-follows d last c _ _ (pick-no (reportCame r ∷ []) [] other)
+      (record {
+        view =
+            ap (λ (drive : Drive). record { drive = drive; hand = viewOf d last c .hand })
+            (set-other d low (setSelected (c .body) n) (reported (driveOf (c .body .drives) n) r) within (eqb-false n d other));
+        transfer = refl;
+        quiet = refl;
+      })
+      held)
+
+-- ---- GO
+
+module _ (d : ℕ) (low : d ≤ 3) (last : Store) (b : Body) (store : Store) where
+  abbrev offered : Controller
+  offered = record { body = b; phase = GoOffered store }
+
+  pub go-taken-follows :
+      (value : ℕ)
+      → eqb value 0x06 ≡ true
+      → Held last (b .selected) Write store
+      → Follows d (viewOf d last offered) last offered (record { call = byte value; answer = plain (carried (goTaken b store)) })
+  unfolding eventOf awaitsGo transferOf ordersFor told gives goTaken handIn handAfterGo InHand
+  go-taken-follows value accepts held =
+      owned-follows d last offered _ _ (goAnswered (eqb value 0x06)) refl
+      (λ own. record {
+        done = refl;
+        view =
+            ap (λ (hand : Hand). record { drive = seen d b; hand = hand })
+            (pick-yes (dataAwaited (bare store)) empty own ∙ sym (ap₂ handAfterGo accepts (pick-yes (goOffered (bare store)) empty own)));
+        given = refl;
+      })
+      (λ other. record {
+        view =
+            ap (λ (hand : Hand). record { drive = seen d b; hand = hand })
+            (pick-no (dataAwaited (bare store)) empty other ∙ sym (pick-no (goOffered (bare store)) empty other));
+        transfer = refl;
+        quiet = refl;
+      })
+      held
+
+  -- a no, by a byte or a broken link
+  pub go-refused-follows :
+      (call : Call) (accepts : Bool)
+      → eventOf d last offered call ≡ pick (isOf d last) (goAnswered accepts ∷ []) []
+      → transferOf d last [] call ≡ []
+      → accepts ≡ false
+      → Follows d (viewOf d last offered) last offered (record { call = call; answer = plain (carried (goRefused b store)) })
+  unfolding told gives handAfterGo bytesGiven
+  go-refused-follows call accepts made nothing refuses =
+      let rests = go-refused-rests b store in
+      owned-follows d last offered _ _ (goAnswered accepts) made
+      (λ own. record {
+        done = refl;
+        view =
+            rests-view d low last b _ rests
+            ∙ sym (ap (λ (t : Bool). record { drive = seen d b; hand = handAfterGo t (viewOf d last offered .hand) }) refuses);
+        given = ap₂ (λ (l m : List Output). l ++ m) nothing (none-for d _ (rests .quiet));
+      })
+      (λ other. record { view = rests-view d low last b _ rests ∙ sym (other-view d last offered _ other refl); transfer = nothing; quiet = none-for d _ (rests .quiet) })
+      (free-held last _ _ (rests .free))
+
+-- ---- the data call
+
+module _ (d : ℕ) (last : Store) (b : Body) (store : Store) where
+  abbrev writing : View
+  writing = record { drive = seen d b; hand = resultAwaited Write (bare store) }
+
+  -- the zeroing of the words concerns no drive
+  write-own :
+      (zeroes : Bool)
+      → b .selected ≡ d
+      → Starts d writing (motion (orderOf (orderByte Write) d (seen d b .track) (seen d b .density) (store .third) (store .fourth)) ∷ []) (ordered (zeroedWords b zeroes) Write store)
+  unfolding zeroedWords pick
+  write-own true e = ordered-own d store (zeroedWords b true) Write e
+  write-own false e = ordered-own d store b Write e
+
+  write-other : (zeroes : Bool) → (b .selected ≡ d → ⊥) → Leaves d (seen d b) (ordered (zeroedWords b zeroes) Write store)
+  unfolding zeroedWords pick
+  write-other true other = ordered-other d store (zeroedWords b true) Write other
+  write-other false other = ordered-other d store b Write other
+
+  write-held : (zeroes : Bool) → Held last (b .selected) Write store → Held last (zeroedWords b zeroes .selected) Write store
+  unfolding zeroedWords pick
+  write-held true held = held
+  write-held false held = held
+
+module _ (d : ℕ) (last : Store) (b : Body) (store : Store) (host space check : List ℕ) where
+  abbrev awaiting : Controller
+  awaiting = record { body = b; phase = DataAwaited store }
+
+  pub data-follows :
+      Held last (b .selected) Write store
+      → Follows d (viewOf d last awaiting) last awaiting (record { call = hostData host space check; answer = dataDone b (current b) store host space check })
+  unfolding eventOf transferOf bytesGiven told gives dataDone handIn handAfterData givenAtData recordBytes thrownAway heldCount InHand ordered
+  data-follows held =
+      let body = setOutcome b (withUnderflow (b .outcome) (runsShort store host)) in
+      let zeroes = isGcr (current b) in
+      let written = imageOf (recordBytes store host) (current b .density) in
+      let next = carried (ordered (zeroedWords body zeroes) Write store) .controller in
+      owned-follows d last awaiting _ _ (dataCame host) refl
+      (λ own.
+      let e : b .selected ≡ d = held .selects ∙ own-number d last (held .names) own in
+      let starts = write-own d last body store zeroes e in
+      let hand = pick-yes (dataAwaited (bare store)) empty own in
+      record {
+        done = refl;
+        view = own-view d last next _ own (starts .view) ∙ sym (ap (λ (h : Hand). record { drive = seen d b; hand = handAfterData h }) hand);
+        given =
+            ap₂ (λ (l m : List Output). l ++ m)
+            (pick-yes _ [] own ∙ ap (λ (l : List ℕ). image l ∷ [])
+            (given-front written space ∙ ap (λ (n : ℕ). imageOf (recordBytes store host) (driveOf (b .drives) n .density)) e))
+            (starts .given)
+            ∙ sym (ap (givenAtData d (seen d b) host) hand);
+      })
+      (λ other.
+      let leaves = write-other d last body store zeroes (λ e. other-number d last (held .names) other (sym (held .selects) ∙ e)) in
+      record {
+        view = other-view d last next _ other (leaves .same) ∙ sym (other-view d last awaiting _ other refl);
+        transfer = pick-no _ [] other;
+        quiet = leaves .quiet;
+      })
+      (write-held d last body store zeroes held)
+
+-- ---- the result
+
+-- a read's bytes depend on the drive's report and on nothing else of the state
+read-seen :
+    (operation : Operation) (drive : Drive) (r : Result) (check : List ℕ) (space : ℕ)
+    → pick (eqb (numberOf operation) (numberOf Read)) (delivery (fitting (delivered drive operation r check) space) ∷ []) [] ≡ pick (eqb (numberOf operation) (numberOf Read)) (delivery (fitting (delivered (copied drive) operation r []) space) ∷ []) []
+unfolding delivered usesImage isGone pick
+read-seen Read drive r check space = refl
+read-seen CheckBytes drive r check space = refl
+read-seen Write drive r check space = refl
+read-seen Erase drive r check space = refl
+read-seen Rewind drive r check space = refl
+read-seen FastForward drive r check space = refl
+read-seen SkipForward drive r check space = refl
+read-seen SkipReverse drive r check space = refl
+read-seen SearchForward drive r check space = refl
+read-seen SearchReverse drive r check space = refl
+read-seen WriteMark drive r check space = refl
+
+module _ (d : ℕ) (low : d ≤ 3) (last : Store) (b : Body) (operation : Operation) (store : Store) (r : Result) (space check : List ℕ) where
+  abbrev moving : Controller
+  moving = record { body = b; phase = ResultAwaited operation store }
+
+  pub result-follows :
+      Held last (b .selected) operation store
+      → Follows d (viewOf d last moving) last moving (record { call = result r space check; answer = resultDone b (current b) operation store r space check })
+  unfolding eventOf transferOf bytesGiven told gives resultDone resultGiven resultBody resultDrive withGap finalCode isGone handIn driveAfterResult givenAtResult isRead
+  result-follows held =
+      let bytes = delivered (current b) operation r check in
+      let body = resultBody b (current b) operation store r (length bytes) (length space) in
+      let rests = ending-rests body operation store in
+      let fits = fitting bytes (length space) in
+      owned-follows d last moving _ _ (resultCame r (length space)) refl
+      (λ own.
+      let e : b .selected ≡ d = held .selects ∙ own-number d last (held .names) own in
+      let hand = pick-yes (resultAwaited operation (bare store)) empty own in
+      record {
+        done = refl;
+        view =
+            rests-view d low last body _ rests
+            ∙ ap resting (set-own d low b (b .selected) (λ (x : Drive). resultDrive x operation r) e)
+            ∙ sym (ap (λ (h : Hand). resting (driveAfterResult (seen d b) r h)) hand);
+        given =
+            ap₂ (λ (l m : List Output). l ++ m)
+            (ap₂ (λ (t : Bool) (asks : Decoded). pick (t && isRead asks) (delivery (take (length fits) (given fits space)) ∷ []) []) own (held .asks)
+            ∙ ap (λ (l : List ℕ). pick (eqb (numberOf operation) (numberOf Read)) (delivery l ∷ []) [])
+            (given-front fits space ∙ ap (λ (n : ℕ). fitting (delivered (driveOf (b .drives) n) operation r check) (length space)) e)
+            ∙ read-seen operation (driveOf (b .drives) d) r check (length space))
+            (none-for d _ (rests .quiet))
+            ∙ append-nil _
+            ∙ sym (ap (givenAtResult (seen d b) r (length space)) hand);
+      })
+      (λ other.
+      let within = subst (λ (n : ℕ). n ≤ 3) (sym (held .selects)) (held .low) in
+      let differs : b .selected ≡ d → ⊥ = λ e. other-number d last (held .names) other (sym (held .selects) ∙ e) in
+      record {
+        view =
+            rests-view d low last body _ rests
+            ∙ ap resting (set-other d low b (resultDrive (current b) operation r) within differs)
+            ∙ sym (other-view d last moving _ other refl);
+        transfer = pick-no _ [] (ap (λ (t : Bool). t && isRead (asked last)) other);
+        quiet = none-for d _ (rests .quiet);
+      })
+      (free-held last _ _ (rests .free))

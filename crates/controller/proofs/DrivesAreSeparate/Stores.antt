@@ -1,0 +1,314 @@
+-- A store that is carried out is followed by the machine of one drive: it begins on the drive that it names and leaves the others alone.
+-- Assumes nothing.
+use mathlib.Core.Path.{_≡_, refl, sym, ap, ap₂, subst, _∙_}
+use Prim.Native.Nat.{ℕ, _≤_}
+use native.Mathlib.Omega.{arith}
+use mathlib.Core.Bool.{Bool, true, false, not, _&&_, true≢false, false≢true}
+use mathlib.Core.List.{List, [], _∷_}
+use lib.Dec.{leb, eqb}
+use borrow.Author.Tests.{eqb-true, eqb-false, eq-eqb, ne-eqb, leb-false, leb-true}
+use Rattle.common.specs.Pick.{pick}
+use Rattle.common.specs.Given.{given}
+use Rattle.common.proofs.PickLaws.{pick-by, pick-yes, pick-no}
+use Rattle.operations.specs.declared.operation.Operation.{Operation}
+use Rattle.operations.specs.declared.operation.Operation.the-variants.{Read, CheckBytes, Write, Erase, Rewind, FastForward, SkipForward, SkipReverse, SearchForward, SearchReverse, WriteMark}
+use Rattle.operations.specs.declared.decode.Decoded.{Decoded}
+use Rattle.operations.specs.declared.decode.Decoded.the-variants.{Reset, Code, Track, Enable, Density, Operate}
+use Rattle.operations.specs.Operation.{moveOf, orderByte}
+use Rattle.operations.specs.Test.{mayMove}
+use Rattle.status.specs.declared.drives.Drive.{Drive}
+use Rattle.status.specs.declared.drives.Drives.{Drives}
+use Rattle.status.specs.Drives.{reports, driveOf, copied}
+use Rattle.status.specs.Strings.{orderOf}
+use Rattle.status.proofs.DriveLaws.{put-same, put-other}
+use Rattle.operations.specs.declared.store.Store.{Store}
+use Rattle.link.specs.declared.state.Body.{Body}
+use Rattle.controller.specs.declared.controller.Controller.{Controller}
+use Rattle.link.specs.declared.state.Action.the-variants.{Order}
+use Rattle.link.specs.declared.state.Turn.{Turn}
+use Rattle.link.specs.State.{setSelected, setFlags, setCurrent}
+use Rattle.operations.specs.Store.{namesDrive, named, asked}
+use Rattle.controller.specs.Controller.{carried}
+use Rattle.controller.specs.Stores.{endedBy, tracked, withDensity, motionOrder, pastTest, ordered, begun, operated, decoded, cleared, namesUnknown, selectedBy, carriedOut}
+use Rattle.controller.specs.Machine.{plain}
+use Rattle.controller.specs.Machine.Call.{taken, report}
+use Rattle.controller.specs.Lists.{holdsStore}
+use Rattle.controller.specs.Separation.{Output, isOf, storeEvent, eventOf, ordersFor, transferOf, asksReset, resets}
+use Rattle.controller.specs.Separation.Output.{motion}
+use Rattle.controller.proofs.DrivesAreSeparate.OneDrive.{Hand, View, resting, handFor, begins, firstOrder, givenAtStore, told, gives}
+use Rattle.controller.proofs.DrivesAreSeparate.OneDrive.Hand.{empty, resultAwaited}
+use Rattle.controller.proofs.Steps.Resting.{seen, Rests, ended-rests, settled-rests}
+use Rattle.controller.proofs.DrivesAreSeparate.Views.{Follows, Held, InHand, bare, free-hand, free-held, handIn, none-for, owned-follows, rests-view, viewOf}
+
+-- ---- a store is carried out
+
+-- a step that begins a store of the drive: what is seen of it then, and what it is given
+pub record Starts (d : ℕ) (v : View) (out : List Output) (t : Turn) : Type 0 where
+  pub view : record { drive = seen d (t .body); hand = handIn (t .phase) } ≡ v
+  pub given : ordersFor d (t .action) ≡ out
+
+-- a step that leaves the drive alone
+pub record Leaves (d : ℕ) (drive : Drive) (t : Turn) : Type 0 where
+  pub same : seen d (t .body) ≡ drive
+  pub quiet : ordersFor d (t .action) ≡ []
+
+module _ (d : ℕ) (low : d ≤ 3) (b : Body) (t : Turn) (rests : Rests b t) where
+  rests-leave : Leaves d (seen d b) t
+  rests-leave = record { same = rests .same .drive d low; quiet = none-for d (t .action) (rests .quiet) }
+
+  rests-start : Starts d (resting (seen d b)) [] t
+  rests-start =
+      record {
+        view = ap₂ (λ (drive : Drive) (hand : Hand). record { drive = drive; hand = hand }) (rests .same .drive d low) (free-hand (t .phase) (rests .free));
+        given = none-for d (t .action) (rests .quiet);
+      }
+
+choose-start :
+    (d : ℕ) (may : Bool) (drive : Drive) (hand : Hand) (out : List Output) (t other : Turn)
+    → Starts d (record { drive = drive; hand = hand }) out t
+    → Starts d (resting drive) [] other
+    → Starts d (record { drive = drive; hand = pick may hand empty }) (pick may out []) (pick may t other)
+unfolding pick
+choose-start d true drive hand out t other moves ends = moves
+choose-start d false drive hand out t other moves ends = ends
+
+-- an order is given to the drive whose number it bears
+order-own :
+    (d : ℕ) (drives : Drives) (n code third fourth : ℕ)
+    → n ≡ d
+    → ordersFor d (Order (orderOf code n (driveOf drives n .track) (driveOf drives n .density) third fourth)) ≡ motion (orderOf code d (driveOf drives d .track) (driveOf drives d .density) third fourth) ∷ []
+unfolding ordersFor orderOf
+order-own d drives n code third fourth e =
+    subst
+    (λ (m : ℕ). ordersFor d (Order (orderOf code m (driveOf drives m .track) (driveOf drives m .density) third fourth)) ≡ motion (orderOf code d (driveOf drives d .track) (driveOf drives d .density) third fourth) ∷ [])
+    (sym e) (pick-yes _ [] (eq-eqb d d refl))
+
+module _ (d : ℕ) (store : Store) where
+  pub ordered-own :
+      (b : Body) (operation : Operation)
+      → b .selected ≡ d
+      → Starts d (record { drive = seen d b; hand = resultAwaited operation (bare store) }) (motion (orderOf (orderByte operation) d (seen d b .track) (seen d b .density) (store .third) (store .fourth)) ∷ []) (ordered b operation store)
+  unfolding ordered motionOrder handIn
+  ordered-own b operation e =
+      record { view = refl; given = order-own d (b .drives) (b .selected) (orderByte operation) (store .third) (store .fourth) e }
+
+  pub ordered-other : (b : Body) (operation : Operation) → (b .selected ≡ d → ⊥) → Leaves d (seen d b) (ordered b operation store)
+  unfolding ordered motionOrder ordersFor orderOf
+  ordered-other b operation other = record { same = refl; quiet = pick-no _ [] (ne-eqb (b .selected) d other) }
+
+  module _ (b : Body) (n : ℕ) where
+    begun-own :
+        n ≡ d → (operation : Operation)
+        → Starts d (record { drive = seen d b; hand = handFor operation (bare store) }) (firstOrder d (seen d b) (bare store) operation) (begun (pastTest (setSelected b n) operation) operation store)
+    unfolding begun pastTest pick handFor firstOrder handIn ordersFor
+    begun-own e Write = record { view = refl; given = refl }
+    begun-own e CheckBytes = record { view = refl; given = refl }
+    begun-own e Read = ordered-own (pastTest (setSelected b n) Read) Read e
+    begun-own e Erase = ordered-own (setSelected b n) Erase e
+    begun-own e Rewind = ordered-own (setSelected b n) Rewind e
+    begun-own e FastForward = ordered-own (setSelected b n) FastForward e
+    begun-own e SkipForward = ordered-own (pastTest (setSelected b n) SkipForward) SkipForward e
+    begun-own e SkipReverse = ordered-own (pastTest (setSelected b n) SkipReverse) SkipReverse e
+    begun-own e SearchForward = ordered-own (setSelected b n) SearchForward e
+    begun-own e SearchReverse = ordered-own (setSelected b n) SearchReverse e
+    begun-own e WriteMark = ordered-own (setSelected b n) WriteMark e
+
+    begun-other : (n ≡ d → ⊥) → (operation : Operation) → Leaves d (seen d b) (begun (pastTest (setSelected b n) operation) operation store)
+    unfolding begun pastTest pick ordersFor
+    begun-other other Write = record { same = refl; quiet = refl }
+    begun-other other CheckBytes = record { same = refl; quiet = refl }
+    begun-other other Read = ordered-other (pastTest (setSelected b n) Read) Read other
+    begun-other other Erase = ordered-other (setSelected b n) Erase other
+    begun-other other Rewind = ordered-other (setSelected b n) Rewind other
+    begun-other other FastForward = ordered-other (setSelected b n) FastForward other
+    begun-other other SkipForward = ordered-other (pastTest (setSelected b n) SkipForward) SkipForward other
+    begun-other other SkipReverse = ordered-other (pastTest (setSelected b n) SkipReverse) SkipReverse other
+    begun-other other SearchForward = ordered-other (setSelected b n) SearchForward other
+    begun-other other SearchReverse = ordered-other (setSelected b n) SearchReverse other
+    begun-other other WriteMark = ordered-other (setSelected b n) WriteMark other
+
+    begun-held :
+        (operation : Operation)
+        → Held store n operation store
+        → InHand store (begun (pastTest (setSelected b n) operation) operation store .body .selected) (begun (pastTest (setSelected b n) operation) operation store .phase)
+    unfolding begun pastTest pick ordered InHand
+    begun-held Write held = held
+    begun-held CheckBytes held = held
+    begun-held Read held = held
+    begun-held Erase held = held
+    begun-held Rewind held = held
+    begun-held FastForward held = held
+    begun-held SkipForward held = held
+    begun-held SkipReverse held = held
+    begun-held SearchForward held = held
+    begun-held SearchReverse held = held
+    begun-held WriteMark held = held
+
+-- a track and a density are set alike whatever the reviewed copy is
+tracked-seen : (drive : Drive) (track : ℕ) → copied (tracked drive track) ≡ copied (tracked (copied drive) track)
+unfolding tracked pick
+tracked-seen drive track = same (eqb (drive .track) track)
+  where
+    same :
+        (t : Bool)
+        → copied (pick t drive (record { report = drive .report; reviewed = drive .reviewed; track = track; density = drive .density; gap = pick (reports (drive .report) 1) 0 3 })) ≡ copied (pick t (copied drive) (record { report = drive .report; reviewed = drive .report; track = track; density = drive .density; gap = pick (reports (drive .report) 1) 0 3 }))
+    same true = refl
+    same false = refl
+
+-- the record that is set is the selected drive's
+pub set-own :
+    (d : ℕ)
+    → d ≤ 3
+    → (b : Body) (n : ℕ) (set : Drive → Drive)
+    → n ≡ d
+    → seen d (setCurrent (setSelected b n) (set (driveOf (b .drives) n))) ≡ copied (set (driveOf (b .drives) d))
+set-own d low b n set e =
+    subst (λ (m : ℕ). seen d (setCurrent (setSelected b m) (set (driveOf (b .drives) m))) ≡ copied (set (driveOf (b .drives) d))) (sym e)
+    (ap (λ (x : Drive). copied x) (put-same (b .drives) (set (driveOf (b .drives) d)) d low))
+
+pub set-other : (d : ℕ) → d ≤ 3 → (b : Body) (drive : Drive) → b .selected ≤ 3 → (b .selected ≡ d → ⊥) → seen d (setCurrent b drive) ≡ seen d b
+set-other d low b drive within other = ap (λ (x : Drive). copied x) (put-other (b .drives) drive (b .selected) d within low other)
+
+module _ (d : ℕ) (low : d ≤ 3) (store : Store) (b : Body) (n : ℕ) where
+  abbrev selecting : Body
+  selecting = setSelected b n
+
+  decoded-own :
+      n ≡ d → (decode : Decoded)
+      → asksReset decode ≡ false
+      → Starts d (begins (seen d b) (bare store) decode) (givenAtStore d (seen d b) (bare store) decode) (decoded selecting store decode)
+  unfolding decoded begins givenAtStore asksReset operated withDensity
+  decoded-own e Reset keeps = absurd (true≢false keeps)
+  decoded-own e (Code code) keeps = rests-start d low _ _ (ended-rests selecting store code)
+  decoded-own e (Track track) keeps =
+      subst (λ (drive : Drive). Starts d (resting drive) [] (decoded selecting store (Track track)))
+      (set-own d low b n (λ (x : Drive). tracked x track) e ∙ tracked-seen (driveOf (b .drives) d) track)
+      (rests-start d low _ _ (settled-rests (setCurrent selecting (tracked (driveOf (b .drives) n) track)) store))
+  decoded-own e (Enable enable) keeps = rests-start d low _ _ (settled-rests (setFlags selecting (b .changed) enable) store)
+  decoded-own e (Density density) keeps =
+      subst (λ (drive : Drive). Starts d (resting drive) [] (decoded selecting store (Density density)))
+      (set-own d low b n (λ (x : Drive). withDensity x density) e)
+      (rests-start d low _ _ (settled-rests (setCurrent selecting (withDensity (driveOf (b .drives) n) density)) store))
+  decoded-own e (Operate operation) keeps =
+      subst
+      (λ (m : ℕ). Starts d (record { drive = seen d b; hand = pick (mayMove (moveOf operation) (driveOf (b .drives) m .report)) (handFor operation (bare store)) empty }) (pick (mayMove (moveOf operation) (driveOf (b .drives) m .report)) (firstOrder d (seen d b) (bare store) operation) []) (operated selecting operation store))
+      e
+      (choose-start d (mayMove (moveOf operation) (driveOf (b .drives) n .report)) (seen d b) (handFor operation (bare store)) (firstOrder d (seen d b) (bare store) operation) _ _
+      (begun-own d store b n e operation) (rests-start d low _ _ (ended-rests selecting store 0x04)))
+
+  decoded-other :
+      n ≤ 3 → (n ≡ d → ⊥) → (decode : Decoded) → asksReset decode ≡ false → Leaves d (seen d b) (decoded selecting store decode)
+  unfolding decoded asksReset operated
+  decoded-other within other Reset keeps = absurd (true≢false keeps)
+  decoded-other within other (Code code) keeps = rests-leave d low _ _ (ended-rests selecting store code)
+  decoded-other within other (Track track) keeps =
+      subst (λ (drive : Drive). Leaves d drive (decoded selecting store (Track track)))
+      (set-other d low selecting (tracked (driveOf (b .drives) n) track) within other)
+      (rests-leave d low _ _ (settled-rests (setCurrent selecting (tracked (driveOf (b .drives) n) track)) store))
+  decoded-other within other (Enable enable) keeps = rests-leave d low _ _ (settled-rests (setFlags selecting (b .changed) enable) store)
+  decoded-other within other (Density density) keeps =
+      subst (λ (drive : Drive). Leaves d drive (decoded selecting store (Density density)))
+      (set-other d low selecting (withDensity (driveOf (b .drives) n) density) within other)
+      (rests-leave d low _ _ (settled-rests (setCurrent selecting (withDensity (driveOf (b .drives) n) density)) store))
+  decoded-other within other (Operate operation) keeps =
+      pick-by (Leaves d (seen d b)) (mayMove (moveOf operation) (driveOf (b .drives) n .report)) (λ may. begun-other d store b n other operation)
+      (λ not. rests-leave d low _ _ (ended-rests selecting store 0x04))
+
+  decoded-held :
+      (decode : Decoded)
+      → asksReset decode ≡ false
+      → ((operation : Operation) → decode ≡ Operate operation → Held store n operation store)
+      → InHand store (decoded selecting store decode .body .selected) (decoded selecting store decode .phase)
+  unfolding decoded asksReset operated
+  decoded-held Reset keeps held = absurd (true≢false keeps)
+  decoded-held (Code code) keeps held = free-held store _ _ (ended-rests selecting store code .free)
+  decoded-held (Track track) keeps held =
+      free-held store _ _ (settled-rests (setCurrent selecting (tracked (driveOf (b .drives) n) track)) store .free)
+  decoded-held (Enable enable) keeps held = free-held store _ _ (settled-rests (setFlags selecting (b .changed) enable) store .free)
+  decoded-held (Density density) keeps held =
+      free-held store _ _ (settled-rests (setCurrent selecting (withDensity (driveOf (b .drives) n) density)) store .free)
+  decoded-held (Operate operation) keeps held =
+      pick-by (λ (t : Turn). InHand store (t .body .selected) (t .phase)) (mayMove (moveOf operation) (driveOf (b .drives) n .report))
+      (λ may. begun-held d store b n operation (held operation refl)) (λ not. free-held store _ _ (ended-rests selecting store 0x04 .free))
+
+-- ---- the calls that belong to a store
+
+module _ (d : ℕ) (store : Store) (c : Controller) where
+  pub own-view : (v : View) → isOf d store ≡ true → record { drive = seen d (c .body); hand = handIn (c .phase) } ≡ v → viewOf d store c ≡ v
+  own-view v own same = ap (λ (hand : Hand). record { drive = seen d (c .body); hand = hand }) (pick-yes (handIn (c .phase)) empty own) ∙ same
+
+  pub other-view : (drive : Drive) → isOf d store ≡ false → seen d (c .body) ≡ drive → viewOf d store c ≡ resting drive
+  other-view drive other same =
+      ap₂ (λ (x : Drive) (hand : Hand). record { drive = x; hand = hand }) same (pick-no (handIn (c .phase)) empty other)
+
+-- the drive that a store names
+pub own-number : (d : ℕ) (store : Store) → namesDrive store ≡ true → isOf d store ≡ true → named store ≡ d
+unfolding isOf
+own-number d store names own = eqb-true (named store) d (subst (λ (t : Bool). (t && eqb (named store) d) ≡ true) names own)
+
+pub other-number : (d : ℕ) (store : Store) → namesDrive store ≡ true → isOf d store ≡ false → named store ≡ d → ⊥
+unfolding isOf
+other-number d store names other = eqb-false (named store) d (subst (λ (t : Bool). (t && eqb (named store) d) ≡ false) names other)
+
+-- ---- taken
+
+carried-event :
+    (d : ℕ) (store : Store) (c : Controller)
+    → holdsStore c ≡ true
+    → eventOf d store c taken ≡ pick (isOf d store) (storeEvent store ∷ []) []
+unfolding eventOf
+carried-event d store c holds = ap (λ (t : Bool). pick (t && isOf d store) (storeEvent store ∷ []) []) holds
+
+module _ (d : ℕ) (low : d ≤ 3) (c : Controller) (store : Store) (holds : holdsStore c ≡ true) (names : namesDrive store ≡ true) where
+  -- what is answered to it
+  abbrev answered : Turn → Type 0
+  answered t = Follows d (resting (seen d (c .body))) store c (record { call = taken; answer = plain (carried t) })
+
+  -- no drive of this number: no drive is concerned
+  unknown-follows : (b : Body) → b .drives ≡ c .body .drives → 4 ≤ named store → answered (endedBy b store 0x01)
+  unfolding transferOf
+  unknown-follows b same high =
+      let rests = ended-rests b store 0x01 in
+      let differs : named store ≡ d → ⊥ = λ e. omega arith in
+      owned-follows d store c _ _ (storeEvent store) (carried-event d store c holds) (λ own. absurd (differs (own-number d store names own)))
+      (λ other. record {
+        view = rests-view d low store _ _ rests ∙ ap (λ (drives : Drives). resting (copied (driveOf drives d))) same;
+        transfer = refl;
+        quiet = none-for d _ (rests .quiet);
+      })
+      (free-held store _ _ (rests .free))
+
+  decoded-follows :
+      named store ≤ 3
+      → asksReset (asked store) ≡ false
+      → answered (decoded (setSelected (cleared (c .body)) (named store)) store (asked store))
+  unfolding cleared transferOf told gives storeEvent asked
+  decoded-follows within keeps =
+      let b = cleared (c .body) in
+      let next = carried (decoded (setSelected b (named store)) store (asked store)) .controller in
+      owned-follows d store c _ _ (storeEvent store) (carried-event d store c holds)
+      (λ own. let starts = decoded-own d low store b (named store) (own-number d store names own) (asked store) keeps in
+      record { done = refl; view = own-view d store next _ own (starts .view); given = starts .given })
+      (λ other. let leaves = decoded-other d low store b (named store) within (other-number d store names other) (asked store) keeps in
+      record { view = other-view d store next _ other (leaves .same); transfer = refl; quiet = leaves .quiet })
+      (decoded-held d low store b (named store) (asked store) keeps
+      (λ (operation : Operation) (asks : asked store ≡ Operate operation). record { same = refl; selects = refl; names = names; low = within; asks = asks }))
+
+  -- the drive is named
+  choose-follows :
+      (naming above : Bool) (ended : Turn) (turned : ℕ → Turn) (selected : ℕ)
+      → naming ≡ true
+      → (above ≡ true → answered ended)
+      → (above ≡ false → answered (turned (named store)))
+      → answered (pick (naming && above) ended (turned (pick naming (named store) selected)))
+  unfolding pick
+  choose-follows true true ended turned selected e ends turns = ends refl
+  choose-follows true false ended turned selected e ends turns = turns refl
+  choose-follows false above ended turned selected e ends turns = absurd (false≢true e)
+
+  pub carried-follows : resets store ≡ false → answered (carriedOut (c .body) store)
+  unfolding carriedOut cleared namesUnknown selectedBy resets
+  carried-follows keeps =
+      choose-follows (namesDrive store) (leb 4 (named store)) _ (λ n. decoded (setSelected (cleared (c .body)) n) store (asked store)) _ names
+      (λ high. unknown-follows _ refl (leb-true 4 (named store) high))
+      (λ few. let below = leb-false 4 (named store) few in decoded-follows (omega arith) (subst (λ (t : Bool). (not t && asksReset (asked store)) ≡ false) few keeps))
