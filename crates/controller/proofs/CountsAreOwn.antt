@@ -42,8 +42,8 @@ use Rattle.controller.specs.Lists.{notRefused, isTaken, holdsStore, carr
 use Rattle.controller.specs.Counts.{OwnRecord, isWrite, passedBy, recordAfter, ownRecord, Sends, ValidFrom, CountsAreOwn}
 use Rattle.controller.specs.Counts.OwnRecord.{noRecord, recordOf}
 use Rattle.controller.proofs.Steps.Resting.{Free, Rests, ended-rests, settled-rests, go-refused-rests, ending-rests}
-use Rattle.controller.proofs.Steps.Speaking.{marked, Holds, Says, Speaks, ended-speaks, settled-speaks, go-refused-speaks, ending-speaks}
-use Rattle.controller.proofs.Steps.{stated, exchanged, turnOf, Talk, SaysNo, OfRefusals, OfTalk, OfStores, OfNo, OfData, OfResults, Kinds, data-for, result-for, by-step}
+use Rattle.controller.proofs.Steps.Strings.{marked, HeldUpToDate, SentUpToDate, StringsUpToDate, ended-strings, settled-strings, go-refused-strings, ending-strings}
+use Rattle.controller.proofs.Steps.{stated, exchanged, turnOf, LinkCall, SaysNo, OfRefusals, OfLink, OfStores, OfNo, OfData, OfResults, Kinds, data-for, result-for, by-step}
 
 -- ---- what is kept from call to call
 
@@ -75,11 +75,11 @@ free-hand last counted (ResultAwaited operation store) free = absurd free
 record Kept (last : Store) (own : OwnRecord) (b : Body) (phase : Phase) : Type 0 where
   pub hand : InHand last (b .outcome .counted) phase
   pub valid : b .outcome .counted ≡ true → own ≡ recordOf (b .secondary)
-  pub holds : Holds (b .outcome .counted) (b .secondary) phase
+  pub holds : HeldUpToDate (b .outcome .counted) (b .secondary) phase
 
 record Goes (last : Store) (own : OwnRecord) (t : Turn) : Type 0 where
   pub kept : Kept last own (t .body) (t .phase)
-  pub says : Says (t .body .outcome .counted) (t .body .secondary) (t .action)
+  pub says : SentUpToDate (t .body .outcome .counted) (t .body .secondary) (t .action)
 
 -- what is claimed of a call
 abbrev Keeps : Controller → Exchange → Type 0
@@ -91,18 +91,18 @@ Keeps c x =
 rests-keep :
     (last : Store) (own : OwnRecord) (b : Body) (t : Turn)
     → Rests b t
-    → Speaks t
+    → StringsUpToDate t
     → (b .outcome .counted ≡ true → own ≡ recordOf (b .secondary))
     → Goes last own t
-rests-keep last own b t rests speaks valid =
+rests-keep last own b t rests strings valid =
     record {
       kept =
           record {
             hand = free-hand last _ (t .phase) (rests .free);
             valid = λ set. valid (sym (rests .same .counted) ∙ set) ∙ ap recordOf (sym (rests .same .secondary));
-            holds = speaks .holds;
+            holds = strings .holds;
           };
-      says = speaks .says;
+      says = strings .says;
     }
 
 -- ---- calls that carry out no store
@@ -120,30 +120,30 @@ as-before c x last own t none same goes =
     (subst (λ (later : OwnRecord). Goes last later t) (sym same) goes)
 
 refusals-case : OfRefusals Keeps
-unfolding carriesOut notRefused ownRecord Says
+unfolding carriesOut notRefused ownRecord SentUpToDate
 refusals-case c call number space check some last own before =
     as-before c (exchanged call (unchanged number c space check)) last own _
     (ap (λ (t : Bool). isTaken call && (t && holdsStore c)) some ∙ and-false (isTaken call)) (pick-no (recordAfter last own c call) own some)
     (record { kept = before; says = tt })
 
-talk-case : OfTalk Keeps
-unfolding Talk lastStore carriesOut isTaken notRefused holdsStore ownRecord recordAfter pick
-talk-case c (byte value) t free rests speaks last own before = rests-keep last own (c .body) t rests (speaks (before .holds)) (before .valid)
-talk-case c broken t free rests speaks last own before = rests-keep last own (c .body) t rests (speaks (before .holds)) (before .valid)
-talk-case c tick t free rests speaks last own before = rests-keep last own (c .body) t rests (speaks (before .holds)) (before .valid)
-talk-case c taken t (free, load) rests speaks last own before =
+link-case : OfLink Keeps
+unfolding LinkCall lastStore carriesOut isTaken notRefused holdsStore ownRecord recordAfter pick
+link-case c (byte value) t free rests strings last own before = rests-keep last own (c .body) t rests (strings (before .holds)) (before .valid)
+link-case c broken t free rests strings last own before = rests-keep last own (c .body) t rests (strings (before .holds)) (before .valid)
+link-case c tick t free rests strings last own before = rests-keep last own (c .body) t rests (strings (before .holds)) (before .valid)
+link-case c taken t (free, load) rests strings last own before =
     let none = ap not load in
     as-before c (exchanged taken (plain (carried t))) last own t none (pick-no noRecord own none)
-    (rests-keep last own (c .body) t rests (speaks (before .holds)) (before .valid))
-talk-case c (report drive r) t talks rests speaks last own before = absurd talks
-talk-case c (hostData host space check) t talks rests speaks last own before = absurd talks
-talk-case c (result r space check) t talks rests speaks last own before = absurd talks
-talk-case c reset t talks rests speaks last own before = absurd talks
+    (rests-keep last own (c .body) t rests (strings (before .holds)) (before .valid))
+link-case c (report drive r) t links rests strings last own before = absurd links
+link-case c (hostData host space check) t links rests strings last own before = absurd links
+link-case c (result r space check) t links rests strings last own before = absurd links
+link-case c reset t links rests strings last own before = absurd links
 
 no-case : OfNo Keeps
 unfolding SaysNo lastStore carriesOut isTaken notRefused ownRecord recordAfter pick
-no-case b held (byte value) refuses last own before = rests-keep last own b _ (go-refused-rests b held) (go-refused-speaks b held) (before .valid)
-no-case b held broken refuses last own before = rests-keep last own b _ (go-refused-rests b held) (go-refused-speaks b held) (before .valid)
+no-case b held (byte value) refuses last own before = rests-keep last own b _ (go-refused-rests b held) (go-refused-strings b held) (before .valid)
+no-case b held broken refuses last own before = rests-keep last own b _ (go-refused-rests b held) (go-refused-strings b held) (before .valid)
 no-case b held taken refuses last own before = absurd refuses
 no-case b held (report drive r) refuses last own before = absurd refuses
 no-case b held (hostData host space check) refuses last own before = absurd refuses
@@ -158,15 +158,15 @@ module _ (store : Store) where
   none-valid : (counted : Bool) (count : ℕ) → counted ≡ false → counted ≡ true → noRecord ≡ recordOf count
   none-valid counted count none set = absurd (false≢true (sym none ∙ set))
 
-  rests-open : (b : Body) (t : Turn) → b .outcome .counted ≡ false → Rests b t → Speaks t → Goes store noRecord t
-  rests-open b t none rests speaks = rests-keep store noRecord b t rests speaks (none-valid _ _ none)
+  rests-open : (b : Body) (t : Turn) → b .outcome .counted ≡ false → Rests b t → StringsUpToDate t → Goes store noRecord t
+  rests-open b t none rests strings = rests-keep store noRecord b t rests strings (none-valid _ _ none)
 
   begun-opens :
       (b : Body) (operation : Operation)
       → b .outcome .counted ≡ false
       → asked store ≡ Operate operation
       → Goes store noRecord (begun (pastTest b operation) operation store)
-  unfolding begun ordered pastTest pick InHand Holds Says
+  unfolding begun ordered pastTest pick InHand HeldUpToDate SentUpToDate
   begun-opens b Read none asks = record { kept = record { hand = record { same = refl; asks = asks; none = none }; valid = none-valid _ _ none; holds = tt }; says = tt }
   begun-opens b CheckBytes none asks = record { kept = record { hand = record { same = refl; asks = asks; none = none }; valid = none-valid _ _ none; holds = tt }; says = tt }
   begun-opens b Write none asks = record { kept = record { hand = record { same = refl; asks = asks; none = none }; valid = none-valid _ _ none; holds = tt }; says = tt }
@@ -184,22 +184,22 @@ module _ (store : Store) where
       → b .outcome .counted ≡ false
       → asked store ≡ decode
       → Goes store noRecord (decoded b store decode)
-  unfolding decoded operated resetOf startBody noOutcome InHand Holds Says
+  unfolding decoded operated resetOf startBody noOutcome InHand HeldUpToDate SentUpToDate
   decoded-opens b Reset none asks = record { kept = record { hand = tt; valid = none-valid false _ refl; holds = tt }; says = tt }
-  decoded-opens b (Code code) none asks = rests-open b _ none (ended-rests b store code) (ended-speaks b store code)
+  decoded-opens b (Code code) none asks = rests-open b _ none (ended-rests b store code) (ended-strings b store code)
   decoded-opens b (Track track) none asks =
-      rests-open (setCurrent b (tracked (current b) track)) _ none (settled-rests _ store) (settled-speaks _ store)
-  decoded-opens b (Enable enable) none asks = rests-open (setFlags b (b .changed) enable) _ none (settled-rests _ store) (settled-speaks _ store)
+      rests-open (setCurrent b (tracked (current b) track)) _ none (settled-rests _ store) (settled-strings _ store)
+  decoded-opens b (Enable enable) none asks = rests-open (setFlags b (b .changed) enable) _ none (settled-rests _ store) (settled-strings _ store)
   decoded-opens b (Density density) none asks =
-      rests-open (setCurrent b (withDensity (current b) density)) _ none (settled-rests _ store) (settled-speaks _ store)
+      rests-open (setCurrent b (withDensity (current b) density)) _ none (settled-rests _ store) (settled-strings _ store)
   decoded-opens b (Operate operation) none asks =
       pick-by (Goes store noRecord) (mayMove (moveOf operation) (current b .report)) (λ may. begun-opens b operation none asks)
-      (λ not. rests-open b _ none (ended-rests b store 0x04) (ended-speaks b store 0x04))
+      (λ not. rests-open b _ none (ended-rests b store 0x04) (ended-strings b store 0x04))
 
   carried-opens : (b : Body) → Goes store noRecord (carriedOut b store)
   unfolding carriedOut cleared noOutcome
   carried-opens b =
-      pick-by (Goes store noRecord) (namesUnknown store) (λ unknown. rests-open _ _ refl (ended-rests _ store 0x01) (ended-speaks _ store 0x01))
+      pick-by (Goes store noRecord) (namesUnknown store) (λ unknown. rests-open _ _ refl (ended-rests _ store 0x01) (ended-strings _ store 0x01))
       (λ drive. decoded-opens _ (asked store) refl refl)
 
 stores-case : OfStores Keeps
@@ -216,7 +216,7 @@ stores-case b lead last own before =
 written :
     (b : Body) (held : Store) (drive : Drive) (host space check : List ℕ)
     → Keeps (stated b (DataAwaited held)) (exchanged (hostData host space check) (dataDone b drive held host space check))
-unfolding dataDone ordered withUnderflow zeroedWords lastStore carriesOut isTaken notRefused ownRecord recordAfter InHand Holds Says pick
+unfolding dataDone ordered withUnderflow zeroedWords lastStore carriesOut isTaken notRefused ownRecord recordAfter InHand HeldUpToDate SentUpToDate pick
 written b held drive host space check last own before = zeroed (isGcr drive)
   where
     later : Body
@@ -292,7 +292,7 @@ unfolding resultGiven resultBody resultBits withRetry lastStore carriesOut isTak
 ended b operation held drive r bytes space check last own before =
     let mine = before .hand in
     let body = resultBody b drive operation held r (length bytes) (length space) in
-    rests-keep last (passedBy last r) body _ (ending-rests body operation held) (ending-speaks body operation held)
+    rests-keep last (passedBy last r) body _ (ending-rests body operation held) (ending-strings body operation held)
     (λ set. either-told drive operation last held r (b .secondary) (mine .same) (mine .asks)
     (sym (ap (λ (t : Bool). t || (usesImage drive operation r || wroteWell operation (finalCode drive operation r))) (mine .none)) ∙ set))
 
@@ -303,11 +303,11 @@ results-case b operation held r space check = result-for Keeps refusals-case b h
 -- ---- every call, and every list
 
 keeps : Kinds Keeps
-unfolding goTaken reportNoted resetOf startBody noOutcome lastStore carriesOut isTaken notRefused ownRecord recordAfter InHand Holds Says pick
+unfolding goTaken reportNoted resetOf startBody noOutcome lastStore carriesOut isTaken notRefused ownRecord recordAfter InHand HeldUpToDate SentUpToDate pick
 keeps =
     record {
       refusals = refusals-case;
-      talk = talk-case;
+      link = link-case;
       stores = stores-case;
       reports = λ c n r within last own before. record { kept = record { hand = before .hand; valid = before .valid; holds = before .holds }; says = tt };
       yes = λ b held value accepts last own before. record { kept = record { hand = before .hand; valid = before .valid; holds = tt }; says = tt };
@@ -321,9 +321,9 @@ keeps =
 sends-own :
     (own : OwnRecord) (counted : Bool) (count : ℕ) (action : Action)
     → (counted ≡ true → own ≡ recordOf count)
-    → Says counted count action
+    → SentUpToDate counted count action
     → Sends own count action
-unfolding Says Sends
+unfolding SentUpToDate Sends
 sends-own own counted count (Text string) valid honest =
     record {
       secondary = λ lead. (valid (honest .brings lead .0), honest .brings lead .1);
@@ -352,5 +352,5 @@ own-from (call ∷ calls) last own c before =
     )
 
 pub counts-are-own : (calls : List Call) → CountsAreOwn (run fresh calls)
-unfolding fresh startBody noOutcome InHand Holds
+unfolding fresh startBody noOutcome InHand HeldUpToDate
 counts-are-own calls = own-from calls noStore noRecord fresh (record { hand = tt; valid = λ set. absurd (false≢true set); holds = tt })

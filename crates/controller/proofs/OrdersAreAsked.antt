@@ -1,7 +1,7 @@
 -- Every motion order is the one that the last store asked for, with the drive it selected and what was last chosen for that drive; none goes
 -- out unasked, and no store gives two (`orders-are-asked`, over the definitions).
 -- Assumes nothing.
-pub mod Accounts
+pub mod Agreement
 use mathlib.Core.Path.{_≡_, refl, sym, ap, subst, _∙_}
 use Prim.Native.Nat.{ℕ, _≤_}
 use native.Mathlib.Omega.{arith}
@@ -41,39 +41,39 @@ use Rattle.controller.specs.Records.{zeroedWords, dataDone, resultBody, 
 use Rattle.controller.specs.Machine.{unchanged, reportNoted, dataIn, resultIn, Call, Exchange, plain, step, run}
 use Rattle.controller.specs.Machine.Call.{byte, taken, broken, report, hostData, result, tick, reset}
 use Rattle.controller.specs.Lists.{notRefused, holdsStore}
-use Rattle.controller.specs.Orders.{Account, restarted, opened, owing, entered, orderAsked, askedNoted, storeNoted, callNoted, noted, Asked, given, AskedFrom, OrdersAreAsked}
+use Rattle.controller.specs.Orders.{Settings, resetSettings, freshSettings, withPending, entered, orderAsked, askedNoted, storeNoted, callNoted, noted, Asked, issued, AskedFrom, OrdersAreAsked}
 use Rattle.controller.proofs.Steps.Resting.{NoOrder, ended-rests, settled-rests, go-refused-rests, ending-rests}
-use Rattle.controller.proofs.Steps.{stated, exchanged, Talk, SaysNo, OfRefusals, OfTalk, OfStores, OfReports, OfNo, OfData, OfResults, Kinds, data-for, result-for, by-step}
-use Rattle.controller.proofs.OrdersAreAsked.Accounts.{Agreeing, Kept, Matches, Owes, Paid, Pays, accounted, entered-other, entered-own, put-agrees, quiet-pays, rests-pay, same-order}
+use Rattle.controller.proofs.Steps.{stated, exchanged, LinkCall, SaysNo, OfRefusals, OfLink, OfStores, OfReports, OfNo, OfData, OfResults, Kinds, data-for, result-for, by-step}
+use Rattle.controller.proofs.OrdersAreAsked.Agreement.{Agreeing, Kept, Matches, Pending, Complying, Complies, orderBy, entered-other, entered-own, put-agrees, quiet-complies, rests-comply, same-order}
 
 -- ---- calls that carry out no store
 
--- the account is as before
-as-before : (c : Controller) (x : Exchange) (a : Account) (t : Turn) → noted a c x ≡ a → Pays a t → Pays (noted a c x) t
-as-before c x a t same = subst (λ (later : Account). Pays later t) (sym same)
+-- the settings are as before
+as-before : (c : Controller) (x : Exchange) (a : Settings) (t : Turn) → noted a c x ≡ a → Complies a t → Complies (noted a c x) t
+as-before c x a t same = subst (λ (later : Settings). Complies later t) (sym same)
 
-refusals-case : OfRefusals Paid
+refusals-case : OfRefusals Complying
 unfolding noted notRefused NoOrder
 refusals-case c call number space check some a before =
-    as-before c (exchanged call (unchanged number c space check)) a _ (pick-no (callNoted a c call) a some) (quiet-pays a (c .body) (c .phase) Nothing tt before)
+    as-before c (exchanged call (unchanged number c space check)) a _ (pick-no (callNoted a c call) a some) (quiet-complies a (c .body) (c .phase) Nothing tt before)
 
-talk-case : OfTalk Paid
-unfolding Talk noted notRefused callNoted holdsStore pick
-talk-case c (byte value) t free rests speaks a before = rests-pay a (c .body) t rests (before .agrees)
-talk-case c broken t free rests speaks a before = rests-pay a (c .body) t rests (before .agrees)
-talk-case c tick t free rests speaks a before = rests-pay a (c .body) t rests (before .agrees)
-talk-case c taken t (free, load) rests speaks a before =
+link-case : OfLink Complying
+unfolding LinkCall noted notRefused callNoted holdsStore pick
+link-case c (byte value) t free rests strings a before = rests-comply a (c .body) t rests (before .agrees)
+link-case c broken t free rests strings a before = rests-comply a (c .body) t rests (before .agrees)
+link-case c tick t free rests strings a before = rests-comply a (c .body) t rests (before .agrees)
+link-case c taken t (free, load) rests strings a before =
     as-before c (exchanged taken (plain (carried t))) a t (pick-no (storeNoted a (storeOf (c .body .collected))) a (ap not load))
-    (rests-pay a (c .body) t rests (before .agrees))
-talk-case c (report drive r) t talks rests speaks a before = absurd talks
-talk-case c (hostData host space check) t talks rests speaks a before = absurd talks
-talk-case c (result r space check) t talks rests speaks a before = absurd talks
-talk-case c reset t talks rests speaks a before = absurd talks
+    (rests-comply a (c .body) t rests (before .agrees))
+link-case c (report drive r) t links rests strings a before = absurd links
+link-case c (hostData host space check) t links rests strings a before = absurd links
+link-case c (result r space check) t links rests strings a before = absurd links
+link-case c reset t links rests strings a before = absurd links
 
-no-case : OfNo Paid
+no-case : OfNo Complying
 unfolding SaysNo noted notRefused callNoted pick
-no-case b held (byte value) refuses a before = rests-pay a b _ (go-refused-rests b held) (before .agrees)
-no-case b held broken refuses a before = rests-pay a b _ (go-refused-rests b held) (before .agrees)
+no-case b held (byte value) refuses a before = rests-comply a b _ (go-refused-rests b held) (before .agrees)
+no-case b held broken refuses a before = rests-comply a b _ (go-refused-rests b held) (before .agrees)
 no-case b held taken refuses a before = absurd refuses
 no-case b held (report drive r) refuses a before = absurd refuses
 no-case b held (hostData host space check) refuses a before = absurd refuses
@@ -83,29 +83,29 @@ no-case b held reset refuses a before = absurd refuses
 
 -- ---- a report
 
-reports-case : OfReports Paid
-unfolding noted notRefused callNoted reportNoted NoOrder reported Owes pick
+reports-case : OfReports Complying
+unfolding noted notRefused callNoted reportNoted NoOrder reported Pending pick
 reports-case c n r within a before =
     let later = callNoted a c (report n r) in
     let was = before .agrees .drive n within in
-    quiet-pays later _ (c .phase) Nothing tt
+    quiet-complies later _ (c .phase) Nothing tt
     (record {
       agrees =
           put-agrees a later (c .body) n (reported (driveOf (c .body .drives) n) r) within refl (before .agrees)
           (record { report = sym (entered-own (a .report) n r n refl); track = was .track; density = was .density })
           (λ d other matches. record { report = matches .report ∙ sym (entered-other (a .report) n r d other); track = matches .track; density = matches .density });
-      owes = told (c .phase) (before .owes);
+      pending = told (c .phase) (before .pending);
     })
   where
     -- a report is in no order
-    told : (phase : Phase) → Owes a phase → Owes (callNoted a c (report n r)) phase
-    told Collecting owes = tt
-    told AckOffered owes = tt
-    told (Sending s) owes = tt
-    told (EndOffered interrupt) owes = tt
-    told (GoOffered store) owes = owes
-    told (DataAwaited store) owes = owes
-    told (ResultAwaited operation store) owes = tt
+    told : (phase : Phase) → Pending a phase → Pending (callNoted a c (report n r)) phase
+    told Collecting pending = tt
+    told AckOffered pending = tt
+    told (Sending s) pending = tt
+    told (EndOffered interrupt) pending = tt
+    told (GoOffered store) pending = pending
+    told (DataAwaited store) pending = pending
+    told (ResultAwaited operation store) pending = tt
 
 -- ---- a store is carried out
 
@@ -113,9 +113,9 @@ reset-drive : (drives : Drives) (n : ℕ) → n ≤ 3 → driveOf (resetDrives d
 unfolding driveOf resetDrives pick
 reset-drive drives = by-four (λ n. driveOf (resetDrives drives) n ≡ freshWith (driveOf drives n .report)) refl refl refl refl
 
-reset-pays : (a : Account) (b : Body) → Agreeing a b → Pays (restarted (a .report)) (resetOf b)
-unfolding resetOf startBody Asked given Owes
-reset-pays a b agrees =
+reset-complies : (a : Settings) (b : Body) → Agreeing a b → Complies (resetSettings (a .report)) (resetOf b)
+unfolding resetOf startBody Asked issued Pending
+reset-complies a b agrees =
     record {
       asked = tt;
       kept =
@@ -128,187 +128,187 @@ reset-pays a b agrees =
                       λ d low. subst (λ (x : Drive). Matches (a .report d) 0 0 (copied x)) (sym (reset-drive (b .drives) d low))
                       (record { report = agrees .drive d low .report; track = refl; density = refl });
                 };
-            owes = tt;
+            pending = tt;
           };
     }
 
-ordered-pays :
-    (a : Account) (b : Body) (operation : Operation) (store : Store)
-    → a .owed ≡ accounted a operation store ∷ []
+ordered-complies :
+    (a : Settings) (b : Body) (operation : Operation) (store : Store)
+    → a .pending ≡ orderBy a operation store ∷ []
     → Agreeing a b
-    → Pays a (ordered b operation store)
-unfolding ordered Asked given Owes
-ordered-pays a b operation store owed agrees =
-    record { asked = owed ∙ ap (λ (o : Six). o ∷ []) (same-order a b operation store agrees); kept = record { agrees = agrees; owes = tt } }
+    → Complies a (ordered b operation store)
+unfolding ordered Asked issued Pending
+ordered-complies a b operation store pending agrees =
+    record { asked = pending ∙ ap (λ (o : Six). o ∷ []) (same-order a b operation store agrees); kept = record { agrees = agrees; pending = tt } }
 
-module _ (a : Account) (b : Body) (store : Store) (agrees : Agreeing (owing a (b .selected) []) b) where
-  -- past the test, the operation's order is owed
-  abbrev owingOrder : Operation → Account
-  owingOrder operation = owing a (b .selected) (pick (movesTape (moveOf operation)) (accounted (owing a (b .selected) []) operation store ∷ []) [])
+module _ (a : Settings) (b : Body) (store : Store) (agrees : Agreeing (withPending a (b .selected) []) b) where
+  -- past the test, the operation's order is pending
+  abbrev pendingOrder : Operation → Settings
+  pendingOrder operation = withPending a (b .selected) (pick (movesTape (moveOf operation)) (orderBy (withPending a (b .selected) []) operation store ∷ []) [])
 
-  begun-pays : (operation : Operation) → Pays (owingOrder operation) (begun (pastTest b operation) operation store)
-  unfolding begun pastTest movesTape pick Asked given Owes
-  begun-pays Write = record { asked = tt; kept = record { agrees = agrees; owes = refl } }
-  begun-pays CheckBytes = record { asked = tt; kept = record { agrees = agrees; owes = tt } }
-  begun-pays Read = ordered-pays (owingOrder Read) (pastTest b Read) Read store refl agrees
-  begun-pays Erase = ordered-pays (owingOrder Erase) b Erase store refl agrees
-  begun-pays Rewind = ordered-pays (owingOrder Rewind) b Rewind store refl agrees
-  begun-pays FastForward = ordered-pays (owingOrder FastForward) b FastForward store refl agrees
-  begun-pays SkipForward = ordered-pays (owingOrder SkipForward) (pastTest b SkipForward) SkipForward store refl agrees
-  begun-pays SkipReverse = ordered-pays (owingOrder SkipReverse) (pastTest b SkipReverse) SkipReverse store refl agrees
-  begun-pays SearchForward = ordered-pays (owingOrder SearchForward) b SearchForward store refl agrees
-  begun-pays SearchReverse = ordered-pays (owingOrder SearchReverse) b SearchReverse store refl agrees
-  begun-pays WriteMark = ordered-pays (owingOrder WriteMark) b WriteMark store refl agrees
+  begun-complies : (operation : Operation) → Complies (pendingOrder operation) (begun (pastTest b operation) operation store)
+  unfolding begun pastTest movesTape pick Asked issued Pending
+  begun-complies Write = record { asked = tt; kept = record { agrees = agrees; pending = refl } }
+  begun-complies CheckBytes = record { asked = tt; kept = record { agrees = agrees; pending = tt } }
+  begun-complies Read = ordered-complies (pendingOrder Read) (pastTest b Read) Read store refl agrees
+  begun-complies Erase = ordered-complies (pendingOrder Erase) b Erase store refl agrees
+  begun-complies Rewind = ordered-complies (pendingOrder Rewind) b Rewind store refl agrees
+  begun-complies FastForward = ordered-complies (pendingOrder FastForward) b FastForward store refl agrees
+  begun-complies SkipForward = ordered-complies (pendingOrder SkipForward) (pastTest b SkipForward) SkipForward store refl agrees
+  begun-complies SkipReverse = ordered-complies (pendingOrder SkipReverse) (pastTest b SkipReverse) SkipReverse store refl agrees
+  begun-complies SearchForward = ordered-complies (pendingOrder SearchForward) b SearchForward store refl agrees
+  begun-complies SearchReverse = ordered-complies (pendingOrder SearchReverse) b SearchReverse store refl agrees
+  begun-complies WriteMark = ordered-complies (pendingOrder WriteMark) b WriteMark store refl agrees
 
-  -- the test is that of the account's report
-  operated-pays :
+  -- the test is that of the report in the settings
+  operated-complies :
       (operation : Operation)
-      → Pays (owing a (b .selected) (orderAsked a (b .selected) operation store)) (operated b operation store)
+      → Complies (withPending a (b .selected) (orderAsked a (b .selected) operation store)) (operated b operation store)
   unfolding operated orderAsked pick
-  operated-pays operation =
+  operated-complies operation =
       subst
-      (λ (report : ℕ). Pays (owing a (b .selected) (pick (movesTape (moveOf operation) && mayMove (moveOf operation) report) (accounted (owing a (b .selected) []) operation store ∷ []) [])) (operated b operation store))
+      (λ (report : ℕ). Complies (withPending a (b .selected) (pick (movesTape (moveOf operation) && mayMove (moveOf operation) report) (orderBy (withPending a (b .selected) []) operation store ∷ []) [])) (operated b operation store))
       (agrees .drive (b .selected) (agrees .low) .report)
       (by-may (mayMove (moveOf operation) (current b .report)))
     where
       by-may :
           (may : Bool)
-          → Pays (owing a (b .selected) (pick (movesTape (moveOf operation) && may) (accounted (owing a (b .selected) []) operation store ∷ []) [])) (pick may (begun (pastTest b operation) operation store) (endedBy b store 0x04))
+          → Complies (withPending a (b .selected) (pick (movesTape (moveOf operation) && may) (orderBy (withPending a (b .selected) []) operation store ∷ []) [])) (pick may (begun (pastTest b operation) operation store) (endedBy b store 0x04))
       by-may true =
-          subst (λ (moves : Bool). Pays (owing a (b .selected) (pick moves (accounted (owing a (b .selected) []) operation store ∷ []) [])) (begun (pastTest b operation) operation store))
-          (sym (and-true (movesTape (moveOf operation)))) (begun-pays operation)
-      by-may false = rests-pay _ b _ (ended-rests b store 0x04) agrees
+          subst (λ (moves : Bool). Complies (withPending a (b .selected) (pick moves (orderBy (withPending a (b .selected) []) operation store ∷ []) [])) (begun (pastTest b operation) operation store))
+          (sym (and-true (movesTape (moveOf operation)))) (begun-complies operation)
+      by-may false = rests-comply _ b _ (ended-rests b store 0x04) agrees
 
   -- a track and a density are chosen for the selected drive
-  tracked-pays : (track : ℕ) → Pays (askedNoted a (b .selected) store (Track track)) (decoded b store (Track track))
+  tracked-complies : (track : ℕ) → Complies (askedNoted a (b .selected) store (Track track)) (decoded b store (Track track))
   unfolding decoded askedNoted tracked
-  tracked-pays track =
+  tracked-complies track =
       let later = askedNoted a (b .selected) store (Track track) in
       let was = agrees .drive (b .selected) (agrees .low) in
-      rests-pay later (setCurrent b (tracked (current b) track)) _ (settled-rests _ store)
-      (put-agrees (owing a (b .selected) []) later b (b .selected) (tracked (current b) track) (agrees .low) refl agrees
+      rests-comply later (setCurrent b (tracked (current b) track)) _ (settled-rests _ store)
+      (put-agrees (withPending a (b .selected) []) later b (b .selected) (tracked (current b) track) (agrees .low) refl agrees
       (pick-by (Matches (a .report (b .selected)) (entered (a .track) (b .selected) track (b .selected)) (a .density (b .selected)))
       (eqb (current b .track) track)
       (λ same. record { report = was .report; track = eqb-true _ track same ∙ sym (entered-own (a .track) (b .selected) track (b .selected) refl); density = was .density })
       (λ new. record { report = was .report; track = sym (entered-own (a .track) (b .selected) track (b .selected) refl); density = was .density }))
       (λ d other matches. record { report = matches .report; track = matches .track ∙ sym (entered-other (a .track) (b .selected) track d other); density = matches .density }))
 
-  dense-pays : (density : ℕ) → Pays (askedNoted a (b .selected) store (Density density)) (decoded b store (Density density))
+  dense-complies : (density : ℕ) → Complies (askedNoted a (b .selected) store (Density density)) (decoded b store (Density density))
   unfolding decoded askedNoted withDensity
-  dense-pays density =
+  dense-complies density =
       let later = askedNoted a (b .selected) store (Density density) in
       let was = agrees .drive (b .selected) (agrees .low) in
-      rests-pay later (setCurrent b (withDensity (current b) density)) _ (settled-rests _ store)
-      (put-agrees (owing a (b .selected) []) later b (b .selected) (withDensity (current b) density) (agrees .low) refl agrees
+      rests-comply later (setCurrent b (withDensity (current b) density)) _ (settled-rests _ store)
+      (put-agrees (withPending a (b .selected) []) later b (b .selected) (withDensity (current b) density) (agrees .low) refl agrees
       (record { report = was .report; track = was .track; density = sym (entered-own (a .density) (b .selected) density (b .selected) refl) })
       (λ d other matches. record { report = matches .report; track = matches .track; density = matches .density ∙ sym (entered-other (a .density) (b .selected) density d other) }))
 
-  decoded-pays : (decode : Decoded) → Pays (askedNoted a (b .selected) store decode) (decoded b store decode)
+  decoded-complies : (decode : Decoded) → Complies (askedNoted a (b .selected) store decode) (decoded b store decode)
   unfolding decoded askedNoted
-  decoded-pays Reset = reset-pays (owing a (b .selected) []) b agrees
-  decoded-pays (Code code) = rests-pay _ b _ (ended-rests b store code) agrees
-  decoded-pays (Track track) = tracked-pays track
-  decoded-pays (Enable enable) = rests-pay _ (setFlags b (b .changed) enable) _ (settled-rests _ store) agrees
-  decoded-pays (Density density) = dense-pays density
-  decoded-pays (Operate operation) = operated-pays operation
+  decoded-complies Reset = reset-complies (withPending a (b .selected) []) b agrees
+  decoded-complies (Code code) = rests-comply _ b _ (ended-rests b store code) agrees
+  decoded-complies (Track track) = tracked-complies track
+  decoded-complies (Enable enable) = rests-comply _ (setFlags b (b .changed) enable) _ (settled-rests _ store) agrees
+  decoded-complies (Density density) = dense-complies density
+  decoded-complies (Operate operation) = operated-complies operation
 
--- the account and the controller select the same drive
+-- the settings and the controller select the same drive
 choose :
-    (a : Account) (store : Store) (names above : Bool) (ended turned : Turn)
+    (a : Settings) (store : Store) (names above : Bool) (ended turned : Turn)
     → leb 4 (named store) ≡ above
-    → Pays (owing a (a .selected) []) ended
-    → (pick names (named store) (a .selected) ≤ 3 → Pays (askedNoted a (pick names (named store) (a .selected)) store (asked store)) turned)
+    → Complies (withPending a (a .selected) []) ended
+    → (pick names (named store) (a .selected) ≤ 3 → Complies (askedNoted a (pick names (named store) (a .selected)) store (asked store)) turned)
     → a .selected ≤ 3
-    → Pays (pick (names && above) (owing a (a .selected) []) (askedNoted a (pick names (named store) (a .selected)) store (asked store))) (pick (names && above) ended turned)
+    → Complies (pick (names && above) (withPending a (a .selected) []) (askedNoted a (pick names (named store) (a .selected)) store (asked store))) (pick (names && above) ended turned)
 unfolding pick
 choose a store true true ended turned e ends turns low = ends
 choose a store true false ended turned e ends turns low = let below = leb-false 4 (named store) e in turns (omega arith)
 choose a store false above ended turned e ends turns low = turns low
 
-carried-pays : (a : Account) (b : Body) (store : Store) → Agreeing a b → Pays (storeNoted a store) (carriedOut b store)
+carried-complies : (a : Settings) (b : Body) (store : Store) → Agreeing a b → Complies (storeNoted a store) (carriedOut b store)
 unfolding carriedOut storeNoted namesUnknown selectedBy cleared
-carried-pays a b store agrees =
+carried-complies a b store agrees =
     let within = subst (λ (n : ℕ). n ≤ 3) (agrees .selected) (agrees .low) in
-    choose a store (namesDrive store) (leb 4 (named store)) _ _ refl (rests-pay _ _ _ (ended-rests _ store 0x01) agrees)
+    choose a store (namesDrive store) (leb 4 (named store)) _ _ refl (rests-comply _ _ _ (ended-rests _ store 0x01) agrees)
     (λ low.
-    subst (λ (n : ℕ). Pays (askedNoted a (pick (namesDrive store) (named store) (a .selected)) store (asked store)) (decoded (setSelected (cleared b) (pick (namesDrive store) (named store) n)) store (asked store)))
+    subst (λ (n : ℕ). Complies (askedNoted a (pick (namesDrive store) (named store) (a .selected)) store (asked store)) (decoded (setSelected (cleared b) (pick (namesDrive store) (named store) n)) store (asked store)))
     (sym (agrees .selected))
-    (decoded-pays a (setSelected (cleared b) (pick (namesDrive store) (named store) (a .selected))) store (record { selected = refl; low = low; drive = agrees .drive }) (asked store)))
+    (decoded-complies a (setSelected (cleared b) (pick (namesDrive store) (named store) (a .selected))) store (record { selected = refl; low = low; drive = agrees .drive }) (asked store)))
     within
 
-stores-case : OfStores Paid
+stores-case : OfStores Complying
 unfolding noted notRefused callNoted holdsStore pick
 stores-case b lead a before =
     let store = storeOf (b .collected) in
-    subst (λ (later : Account). Pays later (carriedOut b store)) (sym (pick-yes (storeNoted a store) a (ap not lead))) (carried-pays a b store (before .agrees))
+    subst (λ (later : Settings). Complies later (carriedOut b store)) (sym (pick-yes (storeNoted a store) a (ap not lead))) (carried-complies a b store (before .agrees))
 
 -- ---- the calls of a store
 
 -- whatever drive's density the image has
 written :
     (b : Body) (held : Store) (drive : Drive) (host space check : List ℕ)
-    → Paid (stated b (DataAwaited held)) (exchanged (hostData host space check) (dataDone b drive held host space check))
-unfolding dataDone zeroedWords noted notRefused callNoted Owes pick
+    → Complying (stated b (DataAwaited held)) (exchanged (hostData host space check) (dataDone b drive held host space check))
+unfolding dataDone zeroedWords noted notRefused callNoted Pending pick
 written b held drive host space check a before = zeroed (isGcr drive)
   where
     later : Body
     later = setOutcome b (withUnderflow (b .outcome) (runsShort held host))
 
-    zeroed : (zeroes : Bool) → Pays a (ordered (zeroedWords later zeroes) Write held)
-    zeroed true = ordered-pays a (zeroedWords later true) Write held (before .owes) (before .agrees)
-    zeroed false = ordered-pays a later Write held (before .owes) (before .agrees)
+    zeroed : (zeroes : Bool) → Complies a (ordered (zeroedWords later zeroes) Write held)
+    zeroed true = ordered-complies a (zeroedWords later true) Write held (before .pending) (before .agrees)
+    zeroed false = ordered-complies a later Write held (before .pending) (before .agrees)
 
-writes-case : OfData Paid
+writes-case : OfData Complying
 unfolding dataIn
-writes-case b held host space check = data-for Paid refusals-case b held _ host space check (written b held _ host space check)
+writes-case b held host space check = data-for Complying refusals-case b held _ host space check (written b held _ host space check)
 
 -- whatever bytes are delivered
 ended :
     (b : Body) (operation : Operation) (held : Store) (r : Result) (bytes space check : List ℕ)
-    → Paid (stated b (ResultAwaited operation held)) (exchanged (result r space check) (resultGiven b (current b) operation held r bytes space check))
+    → Complying (stated b (ResultAwaited operation held)) (exchanged (result r space check) (resultGiven b (current b) operation held r bytes space check))
 unfolding resultGiven resultBody resultDrive withGap noted notRefused callNoted pick
 ended b operation held r bytes space check a before =
     let agrees = before .agrees in
     let was = agrees .drive (b .selected) (agrees .low) in
-    rests-pay a _ _ (ending-rests (resultBody b (current b) operation held r (length bytes) (length space)) operation held)
+    rests-comply a _ _ (ending-rests (resultBody b (current b) operation held r (length bytes) (length space)) operation held)
     (put-agrees a a b (b .selected) (resultDrive (current b) operation r) (agrees .low) refl agrees
     (record { report = was .report; track = was .track; density = was .density }) (λ d other matches. matches))
 
-results-case : OfResults Paid
+results-case : OfResults Complying
 unfolding resultIn resultDone
-results-case b operation held r space check = result-for Paid refusals-case b held _ operation r space check (ended b operation held r _ space check)
+results-case b operation held r space check = result-for Complying refusals-case b held _ operation r space check (ended b operation held r _ space check)
 
 -- ---- every call, and every list
 
-pays : Kinds Paid
-unfolding goTaken noted notRefused callNoted NoOrder Owes pick
-pays =
+complying : Kinds Complying
+unfolding goTaken noted notRefused callNoted NoOrder Pending pick
+complying =
     record {
       refusals = refusals-case;
-      talk = talk-case;
+      link = link-case;
       stores = stores-case;
       reports = reports-case;
-      yes = λ b held value accepts a before. quiet-pays a b (DataAwaited held) Nothing tt (record { agrees = before .agrees; owes = before .owes });
+      yes = λ b held value accepts a before. quiet-complies a b (DataAwaited held) Nothing tt (record { agrees = before .agrees; pending = before .pending });
       no = no-case;
       writes = writes-case;
       results = results-case;
-      resets = λ c a before. reset-pays a (c .body) (before .agrees);
+      resets = λ c a before. reset-complies a (c .body) (before .agrees);
     }
 
-asked-from : (calls : List Call) (a : Account) (c : Controller) → Kept a (c .body) (c .phase) → AskedFrom a c (run c calls)
+asked-from : (calls : List Call) (a : Settings) (c : Controller) → Kept a (c .body) (c .phase) → AskedFrom a c (run c calls)
 unfolding run AskedFrom
 asked-from [] a c before = tt
 asked-from (call ∷ calls) a c before =
-    let paid = by-step Paid pays c call a before in (paid .asked, asked-from calls _ (step c call .reply .controller) (paid .kept))
+    let complies = by-step Complying complying c call a before in (complies .asked, asked-from calls _ (step c call .reply .controller) (complies .kept))
 
 fresh-drive : (n : ℕ) → n ≤ 3 → driveOf freshDrives n ≡ freshWith 4
 unfolding driveOf freshDrives pick
 fresh-drive = by-four (λ n. driveOf freshDrives n ≡ freshWith 4) refl refl refl refl
 
 pub orders-are-asked : (calls : List Call) → OrdersAreAsked (run fresh calls)
-unfolding fresh startBody Owes
+unfolding fresh startBody Pending
 orders-are-asked calls =
-    asked-from calls opened fresh
+    asked-from calls freshSettings fresh
     (record {
       agrees =
           record {
@@ -316,5 +316,5 @@ orders-are-asked calls =
             low = omega arith;
             drive = λ d low. subst (λ (x : Drive). Matches 4 0 0 (copied x)) (sym (fresh-drive d low)) (record { report = refl; track = refl; density = refl });
           };
-      owes = tt;
+      pending = tt;
     })

@@ -1,7 +1,7 @@
 -- What a call can come to: nine kinds of step. A claim of every call is shown kind by kind (`by-step`).
 -- Assumes nothing.
 pub mod Resting
-pub mod Speaking
+pub mod Strings
 use mathlib.Core.Path.{_≡_, refl}
 use Prim.Native.Nat.{ℕ, _≤_}
 use native.Mathlib.Omega.{arith}
@@ -33,7 +33,7 @@ use Rattle.controller.specs.Records.{Answer, dataDone, resultDone}
 use Rattle.controller.specs.Machine.{unchanged, byteIn, brokenIn, tickIn, byteCall, brokenCall, tickCall, takenBody, takenIn, takenCall, reportNoted, reportCall, resetCall, dataFor, dataIn, dataCall, resultFor, resultIn, resultCall, Call, Exchange, plain, step}
 use Rattle.controller.specs.Machine.Call.{byte, taken, broken, report, hostData, result, tick, reset}
 use Rattle.controller.proofs.Steps.Resting.{Free, NoOrder, Rests, idle-rests, given-up-rests, byte-rests, send-rests, completed-rests, tick-rests, loaded-rests}
-use Rattle.controller.proofs.Steps.Speaking.{Holds, Says, Speaks, idle-speaks, given-up-speaks, byte-speaks, send-speaks, completed-speaks, tick-speaks, loaded-speaks}
+use Rattle.controller.proofs.Steps.Strings.{HeldUpToDate, SentUpToDate, StringsUpToDate, idle-strings, given-up-strings, byte-strings, send-strings, completed-strings, tick-strings, loaded-strings}
 
 -- ---- the kinds
 
@@ -44,15 +44,15 @@ abbrev pub exchanged : Call → Answer → Exchange
 exchanged call answer = record { call = call; answer = answer }
 
 -- a call of the link that is not an answer to GO: a byte, a broken link, a tick, or the taking of a load's ACK
-unfoldable pub Talk : Controller → Call → Type 0
-Talk c (byte b) = Free (c .phase)
-Talk c broken = Free (c .phase)
-Talk c tick = Free (c .phase)
-Talk c taken = Free (c .phase) × (eqb (c .body .collected .c0) 0x62 ≡ true)
-Talk c (report drive r) = ⊥
-Talk c (hostData host space check) = ⊥
-Talk c (result r space check) = ⊥
-Talk c reset = ⊥
+unfoldable pub LinkCall : Controller → Call → Type 0
+LinkCall c (byte b) = Free (c .phase)
+LinkCall c broken = Free (c .phase)
+LinkCall c tick = Free (c .phase)
+LinkCall c taken = Free (c .phase) × (eqb (c .body .collected .c0) 0x62 ≡ true)
+LinkCall c (report drive r) = ⊥
+LinkCall c (hostData host space check) = ⊥
+LinkCall c (result r space check) = ⊥
+LinkCall c reset = ⊥
 
 -- an answer to GO that is a no
 unfoldable pub SaysNo : Call → Type 0
@@ -79,12 +79,12 @@ OfRefusals P =
     (c : Controller) (call : Call) (number : ℕ) (space check : List ℕ) → eqb number 0 ≡ false → P c (exchanged call (unchanged number c space check))
 
 -- a call that concerns the link alone
-abbrev pub OfTalk : Claim → Type 0
-OfTalk P =
+abbrev pub OfLink : Claim → Type 0
+OfLink P =
     (c : Controller) (call : Call) (t : Turn)
-    → Talk c call
+    → LinkCall c call
     → Rests (c .body) t
-    → (Holds (c .body .outcome .counted) (c .body .secondary) (c .phase) → Speaks t)
+    → (HeldUpToDate (c .body .outcome .counted) (c .body .secondary) (c .phase) → StringsUpToDate t)
     → P c (exchanged call (plain (carried t)))
 
 -- a store is carried out
@@ -124,7 +124,7 @@ OfResets P = (c : Controller) → P c (exchanged reset (plain (carried (resetOf 
 
 pub record Kinds (P : Claim) : Type 0 where
   pub refusals : OfRefusals P
-  pub talk : OfTalk P
+  pub link : OfLink P
   pub stores : OfStores P
   pub reports : OfReports P
   pub yes : OfYes P
@@ -167,32 +167,32 @@ module _ (P : Claim) (kinds : Kinds P) where
 
   module _ (b : Body) where
     byte-in : (value : ℕ) (phase : Phase) → P (stated b phase) (exchanged (byte value) (plain (byteIn (stated b phase) b value phase)))
-    unfolding byteIn goAnswered Talk SaysNo Free NoOrder Holds Says
-    byte-in value Collecting = kinds .talk (stated b Collecting) _ _ tt (byte-rests b value) (λ held. byte-speaks b value)
-    byte-in value AckOffered = kinds .talk (stated b AckOffered) _ _ tt (idle-rests b Nothing tt) (λ held. idle-speaks b Nothing tt)
-    byte-in value (Sending s) = kinds .talk (stated b (Sending s)) _ _ tt (send-rests b value s) (send-speaks b value s)
+    unfolding byteIn goAnswered LinkCall SaysNo Free NoOrder HeldUpToDate SentUpToDate
+    byte-in value Collecting = kinds .link (stated b Collecting) _ _ tt (byte-rests b value) (λ held. byte-strings b value)
+    byte-in value AckOffered = kinds .link (stated b AckOffered) _ _ tt (idle-rests b Nothing tt) (λ held. idle-strings b Nothing tt)
+    byte-in value (Sending s) = kinds .link (stated b (Sending s)) _ _ tt (send-rests b value s) (send-strings b value s)
     byte-in value (GoOffered held) =
         pick-by (λ (t : Turn). P (stated b (GoOffered held)) (exchanged (byte value) (plain (carried t)))) (eqb value 0x06) (λ yes. kinds .yes b held value yes)
         (λ no. kinds .no b held (byte value) no)
     byte-in value (DataAwaited held) = refuses (stated b (DataAwaited held)) _ 2 refl
     byte-in value (ResultAwaited operation held) = refuses (stated b (ResultAwaited operation held)) _ 2 refl
-    byte-in value (EndOffered interrupt) = kinds .talk (stated b (EndOffered interrupt)) _ _ tt (completed-rests b interrupt) (λ held. completed-speaks b interrupt)
+    byte-in value (EndOffered interrupt) = kinds .link (stated b (EndOffered interrupt)) _ _ tt (completed-rests b interrupt) (λ held. completed-strings b interrupt)
 
     broken-in : (phase : Phase) → P (stated b phase) (exchanged broken (plain (brokenIn (stated b phase) b phase)))
-    unfolding brokenIn Talk SaysNo Free NoOrder Says
-    broken-in Collecting = kinds .talk (stated b Collecting) _ _ tt (idle-rests b Nothing tt) (λ held. idle-speaks b Nothing tt)
-    broken-in AckOffered = kinds .talk (stated b AckOffered) _ _ tt (idle-rests b Nothing tt) (λ held. idle-speaks b Nothing tt)
-    broken-in (Sending s) = kinds .talk (stated b (Sending s)) _ _ tt (given-up-rests b (s .kind)) (λ held. given-up-speaks b (s .kind))
+    unfolding brokenIn LinkCall SaysNo Free NoOrder SentUpToDate
+    broken-in Collecting = kinds .link (stated b Collecting) _ _ tt (idle-rests b Nothing tt) (λ held. idle-strings b Nothing tt)
+    broken-in AckOffered = kinds .link (stated b AckOffered) _ _ tt (idle-rests b Nothing tt) (λ held. idle-strings b Nothing tt)
+    broken-in (Sending s) = kinds .link (stated b (Sending s)) _ _ tt (given-up-rests b (s .kind)) (λ held. given-up-strings b (s .kind))
     broken-in (GoOffered held) = kinds .no b held broken tt
     broken-in (DataAwaited held) = refuses (stated b (DataAwaited held)) _ 2 refl
     broken-in (ResultAwaited operation held) = refuses (stated b (ResultAwaited operation held)) _ 2 refl
-    broken-in (EndOffered interrupt) = kinds .talk (stated b (EndOffered interrupt)) _ _ tt (completed-rests b interrupt) (λ held. completed-speaks b interrupt)
+    broken-in (EndOffered interrupt) = kinds .link (stated b (EndOffered interrupt)) _ _ tt (completed-rests b interrupt) (λ held. completed-strings b interrupt)
 
     tick-in : (phase : Phase) → P (stated b phase) (exchanged tick (plain (tickIn (stated b phase) b phase)))
-    unfolding tickIn Talk Free
+    unfolding tickIn LinkCall Free
     tick-in Collecting =
         pick-by (λ (r : Reply). P (stated b Collecting) (exchanged tick (plain r))) (eqb (b .collected .length) 0)
-        (λ idle. kinds .talk (stated b Collecting) _ _ tt (tick-rests b) (λ held. tick-speaks b)) (λ part. refuses (stated b Collecting) _ 4 refl)
+        (λ idle. kinds .link (stated b Collecting) _ _ tt (tick-rests b) (λ held. tick-strings b)) (λ part. refuses (stated b Collecting) _ 4 refl)
     tick-in AckOffered = refuses (stated b AckOffered) _ 4 refl
     tick-in (Sending s) = refuses (stated b (Sending s)) _ 4 refl
     tick-in (GoOffered held) = refuses (stated b (GoOffered held)) _ 4 refl
@@ -201,10 +201,10 @@ module _ (P : Claim) (kinds : Kinds P) where
     tick-in (EndOffered interrupt) = refuses (stated b (EndOffered interrupt)) _ 4 refl
 
     taken-in : (phase : Phase) → P (stated b phase) (exchanged taken (plain (takenIn (stated b phase) b phase)))
-    unfolding takenIn takenBody Talk Free
+    unfolding takenIn takenBody LinkCall Free
     taken-in AckOffered =
         pick-by (λ (t : Turn). P (stated b AckOffered) (exchanged taken (plain (carried t)))) (eqb (b .collected .c0) 0x62)
-        (λ load. kinds .talk (stated b AckOffered) _ _ (tt, load) (loaded-rests b (b .collected .c1)) (λ held. loaded-speaks b (b .collected .c1))) (λ other. kinds .stores b other)
+        (λ load. kinds .link (stated b AckOffered) _ _ (tt, load) (loaded-rests b (b .collected .c1)) (λ held. loaded-strings b (b .collected .c1))) (λ other. kinds .stores b other)
     taken-in Collecting = refuses (stated b Collecting) _ 2 refl
     taken-in (Sending s) = refuses (stated b (Sending s)) _ 2 refl
     taken-in (GoOffered held) = refuses (stated b (GoOffered held)) _ 2 refl

@@ -27,90 +27,91 @@ use Rattle.controller.specs.Machine.{Call, Exchange}
 use Rattle.controller.specs.Machine.Call.{byte, taken, broken, report, hostData, result, tick, reset}
 use Rattle.controller.specs.Lists.{notRefused, holdsStore}
 
--- ---- the account of a list
+-- ---- the settings that a list makes
 
 -- What the calls of a list say of the drives, kept without a look at the controller's own records of them: the drive selected, for each drive
 -- its last report and the track and density last chosen, and the order that the last store asked for and that has not gone out, none or one.
-pub record Account : Type 0 where
+pub record Settings : Type 0 where
   pub selected : ℕ
   pub report : ℕ → ℕ
   pub track : ℕ → ℕ
   pub density : ℕ → ℕ
-  pub owed : List Six
+  pub pending : List Six
 
 -- after a reset: "0 and MFM where none was", and the reports as they were
-abbrev pub restarted : (ℕ → ℕ) → Account
-restarted reports = record { selected = 0; report = reports; track = λ d. 0; density = λ d. 0; owed = [] }
+abbrev pub resetSettings : (ℕ → ℕ) → Settings
+resetSettings reports = record { selected = 0; report = reports; track = λ d. 0; density = λ d. 0; pending = [] }
 
 -- "Fresh: report 4 .. for each"
-abbrev pub opened : Account
-opened = restarted (λ d. 4)
+abbrev pub freshSettings : Settings
+freshSettings = resetSettings (λ d. 4)
 
-abbrev pub owing : Account → ℕ → List Six → Account
-owing a selected owed = record { selected = selected; report = a .report; track = a .track; density = a .density; owed = owed }
+-- a drive selected, and an order pending
+abbrev pub withPending : Settings → ℕ → List Six → Settings
+withPending a selected pending = record { selected = selected; report = a .report; track = a .track; density = a .density; pending = pending }
 
--- one drive's entry is another
+-- the entry of one drive is set
 unfoldable pub entered : (ℕ → ℕ) → ℕ → ℕ → ℕ → ℕ
 entered entries drive value d = pick (eqb d drive) value (entries d)
 
 -- the order that an operation asks for of drive d: none where the report does not pass its test; "Check bytes give no order"
-unfoldable pub orderAsked : Account → ℕ → Operation → Store → List Six
+unfoldable pub orderAsked : Settings → ℕ → Operation → Store → List Six
 orderAsked a d operation store =
     pick (movesTape (moveOf operation) && mayMove (moveOf operation) (a .report d))
     (orderOf (orderByte operation) d (a .track d) (a .density d) (store .third) (store .fourth) ∷ []) []
 
 -- a store that selects drive d, by what it asks for
-unfoldable pub askedNoted : Account → ℕ → Store → Decoded → Account
-askedNoted a d store Reset = restarted (a .report)
-askedNoted a d store (Code code) = owing a d []
+unfoldable pub askedNoted : Settings → ℕ → Store → Decoded → Settings
+askedNoted a d store Reset = resetSettings (a .report)
+askedNoted a d store (Code code) = withPending a d []
 askedNoted a d store (Track track) =
-    record { selected = d; report = a .report; track = entered (a .track) d track; density = a .density; owed = [] }
-askedNoted a d store (Enable enable) = owing a d []
+    record { selected = d; report = a .report; track = entered (a .track) d track; density = a .density; pending = [] }
+askedNoted a d store (Enable enable) = withPending a d []
 askedNoted a d store (Density density) =
-    record { selected = d; report = a .report; track = a .track; density = entered (a .density) d density; owed = [] }
-askedNoted a d store (Operate operation) = owing a d (orderAsked a d operation store)
+    record { selected = d; report = a .report; track = a .track; density = entered (a .density) d density; pending = [] }
+askedNoted a d store (Operate operation) = withPending a d (orderAsked a d operation store)
 
 -- "a named drive above 3 is code 01 with selection unchanged, else select it"; a store that names none is for the drive selected before
-unfoldable pub storeNoted : Account → Store → Account
+unfoldable pub storeNoted : Settings → Store → Settings
 storeNoted a store =
-    pick (namesDrive store && leb 4 (named store)) (owing a (a .selected) [])
+    pick (namesDrive store && leb 4 (named store)) (withPending a (a .selected) [])
     (askedNoted a (pick (namesDrive store) (named store) (a .selected)) store (asked store))
 
 -- a call not refused
-unfoldable pub callNoted : Account → Controller → Call → Account
+unfoldable pub callNoted : Settings → Controller → Call → Settings
 callNoted a c taken = pick (holdsStore c) (storeNoted a (storeOf (c .body .collected))) a
 callNoted a c (report drive r) =
-    record { selected = a .selected; report = entered (a .report) drive r; track = a .track; density = a .density; owed = a .owed }
-callNoted a c reset = restarted (a .report)
+    record { selected = a .selected; report = entered (a .report) drive r; track = a .track; density = a .density; pending = a .pending }
+callNoted a c reset = resetSettings (a .report)
 callNoted a c (byte b) = a
 callNoted a c broken = a
 callNoted a c (hostData host space check) = a
 callNoted a c (result r space check) = a
 callNoted a c tick = a
 
-unfoldable pub noted : Account → Controller → Exchange → Account
+unfoldable pub noted : Settings → Controller → Exchange → Settings
 noted a c x = pick (notRefused x) (callNoted a c (x .call)) a
 
 -- ---- the claim
 
--- "No order goes out that no store asked for": it is the one that is owed
-unfoldable pub Asked : Account → Action → Type 0
-Asked a (Order order) = a .owed ≡ order ∷ []
+-- "No order goes out that no store asked for": it is the one that is pending
+unfoldable pub Asked : Settings → Action → Type 0
+Asked a (Order order) = a .pending ≡ order ∷ []
 Asked a Nothing = Unit
 Asked a (Byte b) = Unit
 Asked a (Text string) = Unit
 
--- "no store gives two": an order that has gone out is owed no more
-unfoldable pub given : Account → Action → Account
-given a (Order order) = owing a (a .selected) []
-given a Nothing = a
-given a (Byte b) = a
-given a (Text string) = a
+-- "no store gives two": an order that has gone out is pending no more
+unfoldable pub issued : Settings → Action → Settings
+issued a (Order order) = withPending a (a .selected) []
+issued a Nothing = a
+issued a (Byte b) = a
+issued a (Text string) = a
 
-unfoldable pub AskedFrom : Account → Controller → List Exchange → Type 0
+unfoldable pub AskedFrom : Settings → Controller → List Exchange → Type 0
 AskedFrom a c [] = Unit
 AskedFrom a c (x ∷ xs) =
-    Asked (noted a c x) (x .answer .reply .action) × AskedFrom (given (noted a c x) (x .answer .reply .action)) (x .answer .reply .controller) xs
+    Asked (noted a c x) (x .answer .reply .action) × AskedFrom (issued (noted a c x) (x .answer .reply .action)) (x .answer .reply .controller) xs
 
 abbrev pub OrdersAreAsked : List Exchange → Type 0
-OrdersAreAsked = AskedFrom opened fresh
+OrdersAreAsked = AskedFrom freshSettings fresh

@@ -22,7 +22,7 @@ use Rattle.controller.specs.Lists.{notRefused, isTaken, holdsStore, carr
 use Rattle.controller.specs.Separation.{isOf, storeEvent, awaitsGo, eventOf, bytesGiven, transferOf, isReset, resets, admits}
 use Rattle.controller.specs.Separation.Event.{goAnswered}
 use Rattle.controller.proofs.Steps.Resting.{Free, Rests}
-use Rattle.controller.proofs.Steps.{stated, exchanged, Talk, SaysNo, OfRefusals, OfTalk, OfStores, OfNo, OfData, OfResults, OfResets, Kinds, data-for, result-for, by-step}
+use Rattle.controller.proofs.Steps.{stated, exchanged, LinkCall, SaysNo, OfRefusals, OfLink, OfStores, OfNo, OfData, OfResults, OfResets, Kinds, data-for, result-for, by-step}
 use Rattle.controller.proofs.DrivesAreSeparate.Views.{viewOf, InHand, free-held, free-view, rests-view, none-for, Follows, refused-follows, passes-follows}
 use Rattle.controller.proofs.DrivesAreSeparate.Stores.{carried-follows}
 use Rattle.controller.proofs.DrivesAreSeparate.Calls.{report-follows, go-taken-follows, go-refused-follows, data-follows, result-follows}
@@ -73,22 +73,22 @@ module _ (d : ℕ) (low : d ≤ 3) where
       (record { view = rests-view d low last (c .body) t rests ∙ sym (free-view d last c free); transfer = nothing; quiet = none-for d (t .action) (rests .quiet) })
       (free-held last _ _ (rests .free))
 
-  talk-case : OfTalk Followed
-  unfolding Talk eventOf transferOf holdsStore lastStore carriesOut isTaken pick
-  talk-case c (byte value) t free rests speaks last held admitted =
+  link-case : OfLink Followed
+  unfolding LinkCall eventOf transferOf holdsStore lastStore carriesOut isTaken pick
+  link-case c (byte value) t free rests strings last held admitted =
       rest-follows c (byte value) t last free rests (pick-no (goAnswered (eqb value 0x06) ∷ []) [] (ap (λ (go : Bool). go && isOf d last) (free-goes (c .phase) free))) refl
-  talk-case c broken t free rests speaks last held admitted =
+  link-case c broken t free rests strings last held admitted =
       rest-follows c broken t last free rests (pick-no (goAnswered false ∷ []) [] (ap (λ (go : Bool). go && isOf d last) (free-goes (c .phase) free))) refl
-  talk-case c tick t free rests speaks last held admitted = rest-follows c tick t last free rests refl refl
-  talk-case c taken t (free, load) rests speaks last held admitted =
+  link-case c tick t free rests strings last held admitted = rest-follows c tick t last free rests refl refl
+  link-case c taken t (free, load) rests strings last held admitted =
       let x : Exchange = exchanged taken (plain (carried t)) in
       let none = ap not load in
       kept c x last (ap (λ (t : Bool). notRefused x && t) none ∙ and-false (notRefused x))
       (rest-follows c taken t last free rests (pick-no (storeEvent last ∷ []) [] (ap (λ (t : Bool). t && isOf d last) none)) refl)
-  talk-case c (report drive r) t talks rests speaks last held admitted = absurd talks
-  talk-case c (hostData host space check) t talks rests speaks last held admitted = absurd talks
-  talk-case c (result r space check) t talks rests speaks last held admitted = absurd talks
-  talk-case c reset t talks rests speaks last held admitted = absurd talks
+  link-case c (report drive r) t links rests strings last held admitted = absurd links
+  link-case c (hostData host space check) t links rests strings last held admitted = absurd links
+  link-case c (result r space check) t links rests strings last held admitted = absurd links
+  link-case c reset t links rests strings last held admitted = absurd links
 
   stores-case : OfStores Followed
   unfolding lastStore carriesOut isTaken notRefused holdsStore admits Free
@@ -132,7 +132,7 @@ module _ (d : ℕ) (low : d ≤ 3) where
   followed =
       record {
         refusals = refusals-case;
-        talk = talk-case;
+        link = link-case;
         stores = stores-case;
         reports = λ c n r within last held admitted. report-follows d low last c n r within held;
         yes = λ b held value yes last mine admitted. go-taken-follows d low last b held value yes mine;

@@ -1,4 +1,4 @@
--- The account of a list agrees with the controller: the drive selected, and for each drive its report, track and density.
+-- The settings that a list makes agree with the controller: the drive selected, and for each drive its report, track and density.
 -- Assumes nothing.
 use mathlib.Core.Path.{_≡_, sym, ap₂, subst, _∙_}
 use Prim.Native.Nat.{ℕ, _≤_}
@@ -28,11 +28,11 @@ use Rattle.controller.specs.declared.controller.Controller.{Controller}
 use Rattle.controller.specs.Stores.{motionOrder}
 use Rattle.controller.specs.Machine.{Exchange}
 use Rattle.controller.specs.Machine.Call.{report}
-use Rattle.controller.specs.Orders.{Account, entered, noted, Asked, given}
+use Rattle.controller.specs.Orders.{Settings, entered, noted, Asked, issued}
 use Rattle.controller.proofs.Steps.Resting.{seen, Free, NoOrder, Rests}
 use Rattle.controller.proofs.Steps.{turnOf}
 
--- ---- the account agrees with the controller
+-- ---- the settings agree with the controller
 
 -- what is said of a drive is what the controller has of it
 pub record Matches (last chosen dense : ℕ) (drive : Drive) : Type 0 where
@@ -45,39 +45,39 @@ pub record Agrees (said : ℕ) (last chosen dense : ℕ → ℕ) (now : ℕ) (dr
   pub low : now ≤ 3
   pub drive : (d : ℕ) → d ≤ 3 → Matches (last d) (chosen d) (dense d) (copied (driveOf drives d))
 
-abbrev pub Agreeing : Account → Body → Type 0
+abbrev pub Agreeing : Settings → Body → Type 0
 Agreeing a b = Agrees (a .selected) (a .report) (a .track) (a .density) (b .selected) (b .drives)
 
--- the order of an operation, as the account has it
-abbrev pub accounted : Account → Operation → Store → Six
-accounted a operation store =
+-- the order of an operation, by the settings
+abbrev pub orderBy : Settings → Operation → Store → Six
+orderBy a operation store =
     orderOf (orderByte operation) (a .selected) (a .track (a .selected)) (a .density (a .selected)) (store .third) (store .fourth)
 
--- a write in hand is owed its order
-unfoldable pub Owes : Account → Phase → Type 0
-Owes a Collecting = Unit
-Owes a AckOffered = Unit
-Owes a (Sending s) = Unit
-Owes a (EndOffered interrupt) = Unit
-Owes a (GoOffered store) = a .owed ≡ accounted a Write store ∷ []
-Owes a (DataAwaited store) = a .owed ≡ accounted a Write store ∷ []
-Owes a (ResultAwaited operation store) = Unit
+-- the order of a write in hand is pending
+unfoldable pub Pending : Settings → Phase → Type 0
+Pending a Collecting = Unit
+Pending a AckOffered = Unit
+Pending a (Sending s) = Unit
+Pending a (EndOffered interrupt) = Unit
+Pending a (GoOffered store) = a .pending ≡ orderBy a Write store ∷ []
+Pending a (DataAwaited store) = a .pending ≡ orderBy a Write store ∷ []
+Pending a (ResultAwaited operation store) = Unit
 
-free-owes : (a : Account) (phase : Phase) → Free phase → Owes a phase
-unfolding Owes Free
-free-owes a Collecting free = tt
-free-owes a AckOffered free = tt
-free-owes a (Sending s) free = tt
-free-owes a (EndOffered interrupt) free = tt
-free-owes a (GoOffered store) free = absurd free
-free-owes a (DataAwaited store) free = absurd free
-free-owes a (ResultAwaited operation store) free = absurd free
+free-pending : (a : Settings) (phase : Phase) → Free phase → Pending a phase
+unfolding Pending Free
+free-pending a Collecting free = tt
+free-pending a AckOffered free = tt
+free-pending a (Sending s) free = tt
+free-pending a (EndOffered interrupt) free = tt
+free-pending a (GoOffered store) free = absurd free
+free-pending a (DataAwaited store) free = absurd free
+free-pending a (ResultAwaited operation store) free = absurd free
 
--- the controller's order is the account's
+-- the controller's order is that of the settings
 pub same-order :
-    (a : Account) (b : Body) (operation : Operation) (store : Store)
+    (a : Settings) (b : Body) (operation : Operation) (store : Store)
     → Agreeing a b
-    → accounted a operation store ≡ motionOrder b operation store
+    → orderBy a operation store ≡ motionOrder b operation store
 unfolding motionOrder
 same-order a b operation store agrees =
     let (selected, track, density) : ((b .selected ≡ a .selected) × (current b .track ≡ a .track (b .selected)) × (current b .density ≡ a .density (b .selected))) =
@@ -85,33 +85,33 @@ same-order a b operation store agrees =
     subst (λ (d : ℕ). orderOf (orderByte operation) d (a .track d) (a .density d) (store .third) (store .fourth) ≡ motionOrder b operation store) selected
     (sym (ap₂ (λ (t n : ℕ). orderOf (orderByte operation) (b .selected) t n (store .third) (store .fourth)) track density))
 
-pub record Kept (a : Account) (b : Body) (phase : Phase) : Type 0 where
+pub record Kept (a : Settings) (b : Body) (phase : Phase) : Type 0 where
   pub agrees : Agreeing a b
-  pub owes : Owes a phase
+  pub pending : Pending a phase
 
--- a turn that gives the order owed, or none, and leaves an account that agrees
-pub record Pays (a : Account) (t : Turn) : Type 0 where
+-- a turn that gives the pending order, or none, and leaves settings that agree
+pub record Complies (a : Settings) (t : Turn) : Type 0 where
   pub asked : Asked a (t .action)
-  pub kept : Kept (given a (t .action)) (t .body) (t .phase)
+  pub kept : Kept (issued a (t .action)) (t .body) (t .phase)
 
 -- what is claimed of a call
-abbrev pub Paid : Controller → Exchange → Type 0
-Paid c x =
-    (a : Account) → Kept a (c .body) (c .phase) → Pays (noted a c x) (turnOf (x .answer .reply))
+abbrev pub Complying : Controller → Exchange → Type 0
+Complying c x =
+    (a : Settings) → Kept a (c .body) (c .phase) → Complies (noted a c x) (turnOf (x .answer .reply))
 
--- no order, and so nothing to pay
-pub quiet-pays :
-    (a : Account) (b : Body) (phase : Phase) (action : Action)
+-- where no order goes out
+pub quiet-complies :
+    (a : Settings) (b : Body) (phase : Phase) (action : Action)
     → NoOrder action
     → Kept a b phase
-    → Pays a (record { body = b; phase = phase; action = action })
-unfolding NoOrder Asked given
-quiet-pays a b phase Nothing none kept = record { asked = tt; kept = kept }
-quiet-pays a b phase (Byte value) none kept = record { asked = tt; kept = kept }
-quiet-pays a b phase (Text string) none kept = record { asked = tt; kept = kept }
-quiet-pays a b phase (Order order) none kept = absurd none
+    → Complies a (record { body = b; phase = phase; action = action })
+unfolding NoOrder Asked issued
+quiet-complies a b phase Nothing none kept = record { asked = tt; kept = kept }
+quiet-complies a b phase (Byte value) none kept = record { asked = tt; kept = kept }
+quiet-complies a b phase (Text string) none kept = record { asked = tt; kept = kept }
+quiet-complies a b phase (Order order) none kept = absurd none
 
-same-agrees : (a : Account) (b : Body) (t : Turn) → Rests b t → Agreeing a b → Agreeing a (t .body)
+same-agrees : (a : Settings) (b : Body) (t : Turn) → Rests b t → Agreeing a b → Agreeing a (t .body)
 same-agrees a b t rests agrees =
     record {
       selected = rests .same .selected ∙ agrees .selected;
@@ -119,10 +119,10 @@ same-agrees a b t rests agrees =
       drive = λ d low. subst (Matches (a .report d) (a .track d) (a .density d)) (sym (rests .same .drive d low)) (agrees .drive d low);
     }
 
-pub rests-pay : (a : Account) (b : Body) (t : Turn) → Rests b t → Agreeing a b → Pays a t
-rests-pay a b t rests agrees =
-    quiet-pays a (t .body) (t .phase) (t .action) (rests .quiet)
-    (record { agrees = same-agrees a b t rests agrees; owes = free-owes a (t .phase) (rests .free) })
+pub rests-comply : (a : Settings) (b : Body) (t : Turn) → Rests b t → Agreeing a b → Complies a t
+rests-comply a b t rests agrees =
+    quiet-complies a (t .body) (t .phase) (t .action) (rests .quiet)
+    (record { agrees = same-agrees a b t rests agrees; pending = free-pending a (t .phase) (rests .free) })
 
 -- ---- one drive's record is another
 
@@ -137,7 +137,7 @@ entered-other entries n value d other = pick-no value (entries d) (ne-eqb d n ot
 
 -- where what is said of a drive and its record change alike, the two agree again
 pub put-agrees :
-    (a later : Account) (b : Body) (n : ℕ) (drive : Drive)
+    (a later : Settings) (b : Body) (n : ℕ) (drive : Drive)
     → n ≤ 3
     → later .selected ≡ a .selected
     → Agreeing a b
