@@ -2,3 +2,4 @@ pub mod ImageLaws
 pub mod WholeLaws
 pub mod Restoring
 pub mod BuiltRecordsAreRestored
+pub mod WrongAnswers
