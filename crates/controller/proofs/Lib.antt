@@ -5,3 +5,4 @@ pub mod DrivesAreSeparate
 pub mod CountsAreOwn
 pub mod OrdersAreAsked
 pub mod Demands
+pub mod WrongAnswers

@@ -1,0 +1,353 @@
+-- For each of the eight calls, and for the function that makes a fresh controller, two wrong answers that its contract does not allow. The
+-- contract is `Allows` (Demands.antt), as the toolchain reads it from the function.
+-- Assumes nothing.
+use mathlib.Core.Path.{_≡_, refl, sym, ap, subst, _∙_}
+use mathlib.Core.Bool.{Bool, true, false, _||_, false≢true, true≢false, and-false}
+use mathlib.Core.List.{List}
+use Prim.Native.Nat.{ℕ, _+_, _≤_, _<_}
+use native.Mathlib.Omega.{arith}
+use lib.Dec.{leb, ltb, eqb}
+use lib.ListN.{length}
+use borrow.Author.Tests.{eqb-false, eqb-true, not-false, le-leb, leb-false}
+use Rattle.common.specs.Pick.{pick}
+use Rattle.common.proofs.PickLaws.{pick-by, not-refused}
+use Rattle.marks.specs.Scan.{scanOf}
+use Rattle.records.specs.Image.{imageOf}
+use Rattle.records.specs.declared.whole.Expected.{Expected}
+use Rattle.records.specs.declared.whole.Expected.the-variants.{Nothing as NoImage}
+use Rattle.records.specs.Whole.{emptyRefusal, imageRefusal}
+use Rattle.status.specs.declared.drives.Drive.{Drive}
+use Rattle.status.specs.declared.strings.Six.{Six}
+use Rattle.status.specs.Drives.{reports, driveOf, freshDrives, resetDrives}
+use Rattle.status.specs.Words.{noOutcome}
+use Rattle.status.proofs.DriveLaws.{put-other, by-four}
+use Rattle.operations.specs.declared.operation.Operation.the-variants.{Read}
+use Rattle.operations.specs.declared.store.Store.{Store}
+use Rattle.operations.specs.Store.{asksInterrupt, namesDrive, named}
+use Rattle.transfers.specs.Data.{recordBytes, dataRefusal}
+use Rattle.transfers.specs.Results.{resultOf, wholeCode, expectedWhole, expectedOf, resultRefusal, isGone, usesImage, scanCode, finalCode, wroteWell, resultBits, withRetry}
+use Rattle.link.specs.declared.state.Kind.{Kind}
+use Rattle.link.specs.declared.state.Kind.the-variants.{Load, Secondary, Completion, Change}
+use Rattle.link.specs.declared.state.Send.{Send}
+use Rattle.link.specs.declared.state.Phase.{Phase}
+use Rattle.link.specs.declared.state.Phase.the-variants.{Collecting, AckOffered, Sending, GoOffered, DataAwaited, ResultAwaited, EndOffered}
+use Rattle.link.specs.declared.state.Body.{Body}
+use Rattle.link.specs.declared.state.Action.{Action}
+use Rattle.link.specs.declared.state.Action.the-variants.{Nothing, Byte, Text, Order}
+use Rattle.link.specs.declared.state.Turn.{Turn}
+use Rattle.link.specs.State.{current, startBody, resetOf, review, idle}
+use Rattle.link.specs.Completion.{sent, interrupts, completed, coded}
+use Rattle.link.specs.Link.{wholeLength, appended, checks, firstByte, lastByte, nextByte, givenUp, collectedByte, tickWith, idleTick}
+use Rattle.link.specs.Damaged.{sound}
+use Rattle.controller.specs.declared.controller.Controller.{Controller}
+use Rattle.controller.specs.declared.controller.Reply.{Reply}
+use Rattle.controller.specs.Controller.{fresh}
+use Rattle.controller.specs.Stores.{storeOf, endedBy, cleared, namesUnknown, carriedOut}
+use Rattle.controller.specs.Records.{Answer, dataDone, resultBody, ending, resultGiven, resultDone}
+use Rattle.controller.specs.Machine.{byteIn, brokenIn, tickIn, byteCall, brokenCall, tickCall, takenBody, takenIn, takenCall, reportNoted, reportCall, resetCall, dataFor, dataIn, dataCall, resultFor, resultIn, resultCall, Call, step}
+use Rattle.controller.specs.Machine.Call.{byte, taken, broken, report, hostData, result, tick, reset}
+use Rattle.controller.proofs.controller.fresh_controller.Reads as fresh-reads
+use Rattle.controller.proofs.Demands.{Allows, answers-are-steps}
+
+-- no answer that the call's contract allows is wrong in this way
+abbrev pub Excludes : Controller → Call → (Answer → Type 0) → Type 0
+Excludes c call Wrong = (answer : Answer) → Allows c call answer → Wrong answer → ⊥
+
+-- since the machine's answer is not
+excluded : (c : Controller) (call : Call) (Wrong : Answer → Type 0) → (Wrong (step c call) → ⊥) → Excludes c call Wrong
+excluded c call Wrong never answer allowed =
+    subst (λ (a : Answer). Wrong a → ⊥) (sym (answers-are-steps c call answer allowed)) never
+
+-- a state in a phase
+abbrev at : Body → Phase → Controller
+at b phase = record { body = b; phase = phase }
+
+-- two actions are told apart by a number for each
+abbrev numbered : Action → ℕ
+numbered Nothing = 256
+numbered (Byte b) = b
+numbered (Text s) = 257
+numbered (Order s) = 258
+
+another : {x y : Action} → eqb (numbered x) (numbered y) ≡ false → x ≡ y → ⊥
+another unlike e = eqb-false _ _ unlike (ap numbered e)
+
+-- a number that is not 0
+nonzero : (n : ℕ) → eqb n 0 ≡ false → n ≡ 0 → ⊥
+nonzero n unlike = eqb-false n 0 unlike
+
+-- ---- byte
+
+-- the lead of a load is answered by NACK, though nothing was collected
+pub byte-nack-to-a-load : (b : Body) → b .collected .length ≡ 0 → Excludes (at b Collecting) (byte 0x62) (λ a. a .reply .action ≡ Byte 0x15)
+unfolding step byteCall byteIn collectedByte firstByte pick
+byte-nack-to-a-load b empty =
+    excluded _ _ _
+    (pick-by (λ (r : Reply). r .action ≡ Byte 0x15 → ⊥) (sound b Collecting)
+    (λ sane. subst (λ (n : ℕ). pick (eqb n 0) (firstByte b 0x62) (nextByte b 0x62) .action ≡ Byte 0x15 → ⊥) (sym empty) (another refl))
+    (λ hurt. another refl))
+
+-- ACK is offered for a string that does not check
+pub byte-ack-to-a-bad-string :
+    (b : Body) (value : ℕ) → checks (appended (b .collected) value) ≡ false → Excludes (at b Collecting) (byte value) (λ a. a .reply .action ≡ Byte 0x06)
+unfolding step byteCall byteIn collectedByte firstByte nextByte lastByte idle
+byte-ack-to-a-bad-string b value bad =
+    excluded _ _ _
+    (pick-by (λ (r : Reply). r .action ≡ Byte 0x06 → ⊥) (sound b Collecting)
+    (λ sane. pick-by none (eqb (b .collected .length) 0)
+    (λ first. pick-by none (eqb value 0x62 || eqb value 0x64) (λ lead. another refl)
+    (λ other. pick-by none (eqb value 0x15) (λ nack. another refl) (λ any. another refl)))
+    (λ further. pick-by none (eqb (b .collected .length + 1) (wholeLength (b .collected .c0)))
+    (λ last. pick-by none (checks (appended (b .collected) value)) (λ good. absurd (false≢true (sym bad ∙ good))) (λ wrong. another refl))
+    (λ part. another refl)))
+    (λ hurt. another refl))
+  where
+    none : Turn → Type 0
+    none t = t .action ≡ Byte 0x06 → ⊥
+
+-- ---- taken
+
+-- the one phase in which taken is carried out
+abbrev offersAck : Phase → Bool
+offersAck AckOffered = true
+offersAck Collecting = false
+offersAck (Sending s) = false
+offersAck (GoOffered store) = false
+offersAck (DataAwaited store) = false
+offersAck (ResultAwaited operation store) = false
+offersAck (EndOffered interrupt) = false
+
+-- it is refused in the others
+taken-in-refuses : (c : Controller) (b : Body) (phase : Phase) → offersAck phase ≡ false → takenIn c b phase .refusal ≡ 0 → ⊥
+unfolding takenIn
+taken-in-refuses c b AckOffered ack = absurd (true≢false ack)
+taken-in-refuses c b Collecting ack = nonzero 2 refl
+taken-in-refuses c b (Sending s) ack = nonzero 2 refl
+taken-in-refuses c b (GoOffered store) ack = nonzero 2 refl
+taken-in-refuses c b (DataAwaited store) ack = nonzero 2 refl
+taken-in-refuses c b (ResultAwaited operation store) ack = nonzero 2 refl
+taken-in-refuses c b (EndOffered interrupt) ack = nonzero 2 refl
+
+-- it is carried out with no ACK offered
+pub taken-with-no-ack : (b : Body) (phase : Phase) → offersAck phase ≡ false → Excludes (at b phase) taken (λ a. a .reply .refusal ≡ 0)
+unfolding step takenCall
+taken-with-no-ack b phase ack =
+    excluded _ _ _
+    (pick-by (λ (r : Reply). r .refusal ≡ 0 → ⊥) (sound b phase) (λ sane. taken-in-refuses (at b phase) b phase ack) (λ hurt. nonzero 1 refl))
+
+-- such a store ends with code 01
+named-above : (b : Body) (store : Store) → namesDrive store ≡ true → 4 ≤ named store → carriedOut b store .body .outcome .code ≡ 0 → ⊥
+unfolding carriedOut namesUnknown endedBy completed interrupts sent idle review coded cleared noOutcome pick
+named-above b store names high =
+    simp (names, le-leb 4 (named store) high)
+    (pick-by (λ (t : Turn). t .body .outcome .code ≡ 0 → ⊥) (asksInterrupt store) (λ asked. nonzero 1 refl) (λ quiet. nonzero 1 refl))
+
+-- a store that names a drive above 3 goes without code 01
+pub taken-drive-4-with-code-00 :
+    (b : Body) → (b .collected .c0 ≡ 0x62 → ⊥) → namesDrive (storeOf (b .collected)) ≡ true → 4 ≤ named (storeOf (b .collected)) → Excludes (at b AckOffered) taken (λ a. (a .reply .refusal ≡ 0) × (a .reply .controller .body .outcome .code ≡ 0))
+unfolding step takenCall takenIn takenBody
+taken-drive-4-with-code-00 b lead names high =
+    excluded _ _ _
+    (pick-by (λ (r : Reply). (r .refusal ≡ 0) × (r .controller .body .outcome .code ≡ 0) → ⊥) (sound b AckOffered)
+    (λ sane w. pick-by (λ (t : Turn). t .body .outcome .code ≡ 0 → ⊥) (eqb (b .collected .c0) 0x62) (λ load. absurd (lead (eqb-true _ _ load)))
+    (λ stored. named-above b (storeOf (b .collected)) names high) (w .1))
+    (λ hurt w. nonzero 1 refl (w .0)))
+
+-- ---- broken
+
+-- it is carried out while data is awaited
+pub broken-while-data-is-awaited : (b : Body) (store : Store) → Excludes (at b (DataAwaited store)) broken (λ a. a .reply .refusal ≡ 0)
+unfolding step brokenCall brokenIn
+broken-while-data-is-awaited b store =
+    excluded _ _ _
+    (pick-by (λ (r : Reply). r .refusal ≡ 0 → ⊥) (sound b (DataAwaited store)) (λ sane. nonzero 2 refl) (λ hurt. nonzero 1 refl))
+
+-- changed stays set, whatever was sent
+given-up-changed : (b : Body) (kind : Kind) → b .changed ≡ true → givenUp b kind .body .changed ≡ false → ⊥
+unfolding givenUp idle review
+given-up-changed b Load changed = rw changed true≢false
+given-up-changed b Secondary changed = rw changed true≢false
+given-up-changed b Completion changed = rw changed true≢false
+given-up-changed b Change changed = rw changed true≢false
+
+-- a string that was not accepted clears changed
+pub broken-clears-changed : (b : Body) (s : Send) → b .changed ≡ true → Excludes (at b (Sending s)) broken (λ a. a .reply .controller .body .changed ≡ false)
+unfolding step brokenCall brokenIn
+broken-clears-changed b s changed =
+    excluded _ _ _
+    (pick-by (λ (r : Reply). r .controller .body .changed ≡ false → ⊥) (sound b (Sending s)) (λ sane. given-up-changed b (s .kind) changed)
+    (λ hurt. rw changed true≢false))
+
+-- ---- report
+
+-- a report for one drive changes another
+pub report-changes-another-drive :
+    (c : Controller) (n d value : ℕ) → d ≤ 3 → (n ≡ d → ⊥) → Excludes c (report n value) (λ a. driveOf (a .reply .controller .body .drives) d ≡ driveOf (c .body .drives) d → ⊥)
+unfolding step reportCall reportNoted
+report-changes-another-drive c n d value low other =
+    excluded _ _ _
+    (λ wrong. wrong
+    (pick-by (λ (r : Reply). driveOf (r .controller .body .drives) d ≡ driveOf (c .body .drives) d) (sound (c .body) (c .phase))
+    (λ sane. pick-by (λ (r : Reply). driveOf (r .controller .body .drives) d ≡ driveOf (c .body .drives) d) (leb 4 n) (λ high. refl)
+    (λ few. let below = leb-false 4 n few in put-other (c .body .drives) _ n d (omega arith) low other))
+    (λ hurt. refl)))
+
+-- a report for a drive above 3 is taken
+pub report-of-drive-4 : (c : Controller) (n value : ℕ) → 4 ≤ n → Excludes c (report n value) (λ a. a .reply .refusal ≡ 0)
+unfolding step reportCall
+report-of-drive-4 c n value high =
+    excluded _ _ _
+    (pick-by (λ (r : Reply). r .refusal ≡ 0 → ⊥) (sound (c .body) (c .phase))
+    (λ sane. pick-by (λ (r : Reply). r .refusal ≡ 0 → ⊥) (leb 4 n) (λ above. nonzero 5 refl) (λ few. absurd (false≢true (sym few ∙ le-leb 4 n high))))
+    (λ hurt. nonzero 1 refl))
+
+-- ---- data
+
+-- fewer bytes are given than the image has
+pub data-image-cut-short :
+    (b : Body) (store : Store) (host space check : List ℕ) → Excludes (at b (DataAwaited store)) (hostData host space check) (λ a. (a .reply .refusal ≡ 0) × (a .bytes < length (imageOf (recordBytes store host) (current b .density))))
+unfolding step dataCall dataIn dataFor dataDone
+data-image-cut-short b store host space check =
+    excluded _ _ _
+    (pick-by short (sound b (DataAwaited store))
+    (λ sane. pick-by short (eqb (dataRefusal (current b) store (length space) (length check)) 0) (λ good w. omega (arith, w .1)) (λ refused w. eqb-false _ 0 refused (w .0)))
+    (λ hurt w. nonzero 1 refl (w .0)))
+  where
+    short : Answer → Type 0
+    short a = (a .reply .refusal ≡ 0) × (a .bytes < length (imageOf (recordBytes store host) (current b .density))) → ⊥
+
+-- the space is as it was, whatever the phase
+data-in-refused : (c : Controller) (b : Body) (host space check : List ℕ) (phase : Phase) → (dataIn c b host space check phase .reply .refusal ≡ 0 → ⊥) → dataIn c b host space check phase .space ≡ space
+unfolding dataIn dataFor dataDone
+data-in-refused c b host space check (DataAwaited store) =
+    pick-by (λ (a : Answer). (a .reply .refusal ≡ 0 → ⊥) → a .space ≡ space) (eqb (dataRefusal (current b) store (length space) (length check)) 0)
+    (λ good some. absurd (some refl)) (λ refused some. refl)
+data-in-refused c b host space check Collecting = λ some. refl
+data-in-refused c b host space check AckOffered = λ some. refl
+data-in-refused c b host space check (Sending s) = λ some. refl
+data-in-refused c b host space check (GoOffered store) = λ some. refl
+data-in-refused c b host space check (ResultAwaited operation store) = λ some. refl
+data-in-refused c b host space check (EndOffered interrupt) = λ some. refl
+
+-- a refused call writes into the space
+pub data-refused-but-written :
+    (c : Controller) (host space check : List ℕ) → Excludes c (hostData host space check) (λ a. (a .reply .refusal ≡ 0 → ⊥) × (a .space ≡ space → ⊥))
+unfolding step dataCall
+data-refused-but-written c host space check =
+    excluded _ _ _
+    (λ w. w .1
+    (pick-by (λ (a : Answer). (a .reply .refusal ≡ 0 → ⊥) → a .space ≡ space) (sound (c .body) (c .phase))
+    (λ sane. data-in-refused c (c .body) host space check (c .phase)) (λ hurt some. refl) (w .0)))
+
+-- ---- result
+
+-- with a mark the image is empty
+no-image : (density code : ℕ) → expectedOf Read density code true ≡ NoImage
+unfolding expectedOf expectedWhole pick
+no-image density code = simp (and-false (wholeCode code))
+
+marked-empty : (drive : Drive) (code late : ℕ) (image marks : List ℕ) (check : ℕ) → resultRefusal drive Read (resultOf code true late image marks) check ≡ 0 → eqb (length image) 0 ≡ true
+unfolding resultRefusal imageRefusal emptyRefusal
+marked-empty drive code late image marks check good =
+    let six = not-refused _ _ _ (nonzero 6 refl) good in
+    let seven = not-refused _ _ _ (nonzero 7 refl) (six .1) in
+    let eight = not-refused _ _ _ (nonzero 8 refl) (seven .1) in
+    let none = ap (λ (x : Expected). imageRefusal image marks x) (no-image (drive .density) code) in
+    not-false _ (not-refused _ _ _ (nonzero 9 refl) (sym none ∙ eight .1) .0)
+
+-- bit 22 is set by a read that found a mark
+pub result-counts-a-mark :
+    (b : Body) (store : Store) (code late : ℕ) (image marks space check : List ℕ) → b .outcome .counted ≡ false → Excludes (at b (ResultAwaited Read store)) (result (resultOf code true late image marks) space check) (λ a. a .reply .controller .body .outcome .counted ≡ true)
+unfolding step resultCall resultIn resultFor resultDone resultGiven ending resultBody withRetry resultBits usesImage wroteWell pick
+result-counts-a-mark b store code late image marks space check before =
+    excluded _ _ _
+    (pick-by counts (sound b (ResultAwaited Read store))
+    (λ sane. pick-by counts (eqb (resultRefusal (current b) Read (resultOf code true late image marks) (length check)) 0)
+    (λ good. simp (before, marked-empty (current b) code late image marks (length check) (eqb-true _ 0 good), and-false) false≢true)
+    (λ refused. simp before false≢true))
+    (λ hurt. simp before false≢true))
+  where
+    counts : Answer → Type 0
+    counts a = a .reply .controller .body .outcome .counted ≡ true → ⊥
+
+-- a record with two bad blockettes of one parity is told as good
+pub result-two-bad-told-as-good :
+    (b : Body) (store : Store) (code late : ℕ) (mark : Bool) (image marks space check : List ℕ) → ltb (scanOf marks .stop) (length marks) ≡ true → Excludes (at b (ResultAwaited Read store)) (result (resultOf code mark late image marks) space check) (λ a. (a .reply .refusal ≡ 0) × (a .reply .controller .body .outcome .code ≡ 0))
+unfolding step resultCall resultIn resultFor resultDone resultGiven ending resultBody withRetry resultBits finalCode scanCode pick
+result-two-bad-told-as-good b store code late mark image marks space check stopped =
+    excluded _ _ _
+    (pick-by well (sound b (ResultAwaited Read store))
+    (λ sane. pick-by well (eqb (resultRefusal (current b) Read (resultOf code mark late image marks) (length check)) 0)
+    (λ good w. pick-by (λ (n : ℕ). n ≡ 0 → ⊥) (isGone (current b) Read) (λ gone. nonzero 7 refl) (λ there. simp stopped (nonzero 0x16 refl)) (w .1))
+    (λ refused w. eqb-false _ 0 refused (w .0)))
+    (λ hurt w. nonzero 1 refl (w .0)))
+  where
+    well : Answer → Type 0
+    well a = (a .reply .refusal ≡ 0) × (a .reply .controller .body .outcome .code ≡ 0) → ⊥
+
+-- ---- tick
+
+-- it is carried out while a string is sent
+pub tick-during-a-send : (b : Body) (s : Send) → Excludes (at b (Sending s)) tick (λ a. a .reply .refusal ≡ 0)
+unfolding step tickCall tickIn
+tick-during-a-send b s =
+    excluded _ _ _
+    (pick-by (λ (r : Reply). r .refusal ≡ 0 → ⊥) (sound b (Sending s)) (λ sane. nonzero 4 refl) (λ hurt. nonzero 1 refl))
+
+-- nothing is sent, whatever the phase
+tick-in-quiet : (c : Controller) (b : Body) (s : Six) (phase : Phase) → b .enable ≡ false → tickIn c b phase .action ≡ Text s → ⊥
+unfolding tickIn idleTick tickWith review pick
+tick-in-quiet c b s Collecting clear =
+    pick-by (λ (r : Reply). r .action ≡ Text s → ⊥) (eqb (b .collected .length) 0)
+    (λ idle. simp (clear, and-false) (another refl)) (λ part. another refl)
+tick-in-quiet c b s AckOffered clear = another refl
+tick-in-quiet c b s (Sending send) clear = another refl
+tick-in-quiet c b s (GoOffered store) clear = another refl
+tick-in-quiet c b s (DataAwaited store) clear = another refl
+tick-in-quiet c b s (ResultAwaited operation store) clear = another refl
+tick-in-quiet c b s (EndOffered interrupt) clear = another refl
+
+-- an interrupt is sent with enable clear
+pub tick-interrupts-without-enable : (c : Controller) (s : Six) → c .body .enable ≡ false → Excludes c tick (λ a. a .reply .action ≡ Text s)
+unfolding step tickCall
+tick-interrupts-without-enable c s clear =
+    excluded _ _ _
+    (pick-by (λ (r : Reply). r .action ≡ Text s → ⊥) (sound (c .body) (c .phase)) (λ sane. tick-in-quiet c (c .body) s (c .phase) clear) (λ hurt. another refl))
+
+-- ---- reset
+
+-- a drive's report is lost
+pub reset-loses-a-report :
+    (c : Controller) (d : ℕ) → d ≤ 3 → Excludes c reset (λ a. driveOf (a .reply .controller .body .drives) d .report ≡ driveOf (c .body .drives) d .report → ⊥)
+unfolding step resetCall resetOf startBody resetDrives driveOf pick
+reset-loses-a-report c d low =
+    excluded _ _ _
+    (λ wrong. wrong
+    (pick-by (λ (r : Reply). driveOf (r .controller .body .drives) d .report ≡ driveOf (c .body .drives) d .report) (sound (c .body) (c .phase))
+    (λ sane. by-four (λ n. driveOf (resetDrives (c .body .drives)) n .report ≡ driveOf (c .body .drives) n .report) refl refl refl refl d low) (λ hurt. refl)))
+
+-- a gap is still taken for proper
+pub reset-keeps-a-gap : (c : Controller) (d : ℕ) → d ≤ 3 → Excludes c reset (λ a. (a .reply .refusal ≡ 0) × (driveOf (a .reply .controller .body .drives) d .gap ≡ 0))
+unfolding step resetCall resetOf startBody resetDrives driveOf pick
+reset-keeps-a-gap c d low =
+    excluded _ _ _
+    (pick-by (λ (r : Reply). (r .refusal ≡ 0) × (driveOf (r .controller .body .drives) d .gap ≡ 0) → ⊥) (sound (c .body) (c .phase))
+    (λ sane w. by-four (λ n. driveOf (resetDrives (c .body .drives)) n .gap ≡ 0 → ⊥) (nonzero 3 refl) (nonzero 3 refl) (nonzero 3 refl) (nonzero 3 refl) d low (w .1))
+    (λ hurt w. nonzero 1 refl (w .0)))
+
+-- ---- fresh_controller
+
+module _ (c : Controller) (made : fresh-reads.Post tt tt c tt) (d : ℕ) (low : d ≤ 3) where
+  -- a tape is installed before a drive reported one
+  pub fresh-with-a-tape : reports (driveOf (c .body .drives) d .report) 32 ≡ true → ⊥
+  unfolding fresh startBody freshDrives driveOf reports pick
+  fresh-with-a-tape =
+      subst (λ (x : Controller). reports (driveOf (x .body .drives) d .report) 32 ≡ true → ⊥) (sym made)
+      (by-four (λ n. reports (driveOf freshDrives n .report) 32 ≡ true → ⊥) false≢true false≢true false≢true false≢true d low)
+
+  -- a gap is taken for proper
+  pub fresh-with-a-proper-gap : driveOf (c .body .drives) d .gap ≡ 0 → ⊥
+  unfolding fresh startBody freshDrives driveOf pick
+  fresh-with-a-proper-gap =
+      subst (λ (x : Controller). driveOf (x .body .drives) d .gap ≡ 0 → ⊥) (sym made)
+      (by-four (λ n. driveOf freshDrives n .gap ≡ 0 → ⊥) (nonzero 3 refl) (nonzero 3 refl) (nonzero 3 refl) (nonzero 3 refl) d low)
