@@ -5,8 +5,7 @@ use Prim.Native.Nat.{ℕ, zero, suc, _≤_, _<_, min}
 use native.Mathlib.Nat.{le-of-suc-le-suc, not-suc-le-zero, le-refl, suc-min-suc}
 use mathlib.Core.List.{List, [], _∷_}
 use lib.Bits.{bitXor, xor-comm, xor-zero-r}
-use mathlib.Core.Bool.{Bool, true, false}
-use lib.Dec.{eqb, eqb·suc-suc}
+use lib.Dec.{eqb}
 use lib.ListN.{length, take, drop, getD, replicate}
 use native.Mathlib.Decide.{ℕ-discrete}
 use native.Mathlib.Omega.{arith}

@@ -1,12 +1,12 @@
 -- A loop that writes a string `t` over the start of a space `s`, one element a turn: after i turns the space is `take i t ++ drop i s`.
 -- Assumes nothing.
-use mathlib.Core.Path.{_≡_, refl, sym, ap, ap₂, _∙_}
-use Prim.Native.Nat.{ℕ, suc, _+_, _≤_, _<_, min}
-use native.Mathlib.Nat.{le-of-lt, min-eq-left, le-refl}
+use mathlib.Core.Path.{_≡_, sym, _∙_}
+use Prim.Native.Nat.{ℕ, suc, _+_, _≤_, _<_}
+use native.Mathlib.Nat.{le-of-lt}
 use native.Mathlib.Numerals.{add-one}
-use mathlib.Core.List.{List, [], _∷_, _++_, append-nil}
-use lib.ListN.{length, take, drop, set, getD, length-take, length-append, length-drop, drop-of-length-le}
-use lib.Seq.{take-suc, drop-cons, set-at, append-snoc, length-take-le, getD-at, take-length}
+use mathlib.Core.List.{List, _++_}
+use lib.ListN.{length, take, drop, set, getD, length-take, length-append, length-drop}
+use lib.Seq.{take-suc, drop-cons, set-at, append-snoc, length-take-le, getD-at}
 use native.Mathlib.Omega.{arith}
 
 module _ {A : Type 0} where

@@ -3,11 +3,9 @@
 -- Assumes nothing.
 use Prim.Native.Nat.{ℕ}
 use mathlib.Core.Bool.{Bool, true, false, _||_}
-use mathlib.Core.List.{List, [], _∷_}
 use Rattle.status.specs.declared.drives.Drive.{Drive}
 use Rattle.status.specs.declared.drives.Drives.{Drives}
 use Rattle.status.specs.declared.words.Outcome.{Outcome}
-use Rattle.status.specs.declared.strings.Six.{Six}
 use Rattle.status.specs.declared.words.Word.{Word}
 use Rattle.status.specs.Drives.{driveOf, withDrive, differs, reviewedAll, resetDrives}
 use Rattle.status.specs.Words.{noOutcome, zeroWord}
@@ -15,7 +13,7 @@ use Rattle.link.specs.declared.state.Collected.{Collected}
 use Rattle.link.specs.declared.state.Phase.the-variants.{Collecting}
 use Rattle.link.specs.declared.state.Body.{Body}
 use Rattle.link.specs.declared.state.Action.{Action}
-use Rattle.link.specs.declared.state.Action.the-variants.{Nothing, Byte, Text, Order}
+use Rattle.link.specs.declared.state.Action.the-variants.{Nothing}
 use Rattle.link.specs.declared.state.Turn.{Turn}
 
 -- ---- setters

@@ -1,7 +1,7 @@
 // The tape test: whether a drive with this report may carry an operation out.
 use crate::operation::Move;
 ghost use mathlib.Core.Path.{_≡_};
-ghost use Rattle.operations.specs.Test.{ready, placed, aheadFree, behindFree, writable, mayMove};
+ghost use Rattle.operations.specs.Test.{ready, placed, writable, mayMove};
 
 // Bits of a report.
 pub const EOT: u8 = 128;

@@ -7,7 +7,6 @@ use mathlib.Core.Bool.{true}
 use mathlib.Core.List.{List}
 use lib.ListN.{length}
 use borrow.Author.Tests.{ltb-false, eqb-true, not-false}
-use Rattle.common.specs.Pick.{pick}
 use Rattle.common.proofs.PickLaws.{not-refused, passed}
 use Rattle.marks.specs.Marks.{legalMarks}
 use Rattle.records.specs.Count.{limit, countOf}

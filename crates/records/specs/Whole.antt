@@ -1,7 +1,7 @@
 -- The test of an image and its marks as they are handed in (document 01, Turned back, 9 and 10; Records, "Result").
 -- Assumes nothing.
 use Prim.Native.Nat.{ℕ}
-use mathlib.Core.Bool.{not, _||_}
+use mathlib.Core.Bool.{not}
 use mathlib.Core.List.{List}
 use lib.Dec.{ltb, eqb}
 use lib.ListN.{length}

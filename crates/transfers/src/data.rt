@@ -2,7 +2,6 @@
 use common::clear;
 use common::give;
 use common::least;
-use operations::operation::Operation;
 use operations::store::Store;
 use operations::store::held_count;
 use records::build::put_image;
@@ -10,7 +9,6 @@ use records::layout::blockette_count;
 use records::layout::image_length;
 use status::drives::Drive;
 use status::words::Outcome;
-use status::words::zero_word;
 ghost use mathlib.Core.Path.{_≡_};
 ghost use Prim.Native.Nat.{_≤_};
 ghost use lib.ListN.{length};

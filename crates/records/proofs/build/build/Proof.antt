@@ -5,7 +5,7 @@ use native.Mathlib.Omega.{arith}
 use borrow.Author.Tests.{lt-ltb, le-ltb}
 use Prim.Native.Nat.{ℕ}
 use mathlib.Core.List.{List, _++_}
-use lib.ListN.{length, drop, length-take}
+use lib.ListN.{drop, length-take}
 use Rattle.common.specs.Pick.{pick}
 use Rattle.common.specs.Given.{given}
 use Rattle.common.proofs.GivenLaws.{filled-self}
@@ -13,7 +13,7 @@ use Rattle.records.specs.Count.{limit}
 use Rattle.records.specs.Image.{imageOf}
 use Rattle.records.specs.Build.{buildRefusal, builtInto}
 use Rattle.records.proofs.ImageLaws.{image-length}
-use mathlib.Core.Path.{_≡_, ap, ap₂, sym, _∙_}
+use mathlib.Core.Path.{ap, ap₂, sym, _∙_}
 use Rattle.records.proofs.build.build.Statement.{statement}
 use Rattle.records.proofs.build.build.Tie as tie
 

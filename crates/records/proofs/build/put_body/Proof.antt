@@ -4,13 +4,11 @@ use borrow.Author.Needs.{needs}
 use mathlib.Core.Path.{_≡_, ap, sym, _∙_}
 use Prim.Native.Nat.{ℕ, _+_, _*_, _≤_}
 use mathlib.Core.Bool.{true, false}
-use mathlib.Core.List.{List}
 use lib.ListN.{length}
 use native.Mathlib.Omega.{arith}
 use Rattle.common.specs.Given.{filled}
 use Rattle.common.proofs.GivenLaws.{filled-length}
-use Rattle.records.specs.Count.{limit}
-use Rattle.records.specs.Image.{blocketteCount, hasBlockettes, blockettesOf, bodyOf, imageLength}
+use Rattle.records.specs.Image.{blocketteCount, hasBlockettes, blockettesOf, imageLength}
 use Rattle.records.proofs.ImageLaws.{blockettes-hold, blockettes-few, blockettes-filled, length-gcr, length-plain, body-gcr, body-plain}
 use Rattle.records.proofs.build.put_body.Statement.{statement}
 use Rattle.records.proofs.build.put_body.Tie as tie

@@ -2,11 +2,10 @@
 -- Assumes nothing.
 use borrow.Author.Needs.{needs}
 use mathlib.Core.Path.{_≡_, ap, ap₂, sym, _∙_}
-use Prim.Native.Nat.{ℕ, _+_, _-_, _≤_}
+use Prim.Native.Nat.{ℕ, _≤_}
 use mathlib.Core.List.{List, _++_}
-use lib.ListN.{length, take, drop, length-take, length-append, length-drop}
+use lib.ListN.{length, length-take}
 use native.Mathlib.Omega.{arith}
-use Rattle.common.specs.Given.{filled}
 use Rattle.common.proofs.GivenLaws.{filled-length}
 use Rattle.common.proofs.Parts.{two-parts, second-length}
 use Rattle.records.specs.Count.{countBytes}

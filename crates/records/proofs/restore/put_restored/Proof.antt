@@ -1,15 +1,13 @@
 -- `records::restore::put_restored` meets its contract: the bytes are given, and two places are restored in turn.
 -- Assumes nothing.
 use borrow.Author.Needs.{needs}
-use mathlib.Core.Path.{_≡_, ap, _∙_}
-use Prim.Native.Nat.{ℕ, _≤_}
-use mathlib.Core.List.{List}
+use mathlib.Core.Path.{ap, sym, _∙_}
+use Prim.Native.Nat.{_≤_}
 use lib.ListN.{length, take, length-take}
 use native.Mathlib.Omega.{arith}
 use Rattle.common.proofs.GivenLaws.{given-all}
 use Rattle.records.specs.Image.{blocketteCount}
 use Rattle.records.specs.Restore.{mendedAt}
-use mathlib.Core.Path.{_≡_, ap, sym, _∙_}
 use Rattle.records.proofs.restore.put_restored.Statement.{statement}
 use Rattle.records.proofs.restore.put_restored.Tie as tie
 

@@ -2,7 +2,7 @@
 -- Assumes nothing.
 use borrow.Author.Needs.{needs}
 use mathlib.Core.Path.{_≡_, ap, ap₂, sym, _∙_}
-use Prim.Native.Nat.{ℕ, _+_, _-_, _≤_}
+use Prim.Native.Nat.{ℕ, _-_}
 use mathlib.Core.List.{List, _++_}
 use lib.ListN.{length, take, drop, length-take, length-drop}
 use lib.Seq.{take-all}
@@ -12,9 +12,8 @@ use Rattle.common.specs.Pick.{pick}
 use Rattle.marks.specs.declared.Scan.{Scan}
 use Rattle.common.specs.Given.{given}
 use Rattle.common.proofs.PickLaws.{where-refused, where-done}
-use Rattle.records.specs.Count.{limit, countOf}
-use Rattle.records.specs.Image.{blocketteCount, imageLength}
-use Rattle.records.specs.Whole.{wholeRefusal}
+use Rattle.records.specs.Count.{countOf}
+use Rattle.records.specs.Image.{blocketteCount}
 use Rattle.records.specs.Restore.{mendedAt, restoreRefusal, restoredOf, restoredInto}
 use Rattle.records.proofs.ImageLaws.{blockettes-few, image-holds}
 use Rattle.records.proofs.WholeLaws.{IsWhole, whole}
