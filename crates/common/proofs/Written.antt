@@ -1,13 +1,12 @@
 -- A loop that writes a string `t` over the start of a space `s`, one element a turn: after i turns the space is `take i t ++ drop i s`.
 -- Assumes nothing.
 use mathlib.Core.Path.{_≡_, sym, _∙_}
-use Prim.Native.Nat.{ℕ, suc, _+_, _≤_, _<_}
+use Prim.Native.Nat.{ℕ, suc, _+_, _<_}
 use native.Mathlib.Nat.{le-of-lt}
 use native.Mathlib.Numerals.{add-one}
 use mathlib.Core.List.{List, _++_}
-use lib.ListN.{length, take, drop, set, getD, length-take, length-append, length-drop}
+use lib.ListN.{length, take, drop, set, getD}
 use lib.Seq.{take-suc, drop-cons, set-at, append-snoc, length-take-le, getD-at}
-use native.Mathlib.Omega.{arith}
 
 module _ {A : Type 0} where
   -- one turn more, which writes the next element of `t`
@@ -20,7 +19,3 @@ module _ {A : Type 0} where
   -- what is not written yet stands as it was
   pub written-next : (s t : List A) (i : ℕ) (d : A) → i < length t → i < length s → getD (take i t ++ drop i s) i d ≡ getD s i d
   written-next s t i d ht hs = rw (drop-cons s i d) (getD-at (take i t) (getD s i d) (drop (suc i) s) d i (length-take-le i t (le-of-lt ht)))
-
-  -- the space keeps its length
-  pub written-length : (s t : List A) (i : ℕ) → i ≤ length t → i ≤ length s → length (take i t ++ drop i s) ≡ length s
-  written-length s t i ht hs = simp (length-append, length-take, length-drop) (omega arith)
