@@ -4,7 +4,7 @@ use mathlib.Core.Path.{_≡_, refl, sym, ap, ap₂, _∙_}
 use Prim.Native.Nat.{ℕ, zero, suc, _≤_, _<_, min}
 use native.Mathlib.Nat.{le-of-suc-le-suc, not-suc-le-zero, le-refl, suc-min-suc}
 use mathlib.Core.List.{List, [], _∷_}
-use lib.Bits.{bitXor, xor-comm, xor-zero-r}
+use lib.Bits.{bitXor, xor-comm, xor-zero-l, xor-zero-r}
 use lib.Dec.{eqb}
 use lib.ListN.{length, take, drop, getD, replicate}
 use native.Mathlib.Decide.{ℕ-discrete}
@@ -63,6 +63,14 @@ unfolding _⊕_
 ⊕-zeros [] n = refl
 ⊕-zeros (x ∷ a) zero = refl
 ⊕-zeros (x ∷ a) (suc n) = ap₂ {C = List ℕ} _∷_ (xor-zero-r x) (⊕-zeros a n)
+
+-- what is put into zeros
+pub zeros-⊕ : (b : List ℕ) (n : ℕ) → length b ≡ n → replicate n 0 ⊕ b ≡ b
+unfolding _⊕_
+zeros-⊕ [] zero e = refl
+zeros-⊕ [] (suc n) e = absurd (omega arith)
+zeros-⊕ (y ∷ b) zero e = absurd (omega arith)
+zeros-⊕ (y ∷ b) (suc n) e = ap₂ {C = List ℕ} _∷_ (xor-zero-l y) (zeros-⊕ b n (omega arith))
 
 -- each byte
 pub ⊕-at : (a b : List ℕ) (i : ℕ) → i < length a → i < length b → getD (a ⊕ b) i 0 ≡ bitXor (getD a i 0) (getD b i 0)

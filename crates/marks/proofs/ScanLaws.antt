@@ -1,19 +1,20 @@
 -- What the scan finds: in marks with at most one error of each parity it reaches the end and finds each error, by induction over
 -- the marks that are left with what is known of the places found so far.
 -- Assumes nothing.
-use Prim.Native.Nat.{ℕ, suc, _≤_, _<_, _-_, _%_}
+use Prim.Native.Nat.{ℕ, zero, suc, _≤_, _<_, _-_, _%_}
+use native.Mathlib.Decide.{ℕ-discrete}
 use native.Mathlib.Omega.{arith}
-use mathlib.Core.Bool.{Bool, true, false}
+use mathlib.Core.Bool.{Bool, true, false, not, false≢true}
 use mathlib.Core.List.{List, [], _∷_}
 use mathlib.Core.Path.{_≡_, refl, sym, ap, subst, _∙_}
 use borrow.Author.Count.{below-more}
-use borrow.Author.Tests.{eqb-true, eqb-false, ltb-true, ltb-false}
+use borrow.Author.Tests.{eqb-true, eqb-false, ne-eqb, ltb-true, ltb-false}
 use lib.Dec.{T, eqb, ltb}
-use lib.ListN.{length, getD, drop, length-drop}
+use lib.ListN.{length, getD, drop, replicate, length-drop, length-replicate, getD-replicate}
 use lib.Seq.{drop-cons}
 use Rattle.common.specs.Pick.{pick}
 use Rattle.common.proofs.PickLaws.{pick-by}
-use Rattle.marks.specs.Marks.{isError}
+use Rattle.marks.specs.Marks.{legalMark, legalMarks, isError}
 use Rattle.marks.specs.Scan.{scanFrom, scanOf}
 use Rattle.marks.specs.declared.Scan.{Scan}
 
@@ -24,24 +25,22 @@ Once marks =
     (i j : ℕ) → i < length marks → j < length marks → isError (getD marks i 0) ≡ true → isError (getD marks j 0) ≡ true →
     (length marks - 1 - i) % 2 ≡ (length marks - 1 - j) % 2 → i ≡ j
 
--- what the scan finds in such marks
-pub record ScannedOnce (marks : List ℕ) : Type 0 where
-  pub stop : scanOf marks .stop ≡ length marks
-  pub odd-place : scanOf marks .odd < length marks → (length marks - 1 - scanOf marks .odd) % 2 ≡ 1
-  pub even-place : scanOf marks .even < length marks → (length marks - 1 - scanOf marks .even) % 2 ≡ 0
-  pub odd-only : (j : ℕ) → j < length marks → isError (getD marks j 0) ≡ true → (length marks - 1 - j) % 2 ≡ 1 → scanOf marks .odd ≡ j
-  pub even-only : (j : ℕ) → j < length marks → isError (getD marks j 0) ≡ true → (length marks - 1 - j) % 2 ≡ 0 → scanOf marks .even ≡ j
-
 -- an error of a parity at a place is the place
-abbrev IsOnly : List ℕ → ℕ → ℕ → ℕ → Type 0
+abbrev pub IsOnly : List ℕ → ℕ → ℕ → ℕ → Type 0
 IsOnly marks parity place j = isError (getD marks j 0) ≡ true → (length marks - 1 - j) % 2 ≡ parity → place ≡ j
 
 -- the place found for a parity before the place `at`: if there is one, an error of that parity, and the only one so far
-record Found (marks : List ℕ) (parity at place : ℕ) : Type 0 where
-  before : place < length marks → place < at
-  error : place < length marks → isError (getD marks place 0) ≡ true
-  of-parity : place < length marks → (length marks - 1 - place) % 2 ≡ parity
-  only : (j : ℕ) → j < at → IsOnly marks parity place j
+pub record Found (marks : List ℕ) (parity at place : ℕ) : Type 0 where
+  pub before : place < length marks → place < at
+  pub error : place < length marks → isError (getD marks place 0) ≡ true
+  pub of-parity : place < length marks → (length marks - 1 - place) % 2 ≡ parity
+  pub only : (j : ℕ) → j < at → IsOnly marks parity place j
+
+-- what the scan finds in such marks: it comes to the end, and knows the only error of each parity
+pub record ScannedOnce (marks : List ℕ) : Type 0 where
+  pub stop : scanOf marks .stop ≡ length marks
+  pub odd : Found marks 1 (length marks) (scanOf marks .odd)
+  pub even : Found marks 0 (length marks) (scanOf marks .even)
 
 module _ (marks : List ℕ) (parity : ℕ) where
   -- nothing is found at the start
@@ -160,10 +159,40 @@ unfolding scanOf
 scanned-once marks once =
     let n = length marks in
     let r = ends marks once marks 0 refl n n (found-none marks 1) (found-none marks 0) in
-    record {
-      stop = r .0;
-      odd-place = r .1 .of-parity;
-      even-place = r .2 .of-parity;
-      odd-only = r .1 .only;
-      even-only = r .2 .only;
-    }
+    record { stop = r .0; odd = r .1; even = r .2 }
+
+-- ---- good marks
+
+-- a mark that is no error is good
+good-mark : (mark : ℕ) → (isError mark ≡ true → ⊥) → mark ≡ 15
+unfolding isError
+good-mark mark none = elim (ℕ-discrete mark 15) [ yes e ↦ e | no other ↦ absurd (none (ap not (ne-eqb mark 15 other))) ]
+
+-- so is a place of the parity of an error that is found, if it is another
+pub beside-good : (marks : List ℕ) (parity place : ℕ) → Found marks parity (length marks) place → place < length marks → (j : ℕ) → j < length marks
+    → (length marks - 1 - j) % 2 ≡ (length marks - 1 - place) % 2 → (j ≡ place → ⊥) → getD marks j 0 ≡ 15
+beside-good marks parity place found some j below same other =
+    good-mark (getD marks j 0) (λ error. other (sym (found .only j below error (same ∙ found .of-parity some))))
+
+-- and one that the scan has not found
+pub not-found-good : (marks : List ℕ) → ScannedOnce marks → (j : ℕ) → j < length marks → (j ≡ scanOf marks .odd → ⊥) → (j ≡ scanOf marks .even → ⊥)
+    → getD marks j 0 ≡ 15
+not-found-good marks once j below not-odd not-even =
+    good-mark (getD marks j 0)
+    (λ error. elim (ℕ-discrete ((length marks - 1 - j) % 2) 1) [
+      | yes odd ↦ not-odd (sym (once .odd .only j below error odd))
+      | no other ↦ let even : (length marks - 1 - j) % 2 ≡ 0 = omega arith in not-even (sym (once .even .only j below error even))
+    ])
+
+-- marks that are all good are legal
+pub good-legal : (n : ℕ) → legalMarks (replicate n 15) ≡ true
+unfolding legalMarks legalMark
+good-legal zero = refl
+good-legal (suc n) = good-legal n
+
+-- and none is an error
+pub good-once : (n : ℕ) → Once (replicate n 15)
+unfolding isError
+good-once n i j hi hj ei ej same =
+    let below : i < n = rw length-replicate at hi in
+    absurd (false≢true (ap isError (sym (getD-replicate n i 15 0 below)) ∙ ei))

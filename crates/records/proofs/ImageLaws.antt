@@ -1,18 +1,43 @@
--- Laws of the layout: how long each part of an image is.
+-- Laws of the image: the count that it says, how long each part is, and where its bytes stand.
 -- Assumes nothing.
-use mathlib.Core.Path.{_≡_, refl, ap, _∙_}
-use Prim.Native.Nat.{ℕ, _+_, _*_, _≤_}
+use mathlib.Core.Path.{_≡_, refl, sym, ap, _∙_}
+use Prim.Native.Nat.{ℕ, _+_, _-_, _*_, _/_, _%_, _≤_, _<_}
 use native.Mathlib.Omega.{arith}
-use mathlib.Core.Bool.{Bool, true, false}
+use mathlib.Core.Bool.{Bool, true, false, not}
 use mathlib.Core.List.{List, _++_}
-use lib.ListN.{length, length-append, length-replicate}
+use lib.ListN.{length, take, drop, getD, replicate, length-append, List·getD-append}
+use lib.Seq.{getD-take}
+use borrow.Author.Tests.{ne-eqb}
 use Rattle.common.specs.Pick.{pick}
 use Rattle.common.specs.Given.{filled}
 use Rattle.common.proofs.GivenLaws.{filled-length, filled-further}
-use Rattle.blockettes.specs.Blockettes.{checkOf, foldParity}
-use Rattle.blockettes.proofs.XorLaws.{xorAll-length}
-use Rattle.records.specs.Count.{limit, countBytes}
-use Rattle.records.specs.Image.{blocketteCount, hasBlockettes, blockettesOf, bodyOf, imageOf, imageLength}
+use Rattle.common.proofs.PickLaws.{pick-yes}
+use Rattle.blockettes.specs.Blockettes.{checkOf}
+use Rattle.blockettes.proofs.Checked.{check-length}
+use Rattle.records.specs.Count.{limit, rotated, unrotated, countBytes, countOf}
+use Rattle.records.specs.Image.{blocketteCount, hasBlockettes, blockettesOf, bodyOf, imageOf, imageLength, markCount}
+
+-- ---- the count
+
+-- a count fits 16 bits
+pub limit-16 : limit ≤ 65535
+unfolding limit
+limit-16 = omega arith
+
+-- the word of a count, from its two bytes
+word-said : (c : ℕ) → c ≤ 65535 → unrotated (rotated c / 256 * 256 + rotated c % 256) ≡ c
+unfolding rotated unrotated
+word-said c h = omega arith
+
+-- the first two bytes of an image say its count
+pub count-said : (image : List ℕ) (c : ℕ) → c ≤ 65535 → take 2 image ≡ countBytes c → countOf image ≡ c
+unfolding countBytes countOf
+count-said image c h e =
+    let high : getD image 0 0 ≡ rotated c / 256 = sym (getD-take 2 image 0 0 (omega arith)) ∙ ap (λ (l : List ℕ). getD l 0 0) e in
+    let low : getD image 1 0 ≡ rotated c % 256 = sym (getD-take 2 image 1 0 (omega arith)) ∙ ap (λ (l : List ℕ). getD l 1 0) e in
+    rw (high, low) (word-said c h)
+
+-- ---- the number of blockettes
 
 -- the blockettes hold the bytes
 pub blockettes-hold : (c : ℕ) → c ≤ 256 * blocketteCount c
@@ -23,10 +48,6 @@ blockettes-hold c = omega arith
 pub blockettes-few : (c : ℕ) → c ≤ limit → blocketteCount c ≤ 256
 unfolding blocketteCount limit
 blockettes-few c h = omega arith
-
-pub check-length : (bytes : List ℕ) (n parity : ℕ) → length (checkOf bytes n parity) ≡ 256
-unfolding checkOf foldParity
-check-length bytes n parity = xorAll-length _ _ _ ∙ length-replicate {A = ℕ} 256 0
 
 pub blockettes-length : (bytes : List ℕ) (n : ℕ) → length bytes ≤ 256 * n → length (blockettesOf bytes n) ≡ 256 * (n + 2)
 unfolding blockettesOf
@@ -79,3 +100,40 @@ image-holds c density = go (hasBlockettes c density) refl
     go : (gcr : Bool) → hasBlockettes c density ≡ gcr → 2 + c ≤ imageLength c density
     go true h = omega (arith, length-gcr c density h, blockettes-hold c)
     go false h = omega (arith, length-plain c density h)
+
+-- ---- the body of a GCR image
+
+-- no more blockettes than the bytes need
+pub blockettes-tight : (c : ℕ) → 256 * blocketteCount c < c + 256
+unfolding blocketteCount
+blockettes-tight c = omega arith
+
+-- bytes filled to whole blockettes
+pub whole-blockettes : (bytes : List ℕ) → length (filled bytes (256 * blocketteCount (length bytes))) ≡ 256 * blocketteCount (length bytes)
+whole-blockettes bytes = filled-length bytes (256 * blocketteCount (length bytes)) (blockettes-hold (length bytes))
+
+-- a GCR record has blockettes, unless it is empty
+has-some : (c : ℕ) → 0 < c → hasBlockettes c 1 ≡ true
+unfolding hasBlockettes
+has-some c h = ap not (ne-eqb c 0 (λ none. omega arith))
+
+-- and so two marks more than them
+pub marks-of : (c : ℕ) → 0 < c → markCount c 1 ≡ blocketteCount c + 2
+unfolding markCount
+marks-of c h = pick-yes (blocketteCount c + 2) 0 (has-some c h)
+
+module _ (bytes : List ℕ) (some : 0 < length bytes) where
+  -- what follows the count
+  pub body-is : drop 2 (imageOf bytes 1) ≡ blockettesOf bytes (blocketteCount (length bytes))
+  unfolding imageOf countBytes
+  body-is = body-gcr bytes 1 (has-some (length bytes) some)
+
+  -- the bytes stand in front
+  pub body-front : (i : ℕ) → i < length bytes → getD (drop 2 (imageOf bytes 1)) i 0 ≡ getD bytes i 0
+  unfolding blockettesOf filled
+  body-front i h =
+      let n = blocketteCount (length bytes) in
+      let full = filled bytes (256 * n) in
+      ap (λ (l : List ℕ). getD l i 0) body-is
+      ∙ List·getD-append full (checkOf full n 1 ++ checkOf full n 0) 0 i (omega (arith, whole-blockettes bytes, blockettes-hold (length bytes)))
+      ∙ List·getD-append bytes (replicate (256 * n - length bytes) 0) 0 i h
