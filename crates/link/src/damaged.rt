@@ -1,5 +1,7 @@
 // The test of a damaged state: refusal 1.
-use crate::link::whole_length;
+use crate::collecting::LOAD_LEAD;
+use crate::collecting::STORE_LEAD;
+use crate::collecting::whole_length;
 use crate::state::Body;
 use crate::state::Collected;
 use crate::state::Phase;
@@ -36,7 +38,7 @@ pub fn sound_body(b: Body) -> bool
 pub fn sound_lead(s: Collected) -> bool
     ensures { λ r. ⌜ r ≡ soundLead s ⌝ }
 {
-    (s.c0 == 0x62) | (s.c0 == 0x64)
+    (s.c0 == LOAD_LEAD) | (s.c0 == STORE_LEAD)
 }
 
 // A string that is being collected.
