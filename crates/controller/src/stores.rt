@@ -1,12 +1,12 @@
 // Stores: what the address and the operand ask for, and how it is carried out.
+use link::answers::END_OF_RECORD;
+use link::answers::GO;
 use link::body::current_drive;
 use link::body::go_reset;
 use link::body::put_current;
 use link::body::with_flags;
 use link::completion::complete;
 use link::completion::with_code;
-use link::link::END_OF_RECORD;
-use link::link::GO;
 use link::state::Action;
 use link::state::Body;
 use link::state::Collected;
