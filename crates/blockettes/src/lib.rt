@@ -2,16 +2,16 @@
 use common::clear;
 use common::least;
 ghost use mathlib.Core.Path.{_≡_};
-ghost use Prim.Native.Nat.{_+_, _*_, _≤_, _<_};
+ghost use Prim.Native.Nat.{_≤_, _<_};
 ghost use lib.ListN.{length, take};
 ghost use Rattle.blockettes.specs.Xor.{_⊕_};
 ghost use Rattle.blockettes.specs.Blockettes.{blocketteAt, foldParity, checkOf, othersOf};
 
 // The bytes of a blockette.
-pub const SIZE: usize = 256;
+const SIZE: usize = 256;
 
 // Puts a string into another by XOR.
-pub fn mix(into: &mut [u8], from: &[u8])
+fn mix(into: &mut [u8], from: &[u8])
     ensures { λ _. ⌜ now (into .exit) ≡ now (into .entry) ⊕ now (from .entry) ⌝ }
 {
     let n = least(into.len(), from.len());
@@ -21,7 +21,7 @@ pub fn mix(into: &mut [u8], from: &[u8])
 }
 
 // Puts the blockette at a place, or what there is of it, into a string.
-pub fn mix_at(into: &mut [u8], bytes: &[u8], place: usize)
+fn mix_at(into: &mut [u8], bytes: &[u8], place: usize)
     requires { ⌜ place ≤ 65536 ⌝ }
     ensures { λ _. ⌜ now (into .exit) ≡ now (into .entry) ⊕ blocketteAt (now (bytes .entry)) place ⌝ }
 {
@@ -31,7 +31,7 @@ pub fn mix_at(into: &mut [u8], bytes: &[u8], place: usize)
 }
 
 // Puts every blockette of one parity, of n in all, into a string.
-pub fn fold_parity(into: &mut [u8], bytes: &[u8], n: usize, parity: usize)
+fn fold_parity(into: &mut [u8], bytes: &[u8], n: usize, parity: usize)
     requires { ⌜ parity ≤ 1 ⌝ }
     requires { ⌜ n ≤ 65536 ⌝ }
     ensures { λ _. ⌜ now (into .exit) ≡ foldParity (now (into .entry)) (now (bytes .entry)) n parity ⌝ }

@@ -44,7 +44,7 @@ pub fn send_word(b: Body, kind: Kind, lead: u8, word: Word) -> Turn
 }
 
 // Secondary if it is valid, else primary.
-pub fn interrupt(b: Body) -> Turn
+fn interrupt(b: Body) -> Turn
     ensures { λ r. ⌜ r ≡ interrupts b ⌝ }
 {
     let counted = b.outcome.counted;

@@ -14,19 +14,19 @@ use status::drives::Drives;
 ghost use mathlib.Core.Path.{_≡_};
 ghost use Rattle.link.specs.Damaged.{soundDrive, soundDrives, soundBody, soundLead, soundPart, soundString, soundCount, soundHeld, soundPhase, sound};
 
-pub fn sound_drive(d: Drive) -> bool
+fn sound_drive(d: Drive) -> bool
     ensures { λ r. ⌜ r ≡ soundDrive d ⌝ }
 {
     (d.track <= 3) & ((d.gap <= 3) & (d.density <= 1))
 }
 
-pub fn sound_drives(d: Drives) -> bool
+fn sound_drives(d: Drives) -> bool
     ensures { λ r. ⌜ r ≡ soundDrives d ⌝ }
 {
     sound_drive(d.d0) & (sound_drive(d.d1) & (sound_drive(d.d2) & sound_drive(d.d3)))
 }
 
-pub fn sound_body(b: Body) -> bool
+fn sound_body(b: Body) -> bool
     ensures { λ r. ⌜ r ≡ soundBody b ⌝ }
 {
     sound_drives(b.drives)
@@ -35,34 +35,34 @@ pub fn sound_body(b: Body) -> bool
 }
 
 // A string begins with the lead of a load or of a store.
-pub fn sound_lead(s: Collected) -> bool
+fn sound_lead(s: Collected) -> bool
     ensures { λ r. ⌜ r ≡ soundLead s ⌝ }
 {
     (s.c0 == LOAD_LEAD) | (s.c0 == STORE_LEAD)
 }
 
 // A string that is being collected.
-pub fn sound_part(s: Collected) -> bool
+fn sound_part(s: Collected) -> bool
     ensures { λ r. ⌜ r ≡ soundPart s ⌝ }
 {
     (s.length == 0) | (sound_lead(s) & (s.length < whole_length(s.c0)))
 }
 
 // A whole string.
-pub fn sound_string(s: Collected) -> bool
+fn sound_string(s: Collected) -> bool
     ensures { λ r. ⌜ r ≡ soundString s ⌝ }
 {
     sound_lead(s) & (s.length == whole_length(s.c0))
 }
 
-pub fn sound_count(store: Store) -> bool
+fn sound_count(store: Store) -> bool
     ensures { λ r. ⌜ r ≡ soundCount store ⌝ }
 {
     held_count(store) <= LIMIT
 }
 
 // A held operation with its store: a write holds a count.
-pub fn sound_held(operation: Operation, store: Store) -> bool
+fn sound_held(operation: Operation, store: Store) -> bool
     ensures { λ r. ⌜ r ≡ soundHeld operation store ⌝ }
 {
     match operation {
@@ -80,7 +80,7 @@ pub fn sound_held(operation: Operation, store: Store) -> bool
     }
 }
 
-pub fn sound_phase(s: Collected, phase: Phase) -> bool
+fn sound_phase(s: Collected, phase: Phase) -> bool
     ensures { λ r. ⌜ r ≡ soundPhase s phase ⌝ }
 {
     match phase {

@@ -14,7 +14,7 @@ ghost use mathlib.Core.Path.{_≡_};
 ghost use Rattle.link.specs.Loads.{loadWord, loaded};
 
 // By the operation, address bits 1-3; 6 and 7 are not asked.
-pub fn load_word(b: Body, operation: u8) -> Word
+fn load_word(b: Body, operation: u8) -> Word
     ensures { λ r. ⌜ r ≡ loadWord b operation ⌝ }
 {
     match operation {

@@ -4,7 +4,7 @@ ghost use Rattle.marks.specs.Marks.{legalMark, legalMarks};
 ghost use Rattle.marks.specs.Scan.{scanOf, defectAt};
 
 // The mark of a good blockette.
-pub const GOOD: u8 = 15;
+const GOOD: u8 = 15;
 
 // The places of the first odd error, of the first even one, and where the scan stopped; the number of marks where there is none.
 pub struct Scan {
@@ -21,7 +21,7 @@ pub struct Defect {
 }
 
 // Whether a mark is one of 1-9 or 15.
-pub fn legal_mark(mark: u8) -> bool
+fn legal_mark(mark: u8) -> bool
     ensures { λ r. ⌜ r ≡ legalMark mark ⌝ }
 {
     ((1 <= mark) & (mark <= 9)) | (mark == GOOD)

@@ -7,7 +7,7 @@ ghost use Rattle.operations.specs.After.{losesTape, usualMotion, motionO
 const LOST: u8 = 3;
 
 // The codes that leave it so.
-pub fn loses_tape(code: u8) -> bool
+fn loses_tape(code: u8) -> bool
     ensures { λ r. ⌜ r ≡ losesTape code ⌝ }
 {
     (code == 0x6)
@@ -15,7 +15,7 @@ pub fn loses_tape(code: u8) -> bool
 }
 
 // The motion of an operation that loses nothing.
-pub fn usual_motion(movement: Move) -> u8
+fn usual_motion(movement: Move) -> u8
     ensures { λ r. ⌜ r ≡ usualMotion movement ⌝ }
 {
     match movement {
@@ -41,7 +41,7 @@ pub fn motion(movement: Move, code: u8) -> u8
 }
 
 // The gap after a move that was made and lost nothing.
-pub fn gap_of(movement: Move, code: u8) -> u8
+fn gap_of(movement: Move, code: u8) -> u8
     ensures { λ r. ⌜ r ≡ gapOf movement code ⌝ }
 {
     let good = code == 0;

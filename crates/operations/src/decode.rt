@@ -2,7 +2,6 @@
 use crate::operation::Operation;
 use records::count::LIMIT;
 ghost use mathlib.Core.Path.{_≡_};
-ghost use Prim.Native.Nat.{_+_, _*_};
 ghost use Rattle.operations.specs.Decode.{controlOf, readOf, writeOf, decodeOf};
 
 // A reset, a code that ends the store, a setting of the selected drive or of the controller, or an operation.
@@ -16,7 +15,7 @@ pub enum Decoded {
 }
 
 // By the control value.
-pub fn control(value: u8) -> Decoded
+fn control(value: u8) -> Decoded
     ensures { λ r. ⌜ r ≡ controlOf value ⌝ }
 {
     match value {
@@ -38,7 +37,7 @@ pub fn control(value: u8) -> Decoded
 }
 
 // A store to operation 4, by its first operand byte.
-pub fn read_or_check(first: u8) -> Decoded
+fn read_or_check(first: u8) -> Decoded
     ensures { λ r. ⌜ r ≡ readOf first ⌝ }
 {
     match first {
@@ -49,7 +48,7 @@ pub fn read_or_check(first: u8) -> Decoded
 }
 
 // A store to operation 5, by its count.
-pub fn write_of(count: usize) -> Decoded
+fn write_of(count: usize) -> Decoded
     ensures { λ r. ⌜ r ≡ writeOf count ⌝ }
 {
     if LIMIT < count {

@@ -1,27 +1,22 @@
 // The tape test: whether a drive with this report may carry an operation out.
 use crate::operation::Move;
+use status::drives::INSTALLED;
 ghost use mathlib.Core.Path.{_≡_};
-ghost use Rattle.operations.specs.Test.{ready, placed, writable, mayMove};
+ghost use Rattle.operations.specs.Test.{ready, mayMove};
 
-// Bits of a report.
-pub const EOT: u8 = 128;
+// Bits of a report that are asked for here alone.
+const EOT: u8 = 128;
 
-pub const EOT_WARNING: u8 = 64;
+const PROTECTED: u8 = 8;
 
-pub const INSTALLED: u8 = 32;
+const POSITION_UNKNOWN: u8 = 4;
 
-pub const BOT_WARNING: u8 = 16;
+const SELECTABLE: u8 = 2;
 
-pub const PROTECTED: u8 = 8;
-
-pub const POSITION_UNKNOWN: u8 = 4;
-
-pub const SELECTABLE: u8 = 2;
-
-pub const BOT: u8 = 1;
+const BOT: u8 = 1;
 
 // A tape that is there and a drive that can be selected.
-pub fn ready_to_move(report: u8) -> bool
+fn ready_to_move(report: u8) -> bool
     ensures { λ r. ⌜ r ≡ ready report ⌝ }
 {
     (report / INSTALLED % 2 == 1) & (report / SELECTABLE % 2 == 1)

@@ -17,7 +17,7 @@ ghost use Rattle.records.specs.Image.{imageLength, imageOf, bodyOf, bloc
 ghost use Rattle.records.specs.Build.{buildRefusal, builtInto};
 
 // Both check blockettes of n blockettes of data.
-pub fn put_checks(bytes: &[u8], n: usize, space: &mut [u8])
+fn put_checks(bytes: &[u8], n: usize, space: &mut [u8])
     requires { ⌜ n ≤ 256 ⌝ }
     requires { ⌜ length (now space) ≡ 512 ⌝ }
     ensures { λ _. ⌜ now (space .exit) ≡ checkOf (now (bytes .entry)) n 1 ++ checkOf (now (bytes .entry)) n 0 ⌝ }
@@ -27,7 +27,7 @@ pub fn put_checks(bytes: &[u8], n: usize, space: &mut [u8])
 }
 
 // The blockettes of data and of check. Bytes that are missing are zeros.
-pub fn put_blockettes(bytes: &[u8], n: usize, space: &mut [u8])
+fn put_blockettes(bytes: &[u8], n: usize, space: &mut [u8])
     requires { ⌜ n ≤ 256 ⌝ }
     requires { ⌜ length (now bytes) ≤ 256 * n ⌝ }
     requires { ⌜ length (now space) ≡ 256 * (n + 2) ⌝ }
@@ -39,7 +39,7 @@ pub fn put_blockettes(bytes: &[u8], n: usize, space: &mut [u8])
 }
 
 // What follows the count. Bytes that are missing are zeros.
-pub fn put_body(bytes: &[u8], count: usize, density: u8, space: &mut [u8])
+fn put_body(bytes: &[u8], count: usize, density: u8, space: &mut [u8])
     requires { ⌜ count ≤ limit ⌝ }
     requires { ⌜ length (now bytes) ≤ count ⌝ }
     requires { ⌜ length (now space) + 2 ≡ imageLength count density ⌝ }

@@ -7,13 +7,13 @@ use common::give;
 use common::least;
 use marks::scan_marks;
 ghost use mathlib.Core.Path.{_≡_};
-ghost use Prim.Native.Nat.{_+_, _*_, _≤_};
+ghost use Prim.Native.Nat.{_≤_};
 ghost use lib.ListN.{length, take};
 ghost use Rattle.records.specs.Image.{blocketteCount};
 ghost use Rattle.records.specs.Restore.{mendedAt, restoreRefusal, restoredInto};
 
 // Restores the blockette at a place of the bytes of a record, from its n + 2 blockettes, where it is one of data.
-pub fn mend_at(blockettes: &[u8], n: usize, place: usize, bytes: &mut [u8])
+fn mend_at(blockettes: &[u8], n: usize, place: usize, bytes: &mut [u8])
     requires { ⌜ n ≤ 256 ⌝ }
     requires { ⌜ n ≡ blocketteCount (length (now bytes)) ⌝ }
     ensures { λ _. ⌜ now (bytes .exit) ≡ mendedAt (now (blockettes .entry)) n place (now (bytes .entry)) ⌝ }
@@ -26,7 +26,7 @@ pub fn mend_at(blockettes: &[u8], n: usize, place: usize, bytes: &mut [u8])
 }
 
 // The bytes of a record from its n + 2 blockettes, with two places restored.
-pub fn put_restored(blockettes: &[u8], n: usize, odd: usize, even: usize, space: &mut [u8])
+fn put_restored(blockettes: &[u8], n: usize, odd: usize, even: usize, space: &mut [u8])
     requires { ⌜ n ≤ 256 ⌝ }
     requires { ⌜ n ≡ blocketteCount (length (now space)) ⌝ }
     requires { ⌜ length (now space) ≤ length (now blockettes) ⌝ }

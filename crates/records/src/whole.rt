@@ -41,7 +41,7 @@ pub fn whole_refusal(image: &[u8], marks: &[u8], density: u8) -> u32
 }
 
 // Two count bytes and no marks: 9 or 0.
-pub fn count_refusal(image: &[u8], marks: &[u8]) -> u32
+fn count_refusal(image: &[u8], marks: &[u8]) -> u32
     ensures { λ r. ⌜ r ≡ countRefusal (now (image .entry)) (now (marks .entry)) ⌝ }
 {
     if image.len() != 2 {
@@ -58,7 +58,7 @@ pub fn count_refusal(image: &[u8], marks: &[u8]) -> u32
 }
 
 // Neither image nor marks: 9 or 0.
-pub fn empty_refusal(image: &[u8], marks: &[u8]) -> u32
+fn empty_refusal(image: &[u8], marks: &[u8]) -> u32
     ensures { λ r. ⌜ r ≡ emptyRefusal (now (image .entry)) (now (marks .entry)) ⌝ }
 {
     if image.len() != 0 {

@@ -12,6 +12,9 @@ pub struct Drive {
     pub gap: u8,
 }
 
+// The bit of a report that says that a tape is installed.
+pub const INSTALLED: u8 = 32;
+
 pub struct Drives {
     pub d0: Drive,
     pub d1: Drive,
@@ -49,7 +52,7 @@ pub fn with_report(mut drive: Drive, report: u8) -> Drive
     ensures { λ r. ⌜ r ≡ reported drive report ⌝ }
 {
     drive.report = report;
-    let installed = report / 32 % 2 == 1;
+    let installed = report / INSTALLED % 2 == 1;
     if installed {
         return drive;
     }
@@ -68,7 +71,7 @@ pub fn any_differs(drives: Drives) -> bool
 }
 
 // A drive whose report is copied.
-pub fn copy_report(mut drive: Drive) -> Drive
+fn copy_report(mut drive: Drive) -> Drive
     ensures { λ r. ⌜ r ≡ copied drive ⌝ }
 {
     drive.reviewed = drive.report;
@@ -88,7 +91,7 @@ pub fn copy_reports(drives: Drives) -> Drives
 }
 
 // A drive as it starts, but for its report.
-pub fn fresh_with(report: u8) -> Drive
+fn fresh_with(report: u8) -> Drive
     ensures { λ r. ⌜ r ≡ freshWith report ⌝ }
 {
     Drive {

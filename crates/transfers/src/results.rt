@@ -21,6 +21,7 @@ use records::layout::blockette_count;
 use records::whole::Expected;
 use records::whole::image_refusal;
 use status::drives::Drive;
+use status::drives::INSTALLED;
 use status::words::Outcome;
 use status::words::Word;
 use status::words::any_bit;
@@ -187,7 +188,7 @@ pub fn is_gone(drive: Drive, operation: Operation) -> bool
     ensures { λ r. ⌜ r ≡ isGone drive operation ⌝ }
 {
     let moves = moves_tape(movement(operation));
-    moves & !(drive.report / 32 % 2 == 1)
+    moves & !(drive.report / INSTALLED % 2 == 1)
 }
 
 // Whether an image counts.
