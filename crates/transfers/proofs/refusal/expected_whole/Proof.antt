@@ -1,10 +1,10 @@
--- `transfers::results::expected_whole` meets its contract: by the code and the mark flag.
+-- `transfers::refusal::expected_whole` meets its contract: by the code and the mark flag.
 -- Assumes nothing.
 use borrow.Author.Needs.{needs}
 use Rattle.common.specs.Pick.{pick}
 use Rattle.transfers.specs.Results.{expectedWhole}
-use Rattle.transfers.proofs.results.expected_whole.Statement.{statement}
-use Rattle.transfers.proofs.results.expected_whole.Tie as tie
+use Rattle.transfers.proofs.refusal.expected_whole.Statement.{statement}
+use Rattle.transfers.proofs.refusal.expected_whole.Tie as tie
 
 whole-code-requires : tie.Need-whole-code-requires
 whole-code-requires c κs = search needs

@@ -1,4 +1,4 @@
--- `transfers::results::give_fitting` meets its contract: the lesser of both lengths fits.
+-- `transfers::delivery::give_fitting` meets its contract: the lesser of both lengths fits.
 -- Assumes nothing.
 use borrow.Author.Needs.{needs}
 use mathlib.Core.List.{List}
@@ -8,8 +8,8 @@ use native.Mathlib.Omega.{arith}
 use lib.ListN.{length, length-take}
 use Rattle.common.specs.Given.{given}
 use Rattle.transfers.proofs.ResultLaws.{fitting-part, fitting-length}
-use Rattle.transfers.proofs.results.give_fitting.Statement.{statement}
-use Rattle.transfers.proofs.results.give_fitting.Tie as tie
+use Rattle.transfers.proofs.delivery.give_fitting.Statement.{statement}
+use Rattle.transfers.proofs.delivery.give_fitting.Tie as tie
 
 least-requires : tie.Need-least-requires
 least-requires c κs = search needs

@@ -1,11 +1,11 @@
--- `transfers::results::delivered_bytes` meets its contract: by the operation.
+-- `transfers::delivery::delivered_bytes` meets its contract: by the operation.
 -- Assumes nothing.
 use borrow.Author.Needs.{needs}
 use mathlib.Core.Path.{sym, _∙_}
 use Rattle.transfers.specs.Results.{delivered}
 use Rattle.transfers.proofs.ResultLaws.{used-some, delivered-read, delivered-unread}
-use Rattle.transfers.proofs.results.delivered_bytes.Statement.{statement}
-use Rattle.transfers.proofs.results.delivered_bytes.Tie as tie
+use Rattle.transfers.proofs.delivery.delivered_bytes.Statement.{statement}
+use Rattle.transfers.proofs.delivery.delivered_bytes.Tie as tie
 
 enum-told : tie.Need-enum-told
 enum-told c = search needs

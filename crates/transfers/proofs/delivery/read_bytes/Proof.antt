@@ -1,12 +1,12 @@
--- `transfers::results::read_bytes` meets its contract: the part of the image that follows its count.
+-- `transfers::delivery::read_bytes` meets its contract: the part of the image that follows its count.
 -- Assumes nothing.
 use borrow.Author.Needs.{needs}
 use mathlib.Core.Path.{_≡_, ap, _∙_}
 use Prim.Native.Nat.{ℕ, _+_, _-_}
 use native.Mathlib.Omega.{arith}
 use lib.ListN.{take, drop}
-use Rattle.transfers.proofs.results.read_bytes.Statement.{statement}
-use Rattle.transfers.proofs.results.read_bytes.Tie as tie
+use Rattle.transfers.proofs.delivery.read_bytes.Statement.{statement}
+use Rattle.transfers.proofs.delivery.read_bytes.Tie as tie
 
 read-count-requires : tie.Need-read-count-requires
 read-count-requires c κs = search needs

@@ -1,9 +1,9 @@
--- `transfers::results::whole_code` meets its contract: it is its definition.
+-- `transfers::refusal::whole_code` meets its contract: it is its definition.
 -- Assumes nothing.
 use mathlib.Core.Path.{refl}
 use Rattle.transfers.specs.Results.{wholeCode}
-use Rattle.transfers.proofs.results.whole_code.Statement.{statement}
-use Rattle.transfers.proofs.results.whole_code.Tie as tie
+use Rattle.transfers.proofs.refusal.whole_code.Statement.{statement}
+use Rattle.transfers.proofs.refusal.whole_code.Tie as tie
 
 returns : tie.Need-returns
 unfolding wholeCode

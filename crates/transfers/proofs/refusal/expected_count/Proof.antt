@@ -1,9 +1,9 @@
--- `transfers::results::expected_count` meets its contract: by the density, the code and the mark flag.
+-- `transfers::refusal::expected_count` meets its contract: by the density, the code and the mark flag.
 -- Assumes nothing.
 use Rattle.common.specs.Pick.{pick}
 use Rattle.transfers.specs.Results.{expectedOf}
-use Rattle.transfers.proofs.results.expected_count.Statement.{statement}
-use Rattle.transfers.proofs.results.expected_count.Tie as tie
+use Rattle.transfers.proofs.refusal.expected_count.Statement.{statement}
+use Rattle.transfers.proofs.refusal.expected_count.Tie as tie
 
 returns : tie.Need-returns
 unfolding expectedOf pick

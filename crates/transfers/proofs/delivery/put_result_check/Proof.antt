@@ -1,4 +1,4 @@
--- `transfers::results::put_result_check` meets its contract: by the operation, the density and whether the image counts.
+-- `transfers::delivery::put_result_check` meets its contract: by the operation, the density and whether the image counts.
 -- Assumes nothing.
 use borrow.Author.Needs.{needs}
 use mathlib.Core.Path.{sym, ap, _∙_}
@@ -7,8 +7,8 @@ use Rattle.common.specs.Pick.{pick}
 use Rattle.records.specs.Image.{imageLength}
 use Rattle.transfers.specs.Results.{resultCheck}
 use Rattle.transfers.proofs.ResultLaws.{used-some}
-use Rattle.transfers.proofs.results.put_result_check.Statement.{statement}
-use Rattle.transfers.proofs.results.put_result_check.Tie as tie
+use Rattle.transfers.proofs.delivery.put_result_check.Statement.{statement}
+use Rattle.transfers.proofs.delivery.put_result_check.Tie as tie
 
 reads-gcr-requires : tie.Need-reads-gcr-requires
 reads-gcr-requires c κs = search needs

@@ -1,9 +1,9 @@
--- `transfers::results::is_search` meets its contract: by the operation.
+-- `transfers::refusal::takes_mark` meets its contract: by the operation.
 -- Assumes nothing.
 use borrow.Author.Needs.{needs}
-use Rattle.transfers.specs.Results.{isSearch}
-use Rattle.transfers.proofs.results.is_search.Statement.{statement}
-use Rattle.transfers.proofs.results.is_search.Tie as tie
+use Rattle.transfers.specs.Results.{takesMark}
+use Rattle.transfers.proofs.refusal.takes_mark.Statement.{statement}
+use Rattle.transfers.proofs.refusal.takes_mark.Tie as tie
 
 enum-told : tie.Need-enum-told
 enum-told c = search needs
@@ -39,62 +39,62 @@ enum-told-11 : tie.Need-enum-told-11
 enum-told-11 c = search needs
 
 returns : tie.Need-returns
-unfolding isSearch
+unfolding takesMark
 returns c = simp
     (c .enum-told .given .1)
 
 returns-2 : tie.Need-returns-2
-unfolding isSearch
+unfolding takesMark
 returns-2 c = simp
     (c .enum-told2 .given .1)
 
 returns-3 : tie.Need-returns-3
-unfolding isSearch
+unfolding takesMark
 returns-3 c = simp
     (c .enum-told3 .given .1)
 
 returns-4 : tie.Need-returns-4
-unfolding isSearch
+unfolding takesMark
 returns-4 c = simp
     (c .enum-told4 .given .1)
 
 returns-5 : tie.Need-returns-5
-unfolding isSearch
+unfolding takesMark
 returns-5 c = simp
     (c .enum-told5 .given .1)
 
 returns-6 : tie.Need-returns-6
-unfolding isSearch
+unfolding takesMark
 returns-6 c = simp
     (c .enum-told6 .given .1)
 
 returns-7 : tie.Need-returns-7
-unfolding isSearch
+unfolding takesMark
 returns-7 c = simp
     (c .enum-told7 .given .1)
 
 returns-8 : tie.Need-returns-8
-unfolding isSearch
+unfolding takesMark
 returns-8 c = simp
     (c .enum-told8 .given .1)
 
 returns-9 : tie.Need-returns-9
-unfolding isSearch
+unfolding takesMark
 returns-9 c = simp
     (c .enum-told9 .given .1)
 
 returns-10 : tie.Need-returns-10
-unfolding isSearch
+unfolding takesMark
 returns-10 c = simp
     (c .enum-told10 .given .1)
 
 returns-11 : tie.Need-returns-11
-unfolding isSearch
+unfolding takesMark
 returns-11 c = simp
     (c .enum-told11 .given .1)
 
-pub is-search-spec : {M : Type 1} → statement M
-is-search-spec =
+pub takes-mark-spec : {M : Type 1} → statement M
+takes-mark-spec =
     tie.close
     (tie.spec
     enum-told

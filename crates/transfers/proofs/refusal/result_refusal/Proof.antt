@@ -1,10 +1,10 @@
--- `transfers::results::result_refusal` meets its contract: at each return the tests that led there say which case holds.
+-- `transfers::refusal::result_refusal` meets its contract: at each return the tests that led there say which case holds.
 -- Assumes nothing.
 use borrow.Author.Needs.{needs}
 use Rattle.common.specs.Pick.{pick}
 use Rattle.transfers.specs.Results.{resultRefusal}
-use Rattle.transfers.proofs.results.result_refusal.Statement.{statement}
-use Rattle.transfers.proofs.results.result_refusal.Tie as tie
+use Rattle.transfers.proofs.refusal.result_refusal.Statement.{statement}
+use Rattle.transfers.proofs.refusal.result_refusal.Tie as tie
 
 returns : tie.Need-returns
 unfolding resultRefusal pick

@@ -1,9 +1,9 @@
--- `transfers::results::mark_against` meets its contract: it is its definition.
+-- `transfers::refusal::mark_against` meets its contract: it is its definition.
 -- Assumes nothing.
 use borrow.Author.Needs.{needs}
 use Rattle.transfers.specs.Results.{markAgainst}
-use Rattle.transfers.proofs.results.mark_against.Statement.{statement}
-use Rattle.transfers.proofs.results.mark_against.Tie as tie
+use Rattle.transfers.proofs.refusal.mark_against.Statement.{statement}
+use Rattle.transfers.proofs.refusal.mark_against.Tie as tie
 
 takes-mark-requires : tie.Need-takes-mark-requires
 takes-mark-requires c κs = search needs

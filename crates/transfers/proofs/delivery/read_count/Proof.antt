@@ -1,4 +1,4 @@
--- `transfers::results::read_count` meets its contract: by where the scan stopped.
+-- `transfers::delivery::read_count` meets its contract: by where the scan stopped.
 -- Assumes nothing.
 use borrow.Author.Needs.{needs}
 use Prim.Native.Nat.{_≤_}
@@ -6,8 +6,8 @@ use native.Mathlib.Omega.{arith}
 use Rattle.common.specs.Pick.{pick}
 use Rattle.records.proofs.ImageLaws.{blockettes-few}
 use Rattle.transfers.specs.Results.{readBytes}
-use Rattle.transfers.proofs.results.read_count.Statement.{statement}
-use Rattle.transfers.proofs.results.read_count.Tie as tie
+use Rattle.transfers.proofs.delivery.read_count.Statement.{statement}
+use Rattle.transfers.proofs.delivery.read_count.Tie as tie
 
 count-of-requires : tie.Need-count-of-requires
 count-of-requires c κs = search needs
