@@ -21,6 +21,7 @@ use Rattle.operations.specs.Store.{heldCount}
 unfoldable pub soundDrive : Drive → Bool
 soundDrive d = leb (d .track) 3 && (leb (d .gap) 3 && leb (d .density) 1)
 
+-- of all four
 unfoldable pub soundDrives : Drives → Bool
 soundDrives d = soundDrive (d .d0) && (soundDrive (d .d1) && (soundDrive (d .d2) && soundDrive (d .d3)))
 
@@ -45,6 +46,7 @@ soundString s = soundLead s && eqb (s .length) (wholeLength (s .c0))
 unfoldable pub soundCount : Store → Bool
 soundCount store = leb (heldCount store) limit
 
+-- a write alone holds a count
 unfoldable pub soundHeld : Operation → Store → Bool
 soundHeld Write store = soundCount store
 soundHeld Read store = true
@@ -58,6 +60,7 @@ soundHeld SearchForward store = true
 soundHeld SearchReverse store = true
 soundHeld WriteMark store = true
 
+-- what is held in the phase; "noes so far 0-4"
 unfoldable pub soundPhase : Collected → Phase → Bool
 soundPhase s Collecting = soundPart s
 soundPhase s AckOffered = soundString s

@@ -37,10 +37,11 @@ appended s byte =
       c7 = pick (eqb (s .length) 7) byte (s .c7);
     }
 
--- "All bytes XOR to 0": of a load, of a store
+-- the XOR of the bytes of a load
 unfoldable pub loadXor : Collected → ℕ
 loadXor s = bitXor (bitXor (bitXor (s .c0) (s .c1)) (s .c2)) (s .c3)
 
+-- "All bytes XOR to 0"
 unfoldable pub checks : Collected → Bool
 checks s =
     eqb

@@ -16,7 +16,7 @@ use Rattle.link.specs.declared.state.Action.{Action}
 use Rattle.link.specs.declared.state.Action.the-variants.{Nothing}
 use Rattle.link.specs.declared.state.Turn.{Turn}
 
--- ---- setters
+-- ---- setters: the body with one part, or parts that change together, set anew
 
 abbrev pub setDrives : Body → Drives → Body
 setDrives b drives =
@@ -44,14 +44,17 @@ setCollected b collected =
 
 -- ---- the selected drive
 
+-- its record
 abbrev pub current : Body → Drive
 current b = driveOf (b .drives) (b .selected)
 
+-- another record for it
 abbrev pub setCurrent : Body → Drive → Body
 setCurrent b drive = setDrives b (withDrive (b .drives) (b .selected) drive)
 
 -- ---- start and reset
 
+-- a string of which no byte has come
 abbrev pub nothingCollected : Collected
 nothingCollected = record { length = 0; c0 = 0; c1 = 0; c2 = 0; c3 = 0; c4 = 0; c5 = 0; c6 = 0; c7 = 0 }
 

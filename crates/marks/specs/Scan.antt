@@ -23,6 +23,7 @@ scanFrom (mark ∷ marks) at end odd even =
     (pick (ltb even end) (record { odd = odd; even = even; stop = at }) (scanFrom marks (suc at) end odd at)))
     (scanFrom marks (suc at) end odd even)
 
+-- the scan of all marks, with nothing found so far
 unfoldable pub scanOf : List ℕ → Scan
 scanOf marks = scanFrom marks 0 (length marks) (length marks) (length marks)
 

@@ -35,6 +35,7 @@ listedCodes SearchForward = forwardCodes
 listedCodes SearchReverse = reverseCodes
 listedCodes WriteMark = 0x7 ∷ 0x8 ∷ 0x9 ∷ 0xB ∷ 0xC ∷ 0xD ∷ 0x17 ∷ []
 
+-- whether a code is in a list
 unfoldable pub isIn : ℕ → List ℕ → Bool
 isIn code [] = false
 isIn code (listed ∷ rest) = eqb code listed || isIn code rest

@@ -12,10 +12,11 @@ use Rattle.operations.specs.Decode.{decodeOf}
 unfoldable pub asksInterrupt : Store → Bool
 asksInterrupt store = leb 128 (store .address)
 
--- "bit 4 names a drive, 5-7 its number"
+-- "bit 4 names a drive"
 unfoldable pub namesDrive : Store → Bool
 namesDrive store = eqb (store .address / 8 % 2) 1
 
+-- "5-7 its number"
 unfoldable pub named : Store → ℕ
 named store = store .address % 8
 
@@ -23,9 +24,10 @@ named store = store .address % 8
 unfoldable pub asked : Store → Decoded
 asked store = decodeOf (store .address / 16 % 8) (store .first) (store .third) (store .fourth)
 
--- of a write, "second operand byte: host bytes thrown away; last two: count"
+-- of a write, "second operand byte: host bytes thrown away"
 unfoldable pub thrownAway : Store → ℕ
 thrownAway store = store .second
 
+-- ".. last two: count"
 unfoldable pub heldCount : Store → ℕ
 heldCount store = store .third * 256 + store .fourth

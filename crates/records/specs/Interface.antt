@@ -34,5 +34,6 @@ scanReport marks =
 unfoldable pub scanRefusal : ℕ → ℕ
 scanRefusal space = pick (ltb space 9) 11 0
 
+-- the space afterwards: as it was where the call is refused
 unfoldable pub scannedInto : List ℕ → List ℕ → List ℕ
 scannedInto marks space = pick (eqb (scanRefusal (length space)) 0) (given (scanReport marks) space) space

@@ -41,10 +41,11 @@ differs drives =
     || not (eqb (drives .d2 .report) (drives .d2 .reviewed)))
     || not (eqb (drives .d3 .report) (drives .d3 .reviewed))
 
--- ".. then copies all four."
+-- a drive whose report is copied
 abbrev pub copied : Drive → Drive
 copied drive = record { report = drive .report; reviewed = drive .report; track = drive .track; density = drive .density; gap = drive .gap }
 
+-- ".. then copies all four."
 unfoldable pub reviewedAll : Drives → Drives
 reviewedAll drives = record { d0 = copied (drives .d0); d1 = copied (drives .d1); d2 = copied (drives .d2); d3 = copied (drives .d3) }
 

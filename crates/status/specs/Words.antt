@@ -57,6 +57,7 @@ secondaryWord count = record { b0 = 0; b1 = 0; b2 = count / 256 % 256; b3 = coun
 unfoldable pub digits : Defect → ℕ
 digits defect = defect .mark % 16 * 16 + defect .kind % 16
 
+-- "zero where none"
 abbrev pub zeroWord : Word
 zeroWord = record { b0 = 0; b1 = 0; b2 = 0; b3 = 0 }
 

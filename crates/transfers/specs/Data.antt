@@ -22,13 +22,15 @@ isGcr drive = not (eqb (drive .density) 0)
 unfoldable pub checkBytes : List ℕ → ℕ → List ℕ
 checkBytes image c = pick (eqb c 0) (replicate 512 0) (take 512 (drop (2 + 256 * blocketteCount c) image))
 
--- "fewer host bytes than thrown away plus count: zeros fill, bit 18; more are not looked at"
+-- the bytes of the record: "zeros fill, ..; more are not looked at"
 unfoldable pub recordBytes : Store → List ℕ → List ℕ
 recordBytes store host = filled (take (heldCount store) (drop (thrownAway store) host)) (heldCount store)
 
+-- "fewer host bytes than thrown away plus count"
 unfoldable pub runsShort : Store → List ℕ → Bool
 runsShort store host = ltb (length host) (thrownAway store + heldCount store)
 
+-- ".. bit 18"
 unfoldable pub withUnderflow : Outcome → Bool → Outcome
 withUnderflow o short =
     record {

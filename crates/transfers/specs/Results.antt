@@ -56,6 +56,7 @@ takesMark SearchForward = true
 takesMark SearchReverse = true
 takesMark WriteMark = false
 
+-- "a search"
 unfoldable pub isSearch : Operation → Bool
 isSearch Read = false
 isSearch CheckBytes = false
@@ -78,11 +79,11 @@ markAgainst operation code mark =
 unfoldable pub wholeCode : ℕ → Bool
 wholeCode code = eqb code 0 || (eqb code 0x10 || (eqb code 0x11 || eqb code 0x12))
 
--- "The image is whole for a read or forward skip with code 0, 10, 11 or 12 and no mark; two count bytes for a GCR reverse skip with code
--- 0 and no mark; else image and marks are empty."
+-- "The image is whole for a read or forward skip with code 0, 10, 11 or 12 and no mark"
 unfoldable pub expectedWhole : ℕ → ℕ → Bool → Expected
 expectedWhole density code mark = pick (wholeCode code && not mark) (Whole density) NoImage
 
+-- "..; two count bytes for a GCR reverse skip with code 0 and no mark; else image and marks are empty."
 unfoldable pub expectedOf : Operation → ℕ → ℕ → Bool → Expected
 expectedOf Read density code mark = expectedWhole density code mark
 expectedOf SkipForward density code mark = expectedWhole density code mark
@@ -128,6 +129,7 @@ scanCode marks code =
     pick (ltb (scanOf marks .stop) (length marks)) 0x16
     (pick (ltb (scanOf marks .odd) (length marks) || ltb (scanOf marks .even) (length marks)) 0x15 code)
 
+-- ".. code 7 replaces the code"
 unfoldable pub finalCode : Drive → Operation → Result → ℕ
 finalCode drive operation r = pick (isGone drive operation) 0x07 (scanCode (r .marks) (r .code))
 
@@ -152,10 +154,12 @@ resultTertiary drive operation r before =
     (pick (isGone drive operation) zeroWord (tertiaryOf (defectAt (r .marks) (scanOf (r .marks) .odd)) (defectAt (r .marks) (scanOf (r .marks) .even))))
     before
 
+-- quintary in the same way
 unfoldable pub resultQuintary : Drive → Operation → Result → Word → Word
 resultQuintary drive operation r before =
     pick (readsGcr drive operation) (pick (isGone drive operation) zeroWord (quintaryOf (defectAt (r .marks) (scanOf (r .marks) .stop)))) before
 
+-- "check store then takes both check blockettes"
 unfoldable pub resultCheck : Drive → Operation → Result → List ℕ → List ℕ
 resultCheck drive operation r check =
     pick (readsGcr drive operation) (pick (usesImage drive operation r) (checkBytes (r .image) (countOf (r .image))) (replicate 512 0)) check
@@ -239,8 +243,10 @@ withRetry o =
       counted = o .counted;
     }
 
+-- a drive with another gap
 unfoldable pub withGap : Drive → ℕ → Drive
 withGap drive gap = record { report = drive .report; reviewed = drive .reviewed; track = drive .track; density = drive .density; gap = gap }
 
+-- the gap by the final code
 unfoldable pub resultDrive : Drive → Operation → Result → Drive
 resultDrive drive operation r = withGap drive (gapAfter (moveOf operation) (finalCode drive operation r) (drive .gap))
