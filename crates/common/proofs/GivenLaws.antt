@@ -1,4 +1,4 @@
--- Laws of `given` and `filled`.
+-- Laws of `given` and `filled`: where the bytes stand, how long the whole is, and that filling twice is filling once.
 -- Assumes nothing.
 use mathlib.Core.Path.{_≡_, ap, _∙_}
 use Prim.Native.Nat.{ℕ, _+_, _-_, _≤_}

@@ -1,4 +1,5 @@
--- What a sound state says of the phase it is in: how long a string is that is being collected, and how many noes a send has.
+-- What a sound state says of the phase it is in: how long a string is that is being collected, how many noes a send has, and that a
+-- held count is within the limit.
 -- Assumes nothing.
 use Prim.Native.Nat.{ℕ, _≤_, _<_}
 use native.Mathlib.Omega.{arith}

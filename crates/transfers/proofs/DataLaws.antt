@@ -1,5 +1,5 @@
--- Laws of the data call: the part of an image that its check bytes are, the record that a write makes, and the answer that its parts
--- make.
+-- Laws of the data call: the part of an image that its check bytes are, what is known of a call that is not refused, and the record
+-- that a write makes.
 -- Assumes nothing.
 use mathlib.Core.Path.{_≡_, sym, ap, ap₂, _∙_}
 use Prim.Native.Nat.{ℕ, _+_, _-_, _*_, _≤_, min}

@@ -1,4 +1,4 @@
--- Laws of the result: what is known of one that is not refused, the bytes that are delivered, and the answer that its parts make.
+-- Laws of the result: what is known of one that is not refused, the bytes that are delivered, and as many of them as fit.
 -- Assumes nothing.
 use mathlib.Core.Path.{_≡_, refl, sym, ap, subst, subst⁻¹, _∙_}
 use Prim.Native.Nat.{ℕ, _+_, _-_, _≤_, min}
