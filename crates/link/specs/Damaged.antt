@@ -2,11 +2,12 @@
 -- far 0-4; secondary 0-65,535; a held count 0-16,384; a held operation one of the eleven; a string's lead #62 or #64, its bytes fewer than
 -- its length, or all once ACK is offered; all else may have any value)". A held operation is one of the eleven by its type.
 -- Assumes nothing.
-use mathlib.Core.Bool.{Bool, true, _&&_, _||_}
+use mathlib.Core.Bool.{Bool, true, not, _&&_, _||_}
 use lib.Dec.{leb, ltb, eqb}
 use Rattle.records.specs.Count.{limit}
 use Rattle.operations.specs.declared.operation.Operation.{Operation}
-use Rattle.operations.specs.declared.operation.Operation.the-variants.{Read, CheckBytes, Write, Erase, Rewind, FastForward, SkipForward, SkipReverse, SearchForward, SearchReverse, WriteMark}
+use Rattle.operations.specs.declared.operation.Operation.the-variants.{Write}
+use Rattle.operations.specs.Operation.{sameOperation}
 use Rattle.status.specs.declared.drives.Drive.{Drive}
 use Rattle.status.specs.declared.drives.Drives.{Drives}
 use Rattle.link.specs.declared.state.Collected.{Collected}
@@ -48,17 +49,7 @@ soundCount store = leb (heldCount store) limit
 
 -- a write alone holds a count
 unfoldable pub soundHeld : Operation → Store → Bool
-soundHeld Write store = soundCount store
-soundHeld Read store = true
-soundHeld CheckBytes store = true
-soundHeld Erase store = true
-soundHeld Rewind store = true
-soundHeld FastForward store = true
-soundHeld SkipForward store = true
-soundHeld SkipReverse store = true
-soundHeld SearchForward store = true
-soundHeld SearchReverse store = true
-soundHeld WriteMark store = true
+soundHeld operation store = not (sameOperation operation Write) || soundCount store
 
 -- what is held in the phase; "noes so far 0-4"
 unfoldable pub soundPhase : Collected → Phase → Bool

@@ -6,6 +6,7 @@ use crate::state::Body;
 use crate::state::Collected;
 use crate::state::Phase;
 use operations::operation::Operation;
+use operations::operation::same_operation;
 use operations::store::Store;
 use operations::store::held_count;
 use records::count::LIMIT;
@@ -65,19 +66,7 @@ fn sound_count(store: Store) -> bool
 fn sound_held(operation: Operation, store: Store) -> bool
     ensures { λ r. ⌜ r ≡ soundHeld operation store ⌝ }
 {
-    match operation {
-        Operation::Write => sound_count(store),
-        Operation::Read => true,
-        Operation::CheckBytes => true,
-        Operation::Erase => true,
-        Operation::Rewind => true,
-        Operation::FastForward => true,
-        Operation::SkipForward => true,
-        Operation::SkipReverse => true,
-        Operation::SearchForward => true,
-        Operation::SearchReverse => true,
-        Operation::WriteMark => true,
-    }
+    !same_operation(operation, Operation::Write) | sound_count(store)
 }
 
 fn sound_phase(s: Collected, phase: Phase) -> bool

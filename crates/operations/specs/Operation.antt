@@ -2,6 +2,7 @@
 -- Assumes nothing.
 use Prim.Native.Nat.{ℕ}
 use mathlib.Core.Bool.{Bool, true, false}
+use lib.Dec.{eqb}
 use Rattle.operations.specs.declared.operation.Operation.{Operation}
 use Rattle.operations.specs.declared.operation.Operation.the-variants.{Read, CheckBytes, Write, Erase, Rewind, FastForward, SkipForward, SkipReverse, SearchForward, SearchReverse, WriteMark}
 use Rattle.operations.specs.declared.operation.Move.{Move}
@@ -20,6 +21,10 @@ numberOf SkipReverse = 7
 numberOf SearchForward = 8
 numberOf SearchReverse = 9
 numberOf WriteMark = 10
+
+-- whether an operation is this one
+abbrev pub sameOperation : Operation → Operation → Bool
+sameOperation operation this = eqb (numberOf operation) (numberOf this)
 
 -- "Forward moves are read, skip forward and search forward; reverse moves are skip reverse and search reverse. Every operation but
 -- check bytes moves tape."

@@ -1,6 +1,6 @@
 // An operation, and what of it counts in more than one rule.
 ghost use mathlib.Core.Path.{_≡_};
-ghost use Rattle.operations.specs.Operation.{numberOf, moveOf, orderByte, countsBytes, offersEnd};
+ghost use Rattle.operations.specs.Operation.{numberOf, sameOperation, moveOf, orderByte, countsBytes, offersEnd};
 
 pub enum Operation {
     Read,
@@ -44,6 +44,13 @@ pub fn number(operation: Operation) -> usize
         Operation::SearchReverse => 9,
         Operation::WriteMark => 10,
     }
+}
+
+// Whether an operation is this one.
+pub fn same_operation(operation: Operation, this: Operation) -> bool
+    ensures { λ r. ⌜ r ≡ sameOperation operation this ⌝ }
+{
+    number(operation) == number(this)
 }
 
 // How it moves tape.

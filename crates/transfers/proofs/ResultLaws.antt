@@ -1,16 +1,14 @@
 -- Laws of the result: what is known of one that is not refused, the bytes that are delivered, and as many of them as fit.
 -- Assumes nothing.
-use mathlib.Core.Path.{_≡_, refl, sym, ap, subst, subst⁻¹, _∙_}
+use mathlib.Core.Path.{_≡_, refl, sym, ap, subst, _∙_}
 use Prim.Native.Nat.{ℕ, _+_, _-_, _≤_, min}
 use native.Mathlib.Omega.{arith}
-use mathlib.Core.Bool.{Bool, true, false, not, _&&_}
+use mathlib.Core.Bool.{Bool, true, false, not, _&&_, _||_}
 use mathlib.Core.List.{List, [], _∷_}
-use lib.Dec.{T}
 use lib.ListN.{length, take, length-take}
 use borrow.Author.Tests.{eqb-true, eqb-false, ltb-false, not-true, not-false}
-use Rattle.common.specs.Pick.{pick}
 use Rattle.common.proofs.Parts.{part-least}
-use Rattle.common.proofs.PickLaws.{both-hold, pick-by, not-refused}
+use Rattle.common.proofs.PickLaws.{both-hold, pick-yes, pick-by, not-refused}
 use Rattle.records.specs.declared.whole.Expected.{Expected}
 use Rattle.records.specs.declared.whole.Expected.the-variants.{Whole, Count, Nothing as NoImage}
 use Rattle.records.specs.Count.{limit, countOf, unrotated}
@@ -19,9 +17,11 @@ use Rattle.records.specs.Whole.{countRefusal, emptyRefusal, imageRefusal}
 use Rattle.records.proofs.ImageLaws.{image-holds}
 use Rattle.records.proofs.WholeLaws.{whole}
 use Rattle.operations.specs.declared.operation.Operation.{Operation}
-use Rattle.operations.specs.declared.operation.Operation.the-variants.{Read, CheckBytes, Write, Erase, Rewind, FastForward, SkipForward, SkipReverse, SearchForward, SearchReverse, WriteMark}
+use Rattle.operations.specs.declared.operation.Operation.the-variants.{Read, SkipForward}
+use Rattle.operations.specs.Operation.{sameOperation}
 use Rattle.status.specs.declared.drives.Drive.{Drive}
-use Rattle.transfers.specs.Results.{Result, resultOf, wholeCode, expectedWhole, expectedOf, resultRefusal, isGone, usesImage, readsGcr, readBytes, delivered, fitting}
+use Rattle.transfers.specs.Data.{isGcr}
+use Rattle.transfers.specs.Results.{Result, resultOf, bringsRecord, wholeCode, expectedWhole, expectedOf, resultRefusal, isGone, usesImage, readsGcr, readBytes, delivered, fitting}
 use Rattle.transfers.proofs.DataLaws.{gcr-alike}
 
 -- an image that counts is not empty
@@ -67,41 +67,35 @@ whole-long image marks density code mark =
     (λ brought e some. whole image marks density e .long)
     (λ none e some. absurd (some (empty-none image marks e)))
 
-module _ (drive : Drive) (r : Result) where
-  abbrev Passes : Operation → Type 0
-  Passes operation = imageRefusal (r .image) (r .marks) (expectedOf operation (drive .density) (r .code) (r .mark)) ≡ 0
+module _ (drive : Drive) (r : Result) (operation : Operation) where
+  abbrev Passes : Type 0
+  Passes = imageRefusal (r .image) (r .marks) (expectedOf operation (drive .density) (r .code) (r .mark)) ≡ 0
 
-  never : {A : Type 0} → false ≡ true → A
-  never e = absurd (subst T (sym e) tt)
+  record-long : Passes → bringsRecord operation ≡ true → (length (r .image) ≡ 0 → ⊥) → length (r .image) ≡ imageLength (countOf (r .image)) (drive .density)
+  unfolding expectedOf
+  record-long e brings =
+      whole-long (r .image) (r .marks) (drive .density) (r .code) (r .mark)
+      (subst (λ (x : Expected). imageRefusal (r .image) (r .marks) x ≡ 0) (pick-yes _ _ brings) e)
 
   -- in GCR its last blockettes are the check blockettes
-  checked-long : (operation : Operation) → Passes operation → readsGcr drive operation ≡ true → (length (r .image) ≡ 0 → ⊥) → length (r .image) ≡ imageLength (countOf (r .image)) 1
-  unfolding expectedOf readsGcr
-  checked-long Read e gcr some = whole-long (r .image) (r .marks) (drive .density) (r .code) (r .mark) e some ∙ gcr-alike drive _ gcr
-  checked-long SkipForward e gcr some = whole-long (r .image) (r .marks) (drive .density) (r .code) (r .mark) e some ∙ gcr-alike drive _ gcr
-  checked-long CheckBytes e gcr some = never gcr
-  checked-long Write e gcr some = never gcr
-  checked-long Erase e gcr some = never gcr
-  checked-long Rewind e gcr some = never gcr
-  checked-long FastForward e gcr some = never gcr
-  checked-long SkipReverse e gcr some = never gcr
-  checked-long SearchForward e gcr some = never gcr
-  checked-long SearchReverse e gcr some = never gcr
-  checked-long WriteMark e gcr some = never gcr
+  checked-long : Passes → readsGcr drive operation ≡ true → (length (r .image) ≡ 0 → ⊥) → length (r .image) ≡ imageLength (countOf (r .image)) 1
+  unfolding readsGcr
+  checked-long e reads some =
+      let both = both-hold (bringsRecord operation) (isGcr drive) reads in
+      record-long e (both .0) some ∙ gcr-alike drive _ (both .1)
 
-  read-long : Passes Read → (length (r .image) ≡ 0 → ⊥) → 2 + countOf (r .image) ≤ length (r .image)
-  unfolding expectedOf
-  read-long e some =
-      let long = whole-long (r .image) (r .marks) (drive .density) (r .code) (r .mark) e some in
+  read-long : Passes → sameOperation operation Read ≡ true → (length (r .image) ≡ 0 → ⊥) → 2 + countOf (r .image) ≤ length (r .image)
+  read-long e is-read some =
+      let long = record-long e (ap (λ (b : Bool). b || sameOperation operation SkipForward) is-read) some in
       omega (arith, image-holds (countOf (r .image)) (drive .density))
 
-  module _ (operation : Operation) (check : ℕ) where
+  module _ (check : ℕ) where
     pub record Passed : Type 0 where
       pub store : check ≡ 512
       pub within : countOf (r .image) ≤ limit
       pub two : (length (r .image) ≡ 0 → ⊥) → 2 ≤ length (r .image)
       pub checked : readsGcr drive operation ≡ true → (length (r .image) ≡ 0 → ⊥) → length (r .image) ≡ imageLength (countOf (r .image)) 1
-      pub read : operation ≡ Read → (length (r .image) ≡ 0 → ⊥) → 2 + countOf (r .image) ≤ length (r .image)
+      pub read : sameOperation operation Read ≡ true → (length (r .image) ≡ 0 → ⊥) → 2 + countOf (r .image) ≤ length (r .image)
 
     pub result-passed : resultRefusal drive operation r check ≡ 0 → Passed
     unfolding resultRefusal
@@ -109,14 +103,14 @@ module _ (drive : Drive) (r : Result) where
         let s = not-refused _ _ _ (λ z. omega arith) e in
         let l = not-refused _ _ _ (λ z. omega arith) (s .1) in
         let m = not-refused _ _ _ (λ z. omega arith) (l .1) in
-        let passes : Passes operation = m .1 in
+        let passes : Passes = m .1 in
         let known = counted (r .image) (r .marks) _ passes in
         record {
           store = eqb-true _ _ (not-false _ (s .0));
           within = known .within;
           two = known .two;
-          checked = checked-long operation passes;
-          read = λ told. read-long (subst Passes told passes);
+          checked = checked-long passes;
+          read = read-long passes;
         }
 
 -- ---- what is delivered
@@ -125,31 +119,7 @@ module _ (drive : Drive) (r : Result) where
 pub delivered-parts : (drive : Drive) (operation : Operation) (code : ℕ) (mark : Bool) (late : ℕ) (image marks check : List ℕ)
     → delivered drive operation (resultOf 0 false 0 image marks) check ≡ delivered drive operation (resultOf code mark late image marks) check
 unfolding delivered usesImage readBytes
-delivered-parts drive Read code mark late image marks check = refl
-delivered-parts drive CheckBytes code mark late image marks check = refl
-delivered-parts drive Write code mark late image marks check = refl
-delivered-parts drive Erase code mark late image marks check = refl
-delivered-parts drive Rewind code mark late image marks check = refl
-delivered-parts drive FastForward code mark late image marks check = refl
-delivered-parts drive SkipForward code mark late image marks check = refl
-delivered-parts drive SkipReverse code mark late image marks check = refl
-delivered-parts drive SearchForward code mark late image marks check = refl
-delivered-parts drive SearchReverse code mark late image marks check = refl
-delivered-parts drive WriteMark code mark late image marks check = refl
-
-module _ (drive : Drive) (image marks check : List ℕ) where
-  abbrev Delivers : Operation → Bool → List ℕ → Type 0
-  Delivers operation used bytes =
-      usesImage drive operation (resultOf 0 false 0 image []) ≡ used → bytes ≡ delivered drive operation (resultOf 0 false 0 image marks) check
-
-  -- a read with an image that counts, and one without
-  pub delivered-read : {operation : Operation} → operation ≡ Read → Delivers operation true (readBytes (resultOf 0 false 0 image marks))
-  unfolding usesImage delivered pick
-  delivered-read told = subst⁻¹ (λ (o : Operation). Delivers o true (readBytes (resultOf 0 false 0 image marks))) told (λ e. simp e)
-
-  pub delivered-unread : {operation : Operation} → operation ≡ Read → Delivers operation false []
-  unfolding usesImage delivered pick
-  delivered-unread told = subst⁻¹ (λ (o : Operation). Delivers o false []) told (λ e. simp e)
+delivered-parts drive operation code mark late image marks check = refl
 
 -- ---- as many bytes as fit
 

@@ -14,10 +14,10 @@ use Rattle.records.specs.Count.{countOf}
 use Rattle.records.specs.Image.{blocketteCount}
 use Rattle.records.specs.Whole.{imageRefusal}
 use Rattle.operations.specs.declared.operation.Operation.{Operation}
-use Rattle.operations.specs.declared.operation.Operation.the-variants.{Read, CheckBytes, Write, Erase, Rewind, FastForward, SkipForward, SkipReverse, SearchForward, SearchReverse, WriteMark}
+use Rattle.operations.specs.declared.operation.Operation.the-variants.{Read, CheckBytes, Write, SkipForward, SkipReverse, SearchForward, SearchReverse}
 use Rattle.operations.specs.declared.operation.Move.{Move}
 use Rattle.operations.specs.declared.operation.Move.the-variants.{Still, Forward, Reverse, Rewinding, Winding, Writing, Erasing}
-use Rattle.operations.specs.Operation.{moveOf}
+use Rattle.operations.specs.Operation.{sameOperation, moveOf}
 use Rattle.operations.specs.Answers.{answerOf}
 use Rattle.operations.specs.After.{motionOf, gapAfter, retryOf}
 use Rattle.status.specs.declared.drives.Drive.{Drive}
@@ -42,33 +42,17 @@ pub record Result : Type 0 where
 abbrev pub resultOf : ℕ → Bool → ℕ → List ℕ → List ℕ → Result
 resultOf code mark late image marks = record { code = code; mark = mark; late = late; image = image; marks = marks }
 
--- "in a read, skip or search"
-unfoldable pub takesMark : Operation → Bool
-takesMark Read = true
-takesMark CheckBytes = false
-takesMark Write = false
-takesMark Erase = false
-takesMark Rewind = false
-takesMark FastForward = false
-takesMark SkipForward = true
-takesMark SkipReverse = true
-takesMark SearchForward = true
-takesMark SearchReverse = true
-takesMark WriteMark = false
+-- "a read or forward skip"
+abbrev pub bringsRecord : Operation → Bool
+bringsRecord operation = sameOperation operation Read || sameOperation operation SkipForward
 
 -- "a search"
 unfoldable pub isSearch : Operation → Bool
-isSearch Read = false
-isSearch CheckBytes = false
-isSearch Write = false
-isSearch Erase = false
-isSearch Rewind = false
-isSearch FastForward = false
-isSearch SkipForward = false
-isSearch SkipReverse = false
-isSearch SearchForward = true
-isSearch SearchReverse = true
-isSearch WriteMark = false
+isSearch operation = sameOperation operation SearchForward || sameOperation operation SearchReverse
+
+-- "in a read, skip or search"
+unfoldable pub takesMark : Operation → Bool
+takesMark operation = bringsRecord operation || (sameOperation operation SkipReverse || isSearch operation)
 
 -- "The mark flag needs code 0 in a read, skip or search; a search with code 0 needs it."
 unfoldable pub markAgainst : Operation → ℕ → Bool → Bool
@@ -83,19 +67,15 @@ wholeCode code = eqb code 0 || (eqb code 0x10 || (eqb code 0x11 || eqb code 0x12
 unfoldable pub expectedWhole : ℕ → ℕ → Bool → Expected
 expectedWhole density code mark = pick (wholeCode code && not mark) (Whole density) NoImage
 
--- "..; two count bytes for a GCR reverse skip with code 0 and no mark; else image and marks are empty."
+-- "..; two count bytes for a GCR reverse skip with code 0 and no mark"
+abbrev pub expectedCount : ℕ → ℕ → Bool → Expected
+expectedCount density code mark = pick (not (eqb density 0) && (eqb code 0 && not mark)) Count NoImage
+
+-- "..; else image and marks are empty."
 unfoldable pub expectedOf : Operation → ℕ → ℕ → Bool → Expected
-expectedOf Read density code mark = expectedWhole density code mark
-expectedOf SkipForward density code mark = expectedWhole density code mark
-expectedOf SkipReverse density code mark = pick (not (eqb density 0) && (eqb code 0 && not mark)) Count NoImage
-expectedOf CheckBytes density code mark = NoImage
-expectedOf Write density code mark = NoImage
-expectedOf Erase density code mark = NoImage
-expectedOf Rewind density code mark = NoImage
-expectedOf FastForward density code mark = NoImage
-expectedOf SearchForward density code mark = NoImage
-expectedOf SearchReverse density code mark = NoImage
-expectedOf WriteMark density code mark = NoImage
+expectedOf operation density code mark =
+    pick (bringsRecord operation) (expectedWhole density code mark)
+    (pick (sameOperation operation SkipReverse) (expectedCount density code mark) NoImage)
 
 -- "6 check store not 512; 7 code not listed; 8 mark flag against its rule, or late flags above 3; 9 ..; 10 mark value"
 unfoldable pub resultRefusal : Drive → Operation → Result → ℕ → ℕ
@@ -135,17 +115,7 @@ finalCode drive operation r = pick (isGone drive operation) 0x07 (scanCode (r .m
 
 -- "For a GCR read or forward skip"
 unfoldable pub readsGcr : Drive → Operation → Bool
-readsGcr drive Read = isGcr drive
-readsGcr drive SkipForward = isGcr drive
-readsGcr drive CheckBytes = false
-readsGcr drive Write = false
-readsGcr drive Erase = false
-readsGcr drive Rewind = false
-readsGcr drive FastForward = false
-readsGcr drive SkipReverse = false
-readsGcr drive SearchForward = false
-readsGcr drive SearchReverse = false
-readsGcr drive WriteMark = false
+readsGcr drive operation = bringsRecord operation && isGcr drive
 
 -- "tertiary, quintary and check store are zeroed first": they stay zero where the image goes unused or the scan finds nothing
 unfoldable pub resultTertiary : Drive → Operation → Result → Word → Word
@@ -171,19 +141,11 @@ readBytes r =
     let stop = scanOf (r .marks) .stop in
     take (pick (ltb stop (length (r .marks))) (min c (256 * min stop (blocketteCount c))) c) (drop 2 (r .image))
 
--- "Check bytes deliver the 512 of the check store."
+-- "A read delivers ..; Check bytes deliver the 512 of the check store."
 unfoldable pub delivered : Drive → Operation → Result → List ℕ → List ℕ
-delivered drive Read r check = pick (usesImage drive Read r) (readBytes r) []
-delivered drive CheckBytes r check = check
-delivered drive Write r check = []
-delivered drive Erase r check = []
-delivered drive Rewind r check = []
-delivered drive FastForward r check = []
-delivered drive SkipForward r check = []
-delivered drive SkipReverse r check = []
-delivered drive SearchForward r check = []
-delivered drive SearchReverse r check = []
-delivered drive WriteMark r check = []
+delivered drive operation r check =
+    pick (sameOperation operation Read) (pick (usesImage drive operation r) (readBytes r) [])
+    (pick (sameOperation operation CheckBytes) check [])
 
 -- "Host space too short: as many as fit"
 unfoldable pub fitting : List ℕ → ℕ → List ℕ
@@ -191,17 +153,7 @@ fitting bytes space = take space bytes
 
 -- "writes with code 0"
 unfoldable pub wroteWell : Operation → ℕ → Bool
-wroteWell Write code = eqb code 0
-wroteWell Read code = false
-wroteWell CheckBytes code = false
-wroteWell Erase code = false
-wroteWell Rewind code = false
-wroteWell FastForward code = false
-wroteWell SkipForward code = false
-wroteWell SkipReverse code = false
-wroteWell SearchForward code = false
-wroteWell SearchReverse code = false
-wroteWell WriteMark code = false
+wroteWell operation code = sameOperation operation Write && eqb code 0
 
 -- "Used images, and writes with code 0, set bit 22 and secondary = c."
 unfoldable pub resultSecondary : Drive → Operation → Store → Result → ℕ → ℕ

@@ -7,6 +7,7 @@ use common::give;
 use common::least;
 use marks::scan_marks;
 use operations::operation::Operation;
+use operations::operation::same_operation;
 use records::count::count_of;
 use records::layout::blockette_count;
 use status::drives::Drive;
@@ -18,6 +19,7 @@ ghost use lib.ListN.{length, take, drop};
 ghost use Rattle.common.specs.Given.{given};
 ghost use Rattle.records.specs.Count.{limit, countOf};
 ghost use Rattle.records.specs.Image.{imageLength};
+ghost use Rattle.operations.specs.Operation.{sameOperation};
 ghost use Rattle.transfers.specs.Results.{resultOf, readsGcr, resultCheck, readBytes, delivered, fitting};
 
 // How many bytes of an image a read delivers.
@@ -57,28 +59,22 @@ pub fn delivered_bytes<'a>(
     check: &'a [u8],
 ) -> &'a [u8]
     requires { ⌜ countOf (now image) ≤ limit ⌝ }
-    requires { ⌜ (operation ≡ Operation.Read → (length (now image) ≡ 0 → ⊥) → 2 + countOf (now image) ≤ length (now image)) ⌝ }
+    requires { ⌜ (sameOperation operation Operation.Read ≡ true → (length (now image) ≡ 0 → ⊥) → 2 + countOf (now image) ≤ length (now image)) ⌝ }
     ensures { λ r. ⌜ now r ≡ delivered drive operation (resultOf 0 false 0 (now (image .entry)) (now (marks .entry))) (now (check .entry)) ⌝ }
 {
-    match operation {
-        Operation::Read => {
-            let used = uses_image(drive, operation, image);
-            if used {
-                return read_bytes(image, marks);
-            }
-            &image[..0]
+    let reads = same_operation(operation, Operation::Read);
+    if reads {
+        let used = uses_image(drive, operation, image);
+        if used {
+            return read_bytes(image, marks);
         }
-        Operation::CheckBytes => check,
-        Operation::Write => &image[..0],
-        Operation::Erase => &image[..0],
-        Operation::Rewind => &image[..0],
-        Operation::FastForward => &image[..0],
-        Operation::SkipForward => &image[..0],
-        Operation::SkipReverse => &image[..0],
-        Operation::SearchForward => &image[..0],
-        Operation::SearchReverse => &image[..0],
-        Operation::WriteMark => &image[..0],
+        return &image[..0];
     }
+    let sends = same_operation(operation, Operation::CheckBytes);
+    if sends {
+        return check;
+    }
+    &image[..0]
 }
 
 // As many bytes as fit: how many they are.

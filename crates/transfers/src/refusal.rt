@@ -1,48 +1,28 @@
 // The test of a result: the refusals 6 to 10.
+use crate::results::brings_record;
 use operations::answers::answer;
 use operations::operation::Operation;
+use operations::operation::same_operation;
 use records::whole::Expected;
 use records::whole::image_refusal;
 use status::drives::Drive;
 ghost use mathlib.Core.Path.{_≡_};
-ghost use Rattle.transfers.specs.Results.{resultOf, takesMark, isSearch, markAgainst, wholeCode, expectedWhole, expectedOf, resultRefusal};
+ghost use Rattle.transfers.specs.Results.{resultOf, takesMark, isSearch, markAgainst, wholeCode, expectedWhole, expectedCount, expectedOf, resultRefusal};
+
+// A search for a mark.
+fn is_search(operation: Operation) -> bool
+    ensures { λ r. ⌜ r ≡ isSearch operation ⌝ }
+{
+    same_operation(operation, Operation::SearchForward)
+        | same_operation(operation, Operation::SearchReverse)
+}
 
 // Whether the mark flag may be set: in a read, skip or search.
 fn takes_mark(operation: Operation) -> bool
     ensures { λ r. ⌜ r ≡ takesMark operation ⌝ }
 {
-    match operation {
-        Operation::Read => true,
-        Operation::CheckBytes => false,
-        Operation::Write => false,
-        Operation::Erase => false,
-        Operation::Rewind => false,
-        Operation::FastForward => false,
-        Operation::SkipForward => true,
-        Operation::SkipReverse => true,
-        Operation::SearchForward => true,
-        Operation::SearchReverse => true,
-        Operation::WriteMark => false,
-    }
-}
-
-// Whether an operation is a search for a mark.
-fn is_search(operation: Operation) -> bool
-    ensures { λ r. ⌜ r ≡ isSearch operation ⌝ }
-{
-    match operation {
-        Operation::Read => false,
-        Operation::CheckBytes => false,
-        Operation::Write => false,
-        Operation::Erase => false,
-        Operation::Rewind => false,
-        Operation::FastForward => false,
-        Operation::SkipForward => false,
-        Operation::SkipReverse => false,
-        Operation::SearchForward => true,
-        Operation::SearchReverse => true,
-        Operation::WriteMark => false,
-    }
+    brings_record(operation)
+        | (same_operation(operation, Operation::SkipReverse) | is_search(operation))
 }
 
 // Whether the mark flag is against its rule.
@@ -75,7 +55,7 @@ fn expected_whole(density: u8, code: u8, mark: bool) -> Expected
 
 // What a reverse skip brings.
 fn expected_count(density: u8, code: u8, mark: bool) -> Expected
-    ensures { λ r. ⌜ r ≡ expectedOf Operation.SkipReverse density code mark ⌝ }
+    ensures { λ r. ⌜ r ≡ expectedCount density code mark ⌝ }
 {
     let counts = !(density == 0) & ((code == 0) & !mark);
     if counts {
@@ -88,19 +68,15 @@ fn expected_count(density: u8, code: u8, mark: bool) -> Expected
 fn expected_of(operation: Operation, density: u8, code: u8, mark: bool) -> Expected
     ensures { λ r. ⌜ r ≡ expectedOf operation density code mark ⌝ }
 {
-    match operation {
-        Operation::Read => expected_whole(density, code, mark),
-        Operation::CheckBytes => Expected::Nothing,
-        Operation::Write => Expected::Nothing,
-        Operation::Erase => Expected::Nothing,
-        Operation::Rewind => Expected::Nothing,
-        Operation::FastForward => Expected::Nothing,
-        Operation::SkipForward => expected_whole(density, code, mark),
-        Operation::SkipReverse => expected_count(density, code, mark),
-        Operation::SearchForward => Expected::Nothing,
-        Operation::SearchReverse => Expected::Nothing,
-        Operation::WriteMark => Expected::Nothing,
+    let whole = brings_record(operation);
+    if whole {
+        return expected_whole(density, code, mark);
     }
+    let counted = same_operation(operation, Operation::SkipReverse);
+    if counted {
+        return expected_count(density, code, mark);
+    }
+    Expected::Nothing
 }
 
 // 6 to 10, or 0.

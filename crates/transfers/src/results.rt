@@ -9,6 +9,7 @@ use operations::after::retry;
 use operations::operation::Move;
 use operations::operation::Operation;
 use operations::operation::movement;
+use operations::operation::same_operation;
 use operations::store::Store;
 use operations::store::held_count;
 use records::count::count_of;
@@ -26,7 +27,7 @@ ghost use mathlib.Core.Bool.{false};
 ghost use mathlib.Core.List.{[]};
 ghost use lib.ListN.{length};
 ghost use Rattle.records.specs.Count.{limit, countOf};
-ghost use Rattle.transfers.specs.Results.{resultOf, movesTape, isGone, usesImage, scanCode, finalCode, readsGcr, resultTertiary, resultQuintary, wroteWell, resultSecondary, resultBits, withRetry, resultDrive};
+ghost use Rattle.transfers.specs.Results.{resultOf, movesTape, isGone, usesImage, scanCode, finalCode, bringsRecord, readsGcr, resultTertiary, resultQuintary, wroteWell, resultSecondary, resultBits, withRetry, resultDrive};
 
 // Whether tape moves at all.
 fn moves_tape(movement: Move) -> bool
@@ -34,12 +35,7 @@ fn moves_tape(movement: Move) -> bool
 {
     match movement {
         Move::Still => false,
-        Move::Forward => true,
-        Move::Reverse => true,
-        Move::Rewinding => true,
-        Move::Winding => true,
-        Move::Writing => true,
-        Move::Erasing => true,
+        _ => true,
     }
 }
 
@@ -87,24 +83,20 @@ fn final_code(drive: Drive, operation: Operation, code: u8, marks: &[u8]) -> u8
     scan_code(marks, code)
 }
 
+// A read or a forward skip.
+pub fn brings_record(operation: Operation) -> bool
+    ensures { λ r. ⌜ r ≡ bringsRecord operation ⌝ }
+{
+    same_operation(operation, Operation::Read) | same_operation(operation, Operation::SkipForward)
+}
+
 // Whether tertiary, quintary and the check store are made anew.
 pub fn reads_gcr(drive: Drive, operation: Operation) -> bool
     ensures { λ r. ⌜ r ≡ readsGcr drive operation ⌝ }
 {
+    let record = brings_record(operation);
     let gcr = is_gcr(drive);
-    match operation {
-        Operation::Read => gcr,
-        Operation::CheckBytes => false,
-        Operation::Write => false,
-        Operation::Erase => false,
-        Operation::Rewind => false,
-        Operation::FastForward => false,
-        Operation::SkipForward => gcr,
-        Operation::SkipReverse => false,
-        Operation::SearchForward => false,
-        Operation::SearchReverse => false,
-        Operation::WriteMark => false,
-    }
+    record & gcr
 }
 
 // Tertiary after a result: the first errors, zero where the image goes unused, or as it was.
@@ -146,20 +138,7 @@ pub fn result_quintary(drive: Drive, operation: Operation, marks: &[u8], before:
 fn wrote_well(operation: Operation, code: u8) -> bool
     ensures { λ r. ⌜ r ≡ wroteWell operation code ⌝ }
 {
-    let good = code == 0;
-    match operation {
-        Operation::Read => false,
-        Operation::CheckBytes => false,
-        Operation::Write => good,
-        Operation::Erase => false,
-        Operation::Rewind => false,
-        Operation::FastForward => false,
-        Operation::SkipForward => false,
-        Operation::SkipReverse => false,
-        Operation::SearchForward => false,
-        Operation::SearchReverse => false,
-        Operation::WriteMark => false,
-    }
+    same_operation(operation, Operation::Write) & (code == 0)
 }
 
 // The drive with its gap by the final code.

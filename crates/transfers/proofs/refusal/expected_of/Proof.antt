@@ -1,139 +1,57 @@
--- `transfers::refusal::expected_of` meets its contract: by the operation.
+-- `transfers::refusal::expected_of` meets its contract: by the operation, as its definition goes.
 -- Assumes nothing.
 use borrow.Author.Needs.{needs}
+use Rattle.common.specs.Pick.{pick}
 use Rattle.transfers.specs.Results.{expectedOf}
 use Rattle.transfers.proofs.refusal.expected_of.Statement.{statement}
 use Rattle.transfers.proofs.refusal.expected_of.Tie as tie
 
-enum-told : tie.Need-enum-told
-enum-told c = search needs
+brings-record-requires : tie.Need-brings-record-requires
+brings-record-requires c κs = search needs
 
 expected-whole-requires : tie.Need-expected-whole-requires
 expected-whole-requires c κs = search needs
 
-enum-told-2 : tie.Need-enum-told-2
-enum-told-2 c = search needs
+returns : tie.Need-returns
+unfolding expectedOf pick
+returns c = simp (c .expected-whole .ensures, ← c .before .before .brings-record .ensures, c .before .if1 .taken)
 
-enum-told-3 : tie.Need-enum-told-3
-enum-told-3 c = search needs
-
-enum-told-4 : tie.Need-enum-told-4
-enum-told-4 c = search needs
-
-enum-told-5 : tie.Need-enum-told-5
-enum-told-5 c = search needs
-
-enum-told-6 : tie.Need-enum-told-6
-enum-told-6 c = search needs
-
-enum-told-7 : tie.Need-enum-told-7
-enum-told-7 c = search needs
-
-expected-whole-requires-2 : tie.Need-expected-whole-requires-2
-expected-whole-requires-2 c κs = search needs
-
-enum-told-8 : tie.Need-enum-told-8
-enum-told-8 c = search needs
+same-operation-requires : tie.Need-same-operation-requires
+same-operation-requires c κs = search needs
 
 expected-count-requires : tie.Need-expected-count-requires
 expected-count-requires c κs = search needs
 
-enum-told-9 : tie.Need-enum-told-9
-enum-told-9 c = search needs
-
-enum-told-10 : tie.Need-enum-told-10
-enum-told-10 c = search needs
-
-enum-told-11 : tie.Need-enum-told-11
-enum-told-11 c = search needs
-
-returns : tie.Need-returns
-unfolding expectedOf
-returns c = simp (
-  c .expected-whole .ensures,
-  c .before .enum-told .given .1,
-)
-
 returns-2 : tie.Need-returns-2
-unfolding expectedOf
-returns-2 c = simp
-    (c .enum-told2 .given .1)
+unfolding expectedOf pick
+returns-2 c =
+    let t = c .before in
+    simp (
+      c .expected-count .ensures,
+      ← t .before .same-operation .ensures,
+      t .if2 .taken,
+      ← t .before .before .before .brings-record .ensures,
+      t .before .before .if1 .left,
+    )
 
 returns-3 : tie.Need-returns-3
-unfolding expectedOf
-returns-3 c = simp
-    (c .enum-told3 .given .1)
-
-returns-4 : tie.Need-returns-4
-unfolding expectedOf
-returns-4 c = simp
-    (c .enum-told4 .given .1)
-
-returns-5 : tie.Need-returns-5
-unfolding expectedOf
-returns-5 c = simp
-    (c .enum-told5 .given .1)
-
-returns-6 : tie.Need-returns-6
-unfolding expectedOf
-returns-6 c = simp
-    (c .enum-told6 .given .1)
-
-returns-7 : tie.Need-returns-7
-unfolding expectedOf
-returns-7 c = simp (
-  c .expected-whole2 .ensures,
-  c .before .enum-told7 .given .1,
-)
-
-returns-8 : tie.Need-returns-8
-unfolding expectedOf
-returns-8 c = simp (
-  c .expected-count .ensures,
-  c .before .enum-told8 .given .1,
-)
-
-returns-9 : tie.Need-returns-9
-unfolding expectedOf
-returns-9 c = simp
-    (c .enum-told9 .given .1)
-
-returns-10 : tie.Need-returns-10
-unfolding expectedOf
-returns-10 c = simp
-    (c .enum-told10 .given .1)
-
-returns-11 : tie.Need-returns-11
-unfolding expectedOf
-returns-11 c = simp
-    (c .enum-told11 .given .1)
+unfolding expectedOf pick
+returns-3 c =
+    simp (
+      ← c .before .same-operation .ensures,
+      c .if2 .left,
+      ← c .before .before .before .brings-record .ensures,
+      c .before .before .if1 .left,
+    )
 
 pub expected-of-spec : {M : Type 1} → statement M
 expected-of-spec =
     tie.close
     (tie.spec
-    enum-told
+    brings-record-requires
     expected-whole-requires
-    enum-told-2
-    enum-told-3
-    enum-told-4
-    enum-told-5
-    enum-told-6
-    enum-told-7
-    expected-whole-requires-2
-    enum-told-8
-    expected-count-requires
-    enum-told-9
-    enum-told-10
-    enum-told-11
     returns
+    same-operation-requires
+    expected-count-requires
     returns-2
-    returns-3
-    returns-4
-    returns-5
-    returns-6
-    returns-7
-    returns-8
-    returns-9
-    returns-10
-    returns-11)
+    returns-3)

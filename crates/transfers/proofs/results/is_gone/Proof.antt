@@ -14,10 +14,7 @@ moves-tape-requires c κs = search needs
 
 returns : tie.Need-returns
 unfolding isGone reports
-returns c = simp (
-  c .before .moves-tape .ensures,
-  c .before .before .movement .ensures,
-)
+returns c = simp (c .before .moves-tape .ensures, c .before .before .movement .ensures)
 
 pub is-gone-spec : {M : Type 1} → statement M
 is-gone-spec = tie.close (tie.spec movement-requires moves-tape-requires returns)

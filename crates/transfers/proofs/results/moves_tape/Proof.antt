@@ -1,81 +1,37 @@
--- `transfers::results::moves_tape` meets its contract: by the move.
+-- `transfers::results::moves_tape` meets its contract: every move but none moves tape.
 -- Assumes nothing.
 use borrow.Author.Needs.{needs}
+use mathlib.Core.Path.{_≡_, refl}
+use mathlib.Core.Bool.{true}
+use mathlib.Core.List.{[], _∷_}
+use denote.Enum.Declared.{tagOf}
+use types.Run.{OneOf, miss}
+use Rattle.operations.specs.declared.operation.Move.{Move}
+use Rattle.operations.specs.declared.operation.Move.the-variants.{Still, Forward, Reverse, Rewinding, Winding, Writing, Erasing}
+use Rattle.operations.proofs.operation.Move.{the-type}
 use Rattle.transfers.specs.Results.{movesTape}
 use Rattle.transfers.proofs.results.moves_tape.Statement.{statement}
 use Rattle.transfers.proofs.results.moves_tape.Tie as tie
 
+unless-still : (move : Move) → OneOf (1 ∷ 2 ∷ 3 ∷ 4 ∷ 5 ∷ 6 ∷ []) (tagOf the-type move) → true ≡ movesTape move
+unfolding movesTape
+unless-still Still e = absurd (miss (1 ∷ 2 ∷ 3 ∷ 4 ∷ 5 ∷ 6 ∷ []) 0 tt e)
+unless-still Forward e = refl
+unless-still Reverse e = refl
+unless-still Rewinding e = refl
+unless-still Winding e = refl
+unless-still Writing e = refl
+unless-still Erasing e = refl
+
 enum-told : tie.Need-enum-told
 enum-told c = search needs
 
-enum-told-2 : tie.Need-enum-told-2
-enum-told-2 c = search needs
-
-enum-told-3 : tie.Need-enum-told-3
-enum-told-3 c = search needs
-
-enum-told-4 : tie.Need-enum-told-4
-enum-told-4 c = search needs
-
-enum-told-5 : tie.Need-enum-told-5
-enum-told-5 c = search needs
-
-enum-told-6 : tie.Need-enum-told-6
-enum-told-6 c = search needs
-
-enum-told-7 : tie.Need-enum-told-7
-enum-told-7 c = search needs
-
 returns : tie.Need-returns
 unfolding movesTape
-returns c = simp
-    (c .enum-told .given .1)
+returns c = simp (c .enum-told .given .1)
 
 returns-2 : tie.Need-returns-2
-unfolding movesTape
-returns-2 c = simp
-    (c .enum-told2 .given .1)
-
-returns-3 : tie.Need-returns-3
-unfolding movesTape
-returns-3 c = simp
-    (c .enum-told3 .given .1)
-
-returns-4 : tie.Need-returns-4
-unfolding movesTape
-returns-4 c = simp
-    (c .enum-told4 .given .1)
-
-returns-5 : tie.Need-returns-5
-unfolding movesTape
-returns-5 c = simp
-    (c .enum-told5 .given .1)
-
-returns-6 : tie.Need-returns-6
-unfolding movesTape
-returns-6 c = simp
-    (c .enum-told6 .given .1)
-
-returns-7 : tie.Need-returns-7
-unfolding movesTape
-returns-7 c = simp
-    (c .enum-told7 .given .1)
+returns-2 c = unless-still _ (c .match .keys2)
 
 pub moves-tape-spec : {M : Type 1} → statement M
-moves-tape-spec =
-    tie.close
-    (tie.spec
-    enum-told
-    enum-told-2
-    enum-told-3
-    enum-told-4
-    enum-told-5
-    enum-told-6
-    enum-told-7
-    returns
-    returns-2
-    returns-3
-    returns-4
-    returns-5
-    returns-6
-    returns-7)
+moves-tape-spec = tie.close (tie.spec enum-told returns returns-2)
