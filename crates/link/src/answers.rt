@@ -40,10 +40,8 @@ pub fn given_up(b: Body, kind: Kind) -> Turn
     ensures { λ r. ⌜ r ≡ givenUp b kind ⌝ }
 {
     match kind {
-        Kind::Load => go_idle(b, Action::Nothing),
-        Kind::Secondary => go_idle(b, Action::Nothing),
-        Kind::Completion => go_idle(b, Action::Nothing),
         Kind::Change => go_idle(with_flags(b, b.changed, false), Action::Nothing),
+        _ => go_idle(b, Action::Nothing),
     }
 }
 
