@@ -35,17 +35,30 @@ noOutcome =
 unfoldable pub anyBit : Outcome → Bool
 anyBit outcome = outcome .parity || (outcome .overflow || (outcome .underflow || (outcome .wdl || outcome .rdl)))
 
--- "Primary: changed, enable, retry, track (3-5), drive (6-7), mark, motion (9-10), code (11-15), 16-22 as said, density, report."
+-- "Primary: changed, enable, retry, track (3-5), drive (6-7), .."
+abbrev pub primaryFirst : Bool → Bool → Outcome → ℕ → Drive → ℕ
+primaryFirst changed enable outcome selected drive =
+    bit changed 128 + bit enable 64 + bit (outcome .retry) 32 + drive .track % 8 * 4 + selected % 4
+
+-- ".. mark, motion (9-10), code (11-15), .."
+abbrev pub primarySecond : Outcome → ℕ
+primarySecond outcome = bit (outcome .mark) 128 + outcome .motion % 4 * 32 + outcome .code % 32
+
+-- ".. 16-22 as said, density, .."
+abbrev pub primaryThird : Outcome → Drive → ℕ
+primaryThird outcome drive =
+    bit (outcome .parity) 128 + bit (outcome .overflow) 64 + bit (outcome .underflow) 32 + bit (outcome .wdl) 16 + bit (outcome .rdl) 8
+    + bit (outcome .supplied) 4
+    + bit (outcome .counted) 2
+    + drive .density % 2
+
+-- ".. report."
 unfoldable pub primaryOf : Bool → Bool → Outcome → ℕ → Drive → Word
 primaryOf changed enable outcome selected drive =
     record {
-      b0 = bit changed 128 + bit enable 64 + bit (outcome .retry) 32 + drive .track % 8 * 4 + selected % 4;
-      b1 = bit (outcome .mark) 128 + outcome .motion % 4 * 32 + outcome .code % 32;
-      b2 =
-          bit (outcome .parity) 128 + bit (outcome .overflow) 64 + bit (outcome .underflow) 32 + bit (outcome .wdl) 16 + bit (outcome .rdl) 8
-          + bit (outcome .supplied) 4
-          + bit (outcome .counted) 2
-          + drive .density % 2;
+      b0 = primaryFirst changed enable outcome selected drive;
+      b1 = primarySecond outcome;
+      b2 = primaryThird outcome drive;
       b3 = drive .report;
     }
 

@@ -9,7 +9,7 @@ use crate::drives::Drives;
 use marks::Defect;
 ghost use mathlib.Core.Path.{_≡_};
 ghost use Prim.Native.Nat.{_≤_};
-ghost use Rattle.status.specs.Words.{zeroWord, bit, noOutcome, anyBit, primaryOf, secondaryWord, digits, tertiaryOf, quintaryOf, reportsWord};
+ghost use Rattle.status.specs.Words.{zeroWord, bit, noOutcome, anyBit, primaryFirst, primarySecond, primaryThird, primaryOf, secondaryWord, digits, tertiaryOf, quintaryOf, reportsWord};
 
 pub struct Word {
     pub b0: u8,
@@ -67,25 +67,46 @@ pub fn any_bit(outcome: Outcome) -> bool
     outcome.parity | (outcome.overflow | (outcome.underflow | (outcome.wdl | outcome.rdl)))
 }
 
+// The first byte of primary: changed, enable, retry, track and drive.
+fn primary_first(changed: bool, enable: bool, outcome: Outcome, selected: u8, drive: Drive) -> u8
+    ensures { λ r. ⌜ r ≡ primaryFirst changed enable outcome selected drive ⌝ }
+{
+    bit_of(changed, 128)
+        + bit_of(enable, 64)
+        + bit_of(outcome.retry, 32)
+        + drive.track % 8 * 4
+        + selected % 4
+}
+
+// The second: mark, motion and code.
+fn primary_second(outcome: Outcome) -> u8
+    ensures { λ r. ⌜ r ≡ primarySecond outcome ⌝ }
+{
+    bit_of(outcome.mark, 128) + outcome.motion % 4 * 32 + outcome.code % 32
+}
+
+// The third: bits 16-22 and the density.
+fn primary_third(outcome: Outcome, drive: Drive) -> u8
+    ensures { λ r. ⌜ r ≡ primaryThird outcome drive ⌝ }
+{
+    bit_of(outcome.parity, 128)
+        + bit_of(outcome.overflow, 64)
+        + bit_of(outcome.underflow, 32)
+        + bit_of(outcome.wdl, 16)
+        + bit_of(outcome.rdl, 8)
+        + bit_of(outcome.supplied, 4)
+        + bit_of(outcome.counted, 2)
+        + drive.density % 2
+}
+
 // Primary.
 pub fn primary(changed: bool, enable: bool, outcome: Outcome, selected: u8, drive: Drive) -> Word
     ensures { λ r. ⌜ r ≡ primaryOf changed enable outcome selected drive ⌝ }
 {
     Word {
-        b0: bit_of(changed, 128)
-            + bit_of(enable, 64)
-            + bit_of(outcome.retry, 32)
-            + drive.track % 8 * 4
-            + selected % 4,
-        b1: bit_of(outcome.mark, 128) + outcome.motion % 4 * 32 + outcome.code % 32,
-        b2: bit_of(outcome.parity, 128)
-            + bit_of(outcome.overflow, 64)
-            + bit_of(outcome.underflow, 32)
-            + bit_of(outcome.wdl, 16)
-            + bit_of(outcome.rdl, 8)
-            + bit_of(outcome.supplied, 4)
-            + bit_of(outcome.counted, 2)
-            + drive.density % 2,
+        b0: primary_first(changed, enable, outcome, selected, drive),
+        b1: primary_second(outcome),
+        b2: primary_third(outcome, drive),
         b3: drive.report,
     }
 }
