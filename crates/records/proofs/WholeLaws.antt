@@ -1,17 +1,19 @@
--- What is known of an image and marks that pass the test.
+-- What is known of an image and marks that pass the test, and where the restorer does not refuse.
 -- Assumes nothing.
-use mathlib.Core.Path.{_≡_}
+use mathlib.Core.Path.{_≡_, sym, _∙_}
 use Prim.Native.Nat.{ℕ, _≤_}
 use native.Mathlib.Omega.{arith}
 use mathlib.Core.Bool.{true}
 use mathlib.Core.List.{List}
 use lib.ListN.{length}
-use borrow.Author.Tests.{ltb-false, eqb-true, not-false}
-use Rattle.common.proofs.PickLaws.{not-refused, passed}
+use lib.Dec.{eqb}
+use borrow.Author.Tests.{ltb-false, eqb-true, eqb-false, not-false}
+use Rattle.common.proofs.PickLaws.{by-test, pick-yes, pick-no, not-refused, passed}
 use Rattle.marks.specs.Marks.{legalMarks}
 use Rattle.records.specs.Count.{limit, countOf}
 use Rattle.records.specs.Image.{imageLength, markCount}
 use Rattle.records.specs.Whole.{wholeRefusal}
+use Rattle.records.specs.Restore.{restoreRefusal}
 
 pub record IsWhole (image marks : List ℕ) (density : ℕ) : Type 0 where
   pub two : 2 ≤ length image
@@ -34,3 +36,13 @@ whole image marks density e =
       marked = eqb-true _ _ (not-false _ (m .0));
       legal = passed _ _ (λ r. omega arith) (m .1);
     }
+
+-- the restorer does not refuse: the test is passed, and the bytes fit
+pub restorable : (image marks : List ℕ) (space : ℕ) → restoreRefusal image marks space ≡ 0 → IsWhole image marks 1 × (countOf image ≤ space)
+unfolding restoreRefusal
+restorable image marks space e =
+    by-test (eqb (wholeRefusal image marks 1) 0)
+    (λ passes.
+    let fits = not-refused _ _ _ (λ r. omega arith) (sym (pick-yes _ _ passes) ∙ e) in
+    (whole image marks 1 (eqb-true _ _ passes), ltb-false _ _ (fits .0)))
+    (λ fails. absurd (eqb-false _ _ fails (sym (pick-no _ _ fails) ∙ e)))

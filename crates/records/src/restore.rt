@@ -38,10 +38,9 @@ fn put_restored(blockettes: &[u8], n: usize, odd: usize, even: usize, space: &mu
     mend_at(blockettes, n, even, space);
 }
 
-// GCR image and marks to the bytes of the record, at the start of the space.
-pub fn restore(image: &[u8], marks: &[u8], space: &mut [u8]) -> u32
-    ensures { λ r. ⌜ r ≡ restoreRefusal (now (image .entry)) (now (marks .entry)) (length (now (space .entry))) ⌝ }
-    ensures { λ _. ⌜ now (space .exit) ≡ restoredInto (now (image .entry)) (now (marks .entry)) (now (space .entry)) ⌝ }
+// 9 to 12, or 0.
+fn restore_refusal(image: &[u8], marks: &[u8], space: usize) -> u32
+    ensures { λ r. ⌜ r ≡ restoreRefusal (now (image .entry)) (now (marks .entry)) space ⌝ }
 {
     let refusal = whole_refusal(image, marks, 1);
     if refusal != 0 {
@@ -50,12 +49,26 @@ pub fn restore(image: &[u8], marks: &[u8], space: &mut [u8]) -> u32
     let count = count_of(image);
     let errors = scan_marks(marks);
     let stop = errors.stop;
-    if space.len() < count {
+    if space < count {
         return 11;
     }
     if stop < marks.len() {
         return 12;
     }
+    0
+}
+
+// GCR image and marks to the bytes of the record, at the start of the space.
+pub fn restore(image: &[u8], marks: &[u8], space: &mut [u8]) -> u32
+    ensures { λ r. ⌜ r ≡ restoreRefusal (now (image .entry)) (now (marks .entry)) (length (now (space .entry))) ⌝ }
+    ensures { λ _. ⌜ now (space .exit) ≡ restoredInto (now (image .entry)) (now (marks .entry)) (now (space .entry)) ⌝ }
+{
+    let refusal = restore_refusal(image, marks, space.len());
+    if refusal != 0 {
+        return refusal;
+    }
+    let count = count_of(image);
+    let errors = scan_marks(marks);
     let n = blockette_count(count);
     put_restored(&image[2..], n, errors.odd, errors.even, &mut space[..count]);
     0
