@@ -64,19 +64,31 @@ pub fn put_image(bytes: &[u8], count: usize, density: u8, image: &mut [u8])
     put_body(bytes, count, density, &mut image[2..]);
 }
 
+// 9 or 11, or 0.
+fn build_refusal(count: usize, density: u8, space: usize) -> u32
+    ensures { λ r. ⌜ r ≡ buildRefusal count density space ⌝ }
+{
+    if LIMIT < count {
+        return 9;
+    }
+    let needed = image_length(count, density);
+    if space < needed {
+        return 11;
+    }
+    0
+}
+
 // Bytes to an image, at the start of the space.
 pub fn build(bytes: &[u8], density: u8, image: &mut [u8]) -> u32
     ensures { λ r. ⌜ r ≡ buildRefusal (length (now (bytes .entry))) density (length (now (image .entry))) ⌝ }
     ensures { λ _. ⌜ now (image .exit) ≡ builtInto (now (bytes .entry)) density (now (image .entry)) ⌝ }
 {
     let count = bytes.len();
-    if LIMIT < count {
-        return 9;
+    let refusal = build_refusal(count, density, image.len());
+    if refusal != 0 {
+        return refusal;
     }
     let needed = image_length(count, density);
-    if image.len() < needed {
-        return 11;
-    }
     put_image(bytes, count, density, &mut image[..needed]);
     0
 }

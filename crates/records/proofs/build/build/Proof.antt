@@ -2,77 +2,89 @@
 -- Assumes nothing.
 use borrow.Author.Needs.{needs}
 use native.Mathlib.Omega.{arith}
-use borrow.Author.Tests.{lt-ltb, le-ltb}
-use Prim.Native.Nat.{ℕ}
+use mathlib.Core.Path.{_≡_, ap, ap₂, sym, _∙_}
+use Prim.Native.Nat.{ℕ, _≤_}
 use mathlib.Core.List.{List, _++_}
-use lib.ListN.{drop, length-take}
-use Rattle.common.specs.Pick.{pick}
+use lib.ListN.{length, drop, length-take}
+use borrow.Author.Tests.{ltb-false}
 use Rattle.common.specs.Given.{given}
 use Rattle.common.proofs.GivenLaws.{filled-self}
+use Rattle.common.proofs.PickLaws.{not-refused, where-refused, where-done}
 use Rattle.records.specs.Count.{limit}
-use Rattle.records.specs.Image.{imageOf}
+use Rattle.records.specs.Image.{imageLength, imageOf}
 use Rattle.records.specs.Build.{buildRefusal, builtInto}
 use Rattle.records.proofs.ImageLaws.{image-length}
-use mathlib.Core.Path.{ap, ap₂, sym, _∙_}
 use Rattle.records.proofs.build.build.Statement.{statement}
 use Rattle.records.proofs.build.build.Tie as tie
 
+-- what is known where the call is not refused
+fits : (c density space : ℕ) → buildRefusal c density space ≡ 0 → (c ≤ limit) × (imageLength c density ≤ space)
+unfolding buildRefusal
+fits c density space e =
+    let l = not-refused _ _ _ (λ r. omega arith) e in
+    let s = not-refused _ _ _ (λ r. omega arith) (l .1) in
+    (ltb-false _ _ (l .0), ltb-false _ _ (s .0))
+
+accepted : (c : tie.Else1) → let a = c .before .before .before .before .args in
+    (length (a .bytes .now) ≤ limit) × (imageLength (length (a .bytes .now)) (a .density) ≤ length (a .image .now))
+accepted c = fits _ _ _ (sym (c .before .build-refusal .ensures) ∙ c .if1 .left)
+
+-- the image fits
+room : (i : tie.After-image-length) → i .image-length .result ≤ length (i .before .before .before .before .before .args .image .now)
+room i = rw (i .image-length .ensures) (accepted (i .before) .1)
+
+build-refusal-requires : tie.Need-build-refusal-requires
+build-refusal-requires c κs = search needs
+
 returns : tie.Need-returns
-unfolding buildRefusal builtInto limit pick
-returns c = (simp (lt-ltb _ _ (c .if1 .taken)), simp (lt-ltb _ _ (c .if1 .taken)))
+unfolding builtInto
+returns c =
+    let r = c .before .build-refusal .ensures in
+    (r, sym (where-refused _ _ _ (λ z. c .if1 .taken (r ∙ z))))
 
 image-length-requires : tie.Need-image-length-requires
-unfolding limit
-image-length-requires c κs = omega arith
-
-returns-2 : tie.Need-returns-2
-unfolding buildRefusal builtInto limit pick
-returns-2 c =
-    let i = c .before in
-    let l = i .before in (
-      simp (le-ltb _ _ (l .if1 .left), ← i .image-length .ensures, lt-ltb _ _ (c .if2 .taken)),
-      simp (le-ltb _ _ (l .if1 .left), ← i .image-length .ensures, lt-ltb _ _ (c .if2 .taken)),
-    )
+image-length-requires c κs = accepted c .0
 
 slice-relend-prefix-put-image : tie.Need-slice-relend-prefix-put-image
-slice-relend-prefix-put-image c = search needs
+slice-relend-prefix-put-image c = room c
 
 slice-aggregate-put-image : tie.Need-slice-aggregate-put-image
-slice-aggregate-put-image c = simp length-take (omega arith)
+slice-aggregate-put-image c = simp length-take (omega (arith, room (c .before)))
 
 put-image-requires : tie.Need-put-image-requires
-unfolding limit
-put-image-requires c κs = (omega arith, (omega arith, simp length-take (omega arith)))
+put-image-requires c κs =
+    let i = c .before in
+    (accepted (i .before) .0, (omega arith, simp length-take (omega (arith, room i, i .image-length .ensures))))
 
 same-length : tie.Need-same-length
 same-length c = search needs
 
-returns-3 : tie.Need-returns-3
-unfolding buildRefusal builtInto limit pick given
-returns-3 c =
+returns-2 : tie.Need-returns-2
+unfolding builtInto given
+returns-2 c =
     let p = c .before .before in
-    let t = p .before .before in
-    let i = t .before in
-    let l = i .before in
-    let a = l .before .before .before .args in
+    let i = p .before .before in
+    let t = i .before in
+    let a = t .before .before .before .before .args in
     let bytes = a .bytes .now in
-    let density = a .density in (
-      simp (le-ltb _ _ (l .if1 .left), ← i .image-length .ensures, le-ltb _ _ (t .if2 .left)),
-      simp (le-ltb _ _ (l .if1 .left), ← i .image-length .ensures, le-ltb _ _ (t .if2 .left))
-          (ap₂ (λ (x : List ℕ) (k : ℕ). x ++ drop k (a .image .now))
+    let density = a .density in
+    let none = sym (t .if1 .left) ∙ t .before .build-refusal .ensures in (
+      none,
+      ap₂ (λ (x : List ℕ) (k : ℕ). x ++ drop k (a .image .now))
           (p .put-image .ensures ∙ ap (λ (x : List ℕ). imageOf x density) (filled-self bytes))
-          (i .image-length .ensures ∙ sym (image-length bytes density))),
+          (i .image-length .ensures ∙ sym (image-length bytes density))
+          ∙ sym (where-done _ _ _ (sym none)),
     )
 
 pub build-spec : {M : Type 1} → statement M
 build-spec =
     tie.close
     (tie.spec
+    build-refusal-requires
     returns
     image-length-requires
-    returns-2
     slice-relend-prefix-put-image
     slice-aggregate-put-image
     put-image-requires
     same-length
-    returns-3)
+    returns-2)
