@@ -1,3 +1,4 @@
+pub mod DamageLaws
 pub mod TransferLaws
 pub mod BenchCases
 pub mod Steps

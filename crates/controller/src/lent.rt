@@ -3,7 +3,7 @@ use crate::controller::Controller;
 use crate::controller::Transfer;
 use crate::controller::carried;
 use crate::controller::refuse;
-use crate::machine::in_range;
+use crate::machine::is_damaged;
 use crate::stores::end_operation;
 use crate::stores::ordered;
 use link::body::put_current;
@@ -32,7 +32,6 @@ use transfers::results::result_tertiary;
 use transfers::results::with_retry;
 ghost use mathlib.Core.Path.{_≡_};
 ghost use Prim.Native.Nat.{_≤_};
-ghost use mathlib.Core.Bool.{true};
 ghost use lib.ListN.{length};
 ghost use Rattle.records.specs.Count.{limit, countOf};
 ghost use Rattle.operations.specs.Store.{heldCount};
@@ -41,8 +40,7 @@ ghost use Rattle.transfers.specs.Results.{resultOf, resultRefusal};
 ghost use Rattle.link.specs.State.{setOutcome};
 ghost use Rattle.controller.specs.Controller.{refused};
 ghost use Rattle.controller.specs.Records.{answered, zeroedWords, dataDone, resultBody, resultDone};
-ghost use Rattle.link.specs.Damaged.{sound};
-ghost use Rattle.controller.specs.Machine.{dataFor, dataIn, dataCall, resultFor, resultIn, resultCall};
+ghost use Rattle.controller.specs.Machine.{dataCall, resultCall};
 
 // Tertiary and quintary zeroed, where the data call zeroes them.
 fn zeroed_words(mut b: Body, zeroes: bool) -> Body
@@ -180,131 +178,24 @@ fn refuse_transfer(number: u32, c: Controller) -> Transfer
     Transfer { reply, bytes: 0 }
 }
 
-// The data call of a write.
-fn take_data(
-    c: Controller,
-    drive: Drive,
-    store: Store,
-    host: &[u8],
-    space: &mut [u8],
-    check: &mut [u8],
-) -> Transfer
-    requires { ⌜ heldCount store ≤ limit ⌝ }
-    ensures { λ r. ⌜ answered r (now (space .exit)) (now (check .exit)) ≡ dataFor c (c .body) drive store (now (host .entry)) (now (space .entry)) (now (check .entry)) ⌝ }
-{
-    let b = c.body;
-    let refusal = data_refusal(drive, store, space.len(), check.len());
-    if refusal != 0 {
-        return refuse_transfer(refusal, c);
-    }
-    data_done(b, drive, store, host, space, check)
-}
-
-// The result of an operation.
-fn take_result(
-    c: Controller,
-    drive: Drive,
-    operation: Operation,
-    store: Store,
-    code: u8,
-    mark: bool,
-    late: u8,
-    image: &[u8],
-    marks: &[u8],
-    space: &mut [u8],
-    check: &mut [u8],
-) -> Transfer
-    ensures { λ r. ⌜ answered r (now (space .exit)) (now (check .exit)) ≡ resultFor c (c .body) drive operation store (resultOf code mark late (now (image .entry)) (now (marks .entry))) (now (space .entry)) (now (check .entry)) ⌝ }
-{
-    let b = c.body;
-    let refusal = result_refusal(
-        drive,
-        operation,
-        code,
-        mark,
-        late,
-        image,
-        marks,
-        check.len(),
-    );
-    if refusal != 0 {
-        return refuse_transfer(refusal, c);
-    }
-    result_done(
-        b,
-        drive,
-        operation,
-        store,
-        code,
-        mark,
-        late,
-        image,
-        marks,
-        space,
-        check,
-    )
-}
-
-// The data call, by the phase: it writes the selected drive.
-fn data_in(c: Controller, host: &[u8], space: &mut [u8], check: &mut [u8]) -> Transfer
-    requires { ⌜ sound (c .body) (c .phase) ≡ true ⌝ }
-    ensures { λ r. ⌜ answered r (now (space .exit)) (now (check .exit)) ≡ dataIn c (c .body) (now (host .entry)) (now (space .entry)) (now (check .entry)) (c .phase) ⌝ }
-{
-    let drives = c.body.drives;
-    let written = get(drives, c.body.selected);
-    let phase = c.phase;
-    match phase {
-        Phase::DataAwaited(store) => take_data(c, written, store, host, space, check),
-        _ => refuse_transfer(3, c),
-    }
-}
-
-// The result, by the phase: the selected drive carried the operation out.
-fn result_in(
-    c: Controller,
-    code: u8,
-    mark: bool,
-    late: u8,
-    image: &[u8],
-    marks: &[u8],
-    space: &mut [u8],
-    check: &mut [u8],
-) -> Transfer
-    ensures { λ r. ⌜ answered r (now (space .exit)) (now (check .exit)) ≡ resultIn c (c .body) (resultOf code mark late (now (image .entry)) (now (marks .entry))) (now (space .entry)) (now (check .entry)) (c .phase) ⌝ }
-{
-    let drives = c.body.drives;
-    let moved = get(drives, c.body.selected);
-    let phase = c.phase;
-    match phase {
-        Phase::ResultAwaited(operation, store) => {
-            take_result(
-                c,
-                moved,
-                operation,
-                store,
-                code,
-                mark,
-                late,
-                image,
-                marks,
-                space,
-                check,
-            )
-        }
-        _ => refuse_transfer(3, c),
-    }
-}
-
 impl Controller {
     // The host's bytes for a write. The image stands at the start of the space afterwards.
     pub fn data(self, host: &[u8], space: &mut [u8], check: &mut [u8]) -> Transfer
         ensures { λ r. ⌜ answered r (now (space .exit)) (now (check .exit)) ≡ dataCall self (now (host .entry)) (now (space .entry)) (now (check .entry)) ⌝ }
     {
-        let whole = in_range(self);
-        if whole {
-            return data_in(self, host, space, check);
+        if is_damaged(self) {
+            return refuse_transfer(1, self);
         }
-        refuse_transfer(1, self)
+        let phase = self.phase;
+        let Phase::DataAwaited(store) = phase else {
+            return refuse_transfer(3, self);
+        };
+        let written = get(self.body.drives, self.body.selected);
+        let refusal = data_refusal(written, store, space.len(), check.len());
+        if refusal != 0 {
+            return refuse_transfer(refusal, self);
+        }
+        data_done(self.body, written, store, host, space, check)
     }
 
     // What came of an operation. The bytes that are delivered stand at the start of the host space afterwards.
@@ -320,10 +211,31 @@ impl Controller {
     ) -> Transfer
         ensures { λ r. ⌜ answered r (now (space .exit)) (now (check .exit)) ≡ resultCall self (resultOf code mark late (now (image .entry)) (now (marks .entry))) (now (space .entry)) (now (check .entry)) ⌝ }
     {
-        let whole = in_range(self);
-        if whole {
-            return result_in(self, code, mark, late, image, marks, space, check);
+        if is_damaged(self) {
+            return refuse_transfer(1, self);
         }
-        refuse_transfer(1, self)
+        let phase = self.phase;
+        let Phase::ResultAwaited(operation, store) = phase else {
+            return refuse_transfer(3, self);
+        };
+        let moved = get(self.body.drives, self.body.selected);
+        let room = check.len();
+        let refusal = result_refusal(moved, operation, code, mark, late, image, marks, room);
+        if refusal != 0 {
+            return refuse_transfer(refusal, self);
+        }
+        result_done(
+            self.body,
+            moved,
+            operation,
+            store,
+            code,
+            mark,
+            late,
+            image,
+            marks,
+            space,
+            check,
+        )
     }
 }

@@ -1,4 +1,4 @@
-// The calls of the machine that are lent nothing. Each refuses a damaged state, else goes by the phase.
+// The calls of the machine that are lent nothing. Each refuses a damaged state, then goes by the phase.
 use crate::controller::Controller;
 use crate::controller::Reply;
 use crate::controller::carried;
@@ -22,73 +22,16 @@ use link::state::Body;
 use link::state::Phase;
 use link::state::Turn;
 ghost use mathlib.Core.Path.{_≡_};
-ghost use mathlib.Core.Bool.{true};
+ghost use mathlib.Core.Bool.{not};
 ghost use Rattle.link.specs.Damaged.{sound};
-ghost use Rattle.controller.specs.Machine.{byteIn, brokenIn, tickIn, takenBody, takenIn, byteCall, brokenCall, tickCall, takenCall, reportCall, resetCall};
+ghost use Rattle.controller.specs.Machine.{takenBody, byteCall, brokenCall, tickCall, takenCall, reportCall, resetCall};
 
-// Whether no field of the state is out of range.
-pub fn in_range(c: Controller) -> bool
-    ensures { λ r. ⌜ r ≡ sound (c .body) (c .phase) ⌝ }
+// Whether a field of the state is out of range.
+pub fn is_damaged(c: Controller) -> bool
+    ensures { λ r. ⌜ r ≡ not (sound (c .body) (c .phase)) ⌝ }
 {
     let phase = c.phase;
-    is_sound(c.body, phase)
-}
-
-// A broken link, by the phase.
-fn broken_in(c: Controller) -> Reply
-    ensures { λ r. ⌜ r ≡ brokenIn c (c .body) (c .phase) ⌝ }
-{
-    let b = c.body;
-    let phase = c.phase;
-    match phase {
-        Phase::Collecting => carried(go_idle(b, Action::Nothing)),
-        Phase::AckOffered => carried(go_idle(b, Action::Nothing)),
-        Phase::Sending(send) => {
-            let kind = send.kind;
-            carried(given_up(b, kind))
-        }
-        Phase::GoOffered(store) => carried(go_refused(b, store)),
-        Phase::EndOffered(interrupt) => carried(complete(b, interrupt)),
-        _ => refuse(2, c),
-    }
-}
-
-// A byte, by the phase. Where ACK or EOR is offered, and where a byte is refused, it goes the way of a broken link.
-fn byte_in(c: Controller, byte: u8) -> Reply
-    requires { ⌜ sound (c .body) (c .phase) ≡ true ⌝ }
-    ensures { λ r. ⌜ r ≡ byteIn c (c .body) byte (c .phase) ⌝ }
-{
-    let b = c.body;
-    let phase = c.phase;
-    match phase {
-        Phase::Collecting => carried(collected_byte(b, byte)),
-        Phase::Sending(send) => carried(send_answered(b, byte, send)),
-        Phase::GoOffered(store) => carried(go_answered(b, byte, store)),
-        _ => broken_in(c),
-    }
-}
-
-// A tick while collecting, which is idle where nothing is collected.
-fn collecting_tick(c: Controller) -> Reply
-    ensures { λ r. ⌜ r ≡ tickIn c (c .body) Phase.Collecting ⌝ }
-{
-    let b = c.body;
-    let empty = b.collected.length == 0;
-    if empty {
-        return carried(idle_tick(b));
-    }
-    refuse(4, c)
-}
-
-// A tick, by the phase.
-fn tick_in(c: Controller) -> Reply
-    ensures { λ r. ⌜ r ≡ tickIn c (c .body) (c .phase) ⌝ }
-{
-    let phase = c.phase;
-    match phase {
-        Phase::Collecting => collecting_tick(c),
-        _ => refuse(4, c),
-    }
+    !is_sound(c.body, phase)
 }
 
 // The string that was collected is carried out: a load or a store, by its lead.
@@ -96,24 +39,11 @@ fn taken_body(b: Body) -> Turn
     ensures { λ r. ⌜ r ≡ takenBody b ⌝ }
 {
     let string = b.collected;
-    let load = string.c0 == 0x62;
-    if load {
+    if string.c0 == 0x62 {
         return loaded(b, string.c1);
     }
     let store = store_of(string);
     carried_out(b, store)
-}
-
-// ACK is taken, by the phase.
-fn taken_in(c: Controller) -> Reply
-    ensures { λ r. ⌜ r ≡ takenIn c (c .body) (c .phase) ⌝ }
-{
-    let b = c.body;
-    let phase = c.phase;
-    match phase {
-        Phase::AckOffered => carried(taken_body(b)),
-        _ => refuse(2, c),
-    }
 }
 
 impl Controller {
@@ -121,78 +51,100 @@ impl Controller {
     pub fn byte(self, byte: u8) -> Reply
         ensures { λ r. ⌜ r ≡ byteCall self byte ⌝ }
     {
-        let whole = in_range(self);
-        if whole {
-            return byte_in(self, byte);
+        if is_damaged(self) {
+            return refuse(1, self);
         }
-        refuse(1, self)
+        let phase = self.phase;
+        let turn = match phase {
+            Phase::Collecting => collected_byte(self.body, byte),
+            Phase::AckOffered => go_idle(self.body, Action::Nothing),
+            Phase::Sending(send) => send_answered(self.body, byte, send),
+            Phase::GoOffered(store) => go_answered(self.body, byte, store),
+            Phase::EndOffered(interrupt) => complete(self.body, interrupt),
+            _ => return refuse(2, self),
+        };
+        carried(turn)
     }
 
     // The link is broken.
     pub fn broken(self) -> Reply
         ensures { λ r. ⌜ r ≡ brokenCall self ⌝ }
     {
-        let whole = in_range(self);
-        if whole {
-            return broken_in(self);
+        if is_damaged(self) {
+            return refuse(1, self);
         }
-        refuse(1, self)
+        let phase = self.phase;
+        let turn = match phase {
+            Phase::Collecting | Phase::AckOffered => go_idle(self.body, Action::Nothing),
+            Phase::Sending(send) => {
+                let kind = send.kind;
+                given_up(self.body, kind)
+            }
+            Phase::GoOffered(store) => go_refused(self.body, store),
+            Phase::EndOffered(interrupt) => complete(self.body, interrupt),
+            _ => return refuse(2, self),
+        };
+        carried(turn)
     }
 
-    // A tick.
+    // A tick, which is idle where nothing is collected.
     pub fn tick(self) -> Reply
         ensures { λ r. ⌜ r ≡ tickCall self ⌝ }
     {
-        let whole = in_range(self);
-        if whole {
-            return tick_in(self);
+        if is_damaged(self) {
+            return refuse(1, self);
         }
-        refuse(1, self)
+        let phase = self.phase;
+        let Phase::Collecting = phase else {
+            return refuse(4, self);
+        };
+        if self.body.collected.length == 0 {
+            return carried(idle_tick(self.body));
+        }
+        refuse(4, self)
     }
 
     // The ACK that was offered is taken.
     pub fn taken(self) -> Reply
         ensures { λ r. ⌜ r ≡ takenCall self ⌝ }
     {
-        let whole = in_range(self);
-        if whole {
-            return taken_in(self);
+        if is_damaged(self) {
+            return refuse(1, self);
         }
-        refuse(1, self)
+        let phase = self.phase;
+        let Phase::AckOffered = phase else {
+            return refuse(2, self);
+        };
+        carried(taken_body(self.body))
     }
 
     // A drive reports.
     pub fn report(self, drive: u8, report: u8) -> Reply
         ensures { λ r. ⌜ r ≡ reportCall self drive report ⌝ }
     {
-        let whole = in_range(self);
-        if whole {
-            let above = 4 <= drive;
-            if above {
-                return refuse(5, self);
-            }
-            let b = self.body;
-            let phase = self.phase;
-            let body = put_report(b, drive, report);
-            let turn = Turn {
-                body,
-                phase,
-                action: Action::Nothing,
-            };
-            return carried(turn);
+        if is_damaged(self) {
+            return refuse(1, self);
         }
-        refuse(1, self)
+        if 4 <= drive {
+            return refuse(5, self);
+        }
+        let phase = self.phase;
+        let body = put_report(self.body, drive, report);
+        let turn = Turn {
+            body,
+            phase,
+            action: Action::Nothing,
+        };
+        carried(turn)
     }
 
     // A reset.
     pub fn reset(self) -> Reply
         ensures { λ r. ⌜ r ≡ resetCall self ⌝ }
     {
-        let whole = in_range(self);
-        if whole {
-            let b = self.body;
-            return carried(go_reset(b));
+        if is_damaged(self) {
+            return refuse(1, self);
         }
-        refuse(1, self)
+        carried(go_reset(self.body))
     }
 }

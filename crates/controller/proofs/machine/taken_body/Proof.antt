@@ -1,6 +1,7 @@
 -- `controller::machine::taken_body` meets its contract: by the lead.
 -- Assumes nothing.
 use borrow.Author.Needs.{needs}
+use borrow.Author.Tests.{eq-eqb, ne-eqb}
 use Rattle.common.specs.Pick.{pick}
 use Rattle.controller.specs.Machine.{takenBody}
 use Rattle.controller.proofs.machine.taken_body.Statement.{statement}
@@ -13,7 +14,7 @@ returns : tie.Need-returns
 unfolding takenBody pick
 returns c = simp (
   c .loaded .ensures,
-  c .before .if1 .taken,
+  eq-eqb _ _ (c .before .if1 .taken),
 )
 
 store-of-requires : tie.Need-store-of-requires
@@ -27,7 +28,7 @@ unfolding takenBody pick
 returns-2 c = simp (
   c .carried-out .ensures,
   c .before .store-of .ensures,
-  c .before .before .if1 .left,
+  ne-eqb _ _ (c .before .before .if1 .left),
 )
 
 pub taken-body-spec : {M : Type 1} → statement M

@@ -1,36 +1,128 @@
--- `controller::controller::Controller::broken` meets its contract: whether the state is sound.
+-- `controller::controller::Controller::broken` meets its contract: whether the state is damaged, and by the phase.
 -- Assumes nothing.
 use borrow.Author.Needs.{needs}
+use Prim.Native.Nat.{ℕ}
+use mathlib.Core.Path.{_≡_, refl, _∙_}
+use mathlib.Core.List.{List, [], _∷_}
+use mathlib.Core.Logic.{⊎-elim}
+use types.Run.{OneOf, miss}
+use denote.Enum.Declared.{tagOf}
 use Rattle.common.specs.Pick.{pick}
-use Rattle.controller.specs.Machine.{brokenCall}
+use Rattle.link.specs.declared.state.Phase.{Phase}
+use Rattle.link.specs.declared.state.Phase.the-variants.{Collecting, AckOffered, Sending, GoOffered, DataAwaited, ResultAwaited, EndOffered}
+use Rattle.link.specs.declared.state.Body.{Body}
+use Rattle.link.specs.declared.state.Action.the-variants.{Nothing}
+use Rattle.link.specs.State.{idle}
+use Rattle.link.proofs.state.Phase.{the-type}
+use Rattle.controller.specs.declared.controller.Controller.{Controller}
+use Rattle.controller.specs.Controller.{carried, refused}
+use Rattle.controller.specs.Machine.{brokenIn, brokenCall}
+use Rattle.controller.proofs.DamageLaws.{damaged, undamaged}
 use Rattle.controller.proofs.controller.Controller.broken.Statement.{statement}
 use Rattle.controller.proofs.controller.Controller.broken.Tie as tie
 
-in-range-requires : tie.Need-in-range-requires
-in-range-requires c κs = search needs
+-- the phases of the first arm and of the last, by their numbers
+abbrev first : List ℕ
+first = 0 ∷ 1 ∷ []
 
-broken-in-requires : tie.Need-broken-in-requires
-broken-in-requires c κs = search needs
+abbrev last : List ℕ
+last = 4 ∷ 5 ∷ []
 
-returns : tie.Need-returns
-unfolding brokenCall pick
-returns c = simp (
-  c .broken-in .ensures,
-  c .before .if1 .taken,
-  ← c .before .before .in-range .ensures,
-)
+dropped : (c : Controller) (b : Body) (phase : Phase) → OneOf first (tagOf the-type phase) → brokenIn c b phase ≡ carried (idle b Nothing)
+unfolding brokenIn
+dropped c b Collecting key = refl
+dropped c b AckOffered key = refl
+dropped c b (Sending send) key = absurd (miss first 2 tt key)
+dropped c b (GoOffered store) key = absurd (miss first 3 tt key)
+dropped c b (DataAwaited store) key = absurd (miss first 4 tt key)
+dropped c b (ResultAwaited operation store) key = absurd (miss first 5 tt key)
+dropped c b (EndOffered interrupt) key = absurd (miss first 6 tt key)
+
+others : (c : Controller) (b : Body) (phase : Phase) → OneOf last (tagOf the-type phase) → brokenIn c b phase ≡ refused 2 c
+unfolding brokenIn
+others c b Collecting key = absurd (miss last 0 tt key)
+others c b AckOffered key = absurd (miss last 1 tt key)
+others c b (Sending send) key = absurd (miss last 2 tt key)
+others c b (GoOffered store) key = absurd (miss last 3 tt key)
+others c b (DataAwaited store) key = refl
+others c b (ResultAwaited operation store) key = refl
+others c b (EndOffered interrupt) key = absurd (miss last 6 tt key)
+
+-- where the arms meet, the turn is that of the phase
+turned : (c : tie.At-match-came) → let s = c .before .before .before .args .self in brokenIn s (s .body) (s .phase) ≡ carried (c .match .turn)
+unfolding brokenIn
+turned c =
+    let s = c .before .before .before .args .self in
+    ⊎-elim (λ w. dropped s (s .body) (s .phase) (w .0 .keys1) ∙ rw (w .2, w .1 .ensures))
+    (⊎-elim (λ w. rw (w .1 .given .1, w .4, w .3 .ensures))
+    (⊎-elim (λ w. rw (w .1 .given .1, w .4, w .3 .ensures)) (λ w. rw (w .1 .given .1, w .4, w .3 .ensures))))
+    (c .match .came)
+
+is-damaged-requires : tie.Need-is-damaged-requires
+is-damaged-requires c κs = search needs
 
 refuse-requires : tie.Need-refuse-requires
 refuse-requires c κs = search needs
 
+returns : tie.Need-returns
+unfolding brokenCall pick
+returns c = rw (damaged (c .before .before .before .args .self) (c .before .before .is-damaged .ensures) (c .before .if1 .taken), c .refuse .ensures)
+
+go-idle-requires : tie.Need-go-idle-requires
+go-idle-requires c κs = search needs
+
+enum-known-phase : tie.Need-enum-known-phase
+enum-known-phase c = search needs
+
+given-up-requires : tie.Need-given-up-requires
+given-up-requires c κs = search needs
+
+enum-known-phase-2 : tie.Need-enum-known-phase-2
+enum-known-phase-2 c = search needs
+
+go-refused-requires : tie.Need-go-refused-requires
+go-refused-requires c κs = search needs
+
+enum-known-phase-3 : tie.Need-enum-known-phase-3
+enum-known-phase-3 c = search needs
+
+complete-requires : tie.Need-complete-requires
+complete-requires c κs = search needs
+
+refuse-requires-2 : tie.Need-refuse-requires-2
+refuse-requires-2 c κs = search needs
+
 returns-2 : tie.Need-returns-2
 unfolding brokenCall pick
-returns-2 c = simp (
-  c .refuse .ensures,
-  c .before .if1 .left,
-  ← c .before .before .in-range .ensures,
-)
+returns-2 c =
+    let e = c .before .before in
+    let s = e .before .before .args .self in
+    rw (undamaged (e .before .before .args .self) (e .before .is-damaged .ensures) (e .if1 .left), others s (s .body) (s .phase) (c .before .match .keys5), c .refuse2 .ensures)
+
+carried-requires : tie.Need-carried-requires
+carried-requires c κs = search needs
+
+returns-3 : tie.Need-returns-3
+unfolding brokenCall pick
+returns-3 c =
+    let e = c .before .before in
+    rw (undamaged (e .before .before .args .self) (e .before .is-damaged .ensures) (e .if1 .left), turned (c .before), c .carried .ensures)
 
 pub broken-spec : {M : Type 1} → statement M
 broken-spec =
-    tie.close (tie.spec in-range-requires broken-in-requires returns refuse-requires returns-2)
+    tie.close
+    (tie.spec
+    is-damaged-requires
+    refuse-requires
+    returns
+    go-idle-requires
+    enum-known-phase
+    given-up-requires
+    enum-known-phase-2
+    go-refused-requires
+    enum-known-phase-3
+    complete-requires
+    refuse-requires-2
+    returns-2
+    carried-requires
+    returns-3)

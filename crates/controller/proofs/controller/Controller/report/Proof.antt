@@ -1,24 +1,32 @@
--- `controller::controller::Controller::report` meets its contract: whether the state is sound and the drive is one of four.
+-- `controller::controller::Controller::report` meets its contract: whether the state is damaged and the drive is one of four.
 -- Assumes nothing.
 use borrow.Author.Needs.{needs}
+use borrow.Author.Tests.{le-leb, lt-leb}
 use Rattle.common.specs.Pick.{pick}
 use Rattle.controller.specs.Machine.{reportNoted, reportCall}
+use Rattle.controller.proofs.DamageLaws.{damaged, undamaged}
 use Rattle.controller.proofs.controller.Controller.report.Statement.{statement}
 use Rattle.controller.proofs.controller.Controller.report.Tie as tie
 
-in-range-requires : tie.Need-in-range-requires
-in-range-requires c κs = search needs
+is-damaged-requires : tie.Need-is-damaged-requires
+is-damaged-requires c κs = search needs
 
 refuse-requires : tie.Need-refuse-requires
 refuse-requires c κs = search needs
 
 returns : tie.Need-returns
 unfolding reportCall reportNoted pick
-returns c = simp (
-  c .refuse .ensures,
-  c .before .if2 .taken,
-  c .before .before .if1 .taken,
-  ← c .before .before .before .in-range .ensures,
+returns c = rw (damaged (c .before .before .before .args .self) (c .before .before .is-damaged .ensures) (c .before .if1 .taken), c .refuse .ensures)
+
+refuse-requires-2 : tie.Need-refuse-requires-2
+refuse-requires-2 c κs = search needs
+
+returns-2 : tie.Need-returns-2
+unfolding reportCall reportNoted pick
+returns-2 c = rw (
+  undamaged (c .before .before .before .before .args .self) (c .before .before .before .is-damaged .ensures) (c .before .before .if1 .left),
+  le-leb _ _ (c .before .if2 .taken),
+  c .refuse2 .ensures,
 )
 
 put-report-requires : tie.Need-put-report-requires
@@ -27,36 +35,24 @@ put-report-requires c κs = search needs
 carried-requires : tie.Need-carried-requires
 carried-requires c κs = search needs
 
-returns-2 : tie.Need-returns-2
-unfolding reportCall reportNoted pick
-returns-2 c = simp (
-  c .carried .ensures,
-  c .before .put-report .ensures,
-  c .before .before .before .if2 .left,
-  c .before .before .before .before .if1 .taken,
-  ← c .before .before .before .before .before .in-range .ensures,
-)
-
-refuse-requires-2 : tie.Need-refuse-requires-2
-refuse-requires-2 c κs = search needs
-
 returns-3 : tie.Need-returns-3
 unfolding reportCall reportNoted pick
-returns-3 c = simp (
-  c .refuse2 .ensures,
-  c .before .if1 .left,
-  ← c .before .before .in-range .ensures,
+returns-3 c = rw (
+  undamaged (c .before .before .before .before .before .args .self) (c .before .before .before .before .is-damaged .ensures) (c .before .before .before .if1 .left),
+  lt-leb _ _ (c .before .before .if2 .left),
+  c .carried .ensures,
+  c .before .put-report .ensures,
 )
 
 pub report-spec : {M : Type 1} → statement M
 report-spec =
     tie.close
     (tie.spec
-    in-range-requires
+    is-damaged-requires
     refuse-requires
     returns
+    refuse-requires-2
+    returns-2
     put-report-requires
     carried-requires
-    returns-2
-    refuse-requires-2
     returns-3)

@@ -1,17 +1,100 @@
--- `controller::controller::Controller::result` meets its contract: by whether the state is sound.
+-- `controller::controller::Controller::result` meets its contract: whether the state is damaged, by the phase, and by the refusal.
 -- Assumes nothing.
 use borrow.Author.Needs.{needs}
-use mathlib.Core.Path.{_∙_}
+use borrow.Author.Tests.{eq-eqb, ne-eqb}
+use Prim.Native.Nat.{ℕ}
+use mathlib.Core.Bool.{true}
+use mathlib.Core.Path.{_≡_, refl, _∙_}
+use mathlib.Core.List.{List, [], _∷_}
+use types.Run.{OneOf, miss}
+use denote.Enum.Declared.{tagOf}
 use Rattle.common.specs.Pick.{pick}
-use Rattle.controller.specs.Machine.{resultCall}
+use Rattle.link.specs.declared.state.Phase.{Phase}
+use Rattle.link.specs.declared.state.Phase.the-variants.{Collecting, AckOffered, Sending, GoOffered, DataAwaited, ResultAwaited, EndOffered}
+use Rattle.link.specs.declared.state.Body.{Body}
+use Rattle.link.specs.Damaged.{sound}
+use Rattle.link.proofs.state.Phase.{the-type}
+use Rattle.transfers.specs.Results.{Result, resultOf}
+use Rattle.controller.specs.declared.controller.Controller.{Controller}
+use Rattle.controller.specs.Machine.{unchanged, resultFor, resultIn, resultCall}
+use Rattle.controller.proofs.DamageLaws.{damaged, undamaged}
 use Rattle.controller.proofs.controller.Controller.result.Statement.{statement}
 use Rattle.controller.proofs.controller.Controller.result.Tie as tie
 
-in-range-requires : tie.Need-in-range-requires
-in-range-requires c κs = search needs
+-- the phases in which no result is awaited, by their numbers
+abbrev six : List ℕ
+six = 0 ∷ 1 ∷ 2 ∷ 3 ∷ 4 ∷ 6 ∷ []
 
-result-in-requires : tie.Need-result-in-requires
-result-in-requires c κs = search needs
+others : (c : Controller) (b : Body) (r : Result) (space check : List ℕ) (phase : Phase) → OneOf six (tagOf the-type phase) → resultIn c b r space check phase ≡ unchanged 3 c space check
+unfolding resultIn
+others c b r space check Collecting key = refl
+others c b r space check AckOffered key = refl
+others c b r space check (Sending send) key = refl
+others c b r space check (GoOffered store) key = refl
+others c b r space check (DataAwaited store) key = refl
+others c b r space check (ResultAwaited operation store) key = absurd (miss six 5 tt key)
+others c b r space check (EndOffered interrupt) key = refl
+
+-- past the first test the state is sound
+whole : (c : tie.Else1) → let s = c .before .before .before .before .before .before .args .self in sound (s .body) (s .phase) ≡ true
+whole c = undamaged _ (c .before .is-damaged .ensures) (c .if1 .left)
+
+is-damaged-requires : tie.Need-is-damaged-requires
+is-damaged-requires c κs = search needs
+
+refuse-transfer-requires : tie.Need-refuse-transfer-requires
+refuse-transfer-requires c κs = search needs
+
+returns : tie.Need-returns
+unfolding resultCall pick
+returns c = rw (damaged (c .before .before .before .before .before .before .before .args .self) (c .before .before .is-damaged .ensures) (c .before .if1 .taken), c .refuse-transfer .ensures)
+
+enum-known-phase : tie.Need-enum-known-phase
+enum-known-phase c = search needs
+
+refuse-transfer-requires-2 : tie.Need-refuse-transfer-requires-2
+refuse-transfer-requires-2 c κs = search needs
+
+returns-2 : tie.Need-returns-2
+unfolding resultCall pick
+returns-2 c =
+    let e = c .before .before in
+    let a = e .before .before .before .before .before .before .args in
+    rw (
+      whole e,
+      others (a .self) (a .self .body) (resultOf (a .code) (a .mark) (a .late) (a .image .now) (a .marks .now)) (a .space .now) (a .check .now) (a .self .phase) (c .before .match .keys2),
+      c .refuse-transfer2 .ensures,
+    )
+
+get-requires : tie.Need-get-requires
+get-requires c κs = search needs
+
+result-refusal-requires : tie.Need-result-refusal-requires
+result-refusal-requires c κs = search needs
+
+refuse-transfer-requires-3 : tie.Need-refuse-transfer-requires-3
+refuse-transfer-requires-3 c κs = search needs
+
+returns-3 : tie.Need-returns-3
+unfolding resultCall resultIn resultFor pick
+returns-3 c =
+    let d = c .before .before in
+    let g = d .before in
+    let p = g .before .before in
+    rw (
+      c .refuse-transfer3 .ensures,
+      whole (p .before .before),
+      p .phase .given .1,
+      ← g .get .ensures,
+      ← d .result-refusal .ensures,
+      ne-eqb _ _ (c .before .if2 .taken),
+    )
+
+result-done-requires : tie.Need-result-done-requires
+result-done-requires c κs =
+    let t = c .before .before in
+    let d = t .before in
+    rw (← d .result-refusal .ensures) (t .if2 .left)
 
 same-length : tie.Need-same-length
 same-length c = search needs
@@ -19,28 +102,38 @@ same-length c = search needs
 same-length-2 : tie.Need-same-length-2
 same-length-2 c = search needs
 
-returns : tie.Need-returns
-unfolding resultCall pick
-returns c =
+returns-4 : tie.Need-returns-4
+unfolding resultCall resultIn resultFor pick
+returns-4 c =
     let w = c .before .before .before .before in
     let t = w .before .before .before in
-    w .result-in .ensures ∙ simp (← t .before .in-range .ensures, t .if1 .taken)
-
-refuse-transfer-requires : tie.Need-refuse-transfer-requires
-refuse-transfer-requires c κs = search needs
-
-returns-2 : tie.Need-returns-2
-unfolding resultCall pick
-returns-2 c = simp (c .refuse-transfer .ensures, ← c .before .before .in-range .ensures, c .before .if1 .left)
+    let d = t .before in
+    let g = d .before in
+    let p = g .before .before in
+    w .result-done .ensures
+    ∙ rw (
+      whole (p .before .before),
+      p .phase .given .1,
+      ← g .get .ensures,
+      ← d .result-refusal .ensures,
+      eq-eqb _ _ (t .if2 .left),
+    )
 
 pub result-spec : {M : Type 1} → statement M
 result-spec =
     tie.close
     (tie.spec
-    in-range-requires
-    result-in-requires
+    is-damaged-requires
+    refuse-transfer-requires
+    returns
+    enum-known-phase
+    refuse-transfer-requires-2
+    returns-2
+    get-requires
+    result-refusal-requires
+    refuse-transfer-requires-3
+    returns-3
+    result-done-requires
     same-length
     same-length-2
-    returns
-    refuse-transfer-requires
-    returns-2)
+    returns-4)

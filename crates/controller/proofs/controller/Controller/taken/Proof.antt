@@ -1,36 +1,88 @@
--- `controller::controller::Controller::taken` meets its contract: whether the state is sound.
+-- `controller::controller::Controller::taken` meets its contract: whether the state is damaged, and by the phase.
 -- Assumes nothing.
 use borrow.Author.Needs.{needs}
+use Prim.Native.Nat.{ℕ}
+use mathlib.Core.Path.{_≡_, refl}
+use mathlib.Core.List.{List, [], _∷_}
+use types.Run.{OneOf, miss}
+use denote.Enum.Declared.{tagOf}
 use Rattle.common.specs.Pick.{pick}
-use Rattle.controller.specs.Machine.{takenCall}
+use Rattle.link.specs.declared.state.Phase.{Phase}
+use Rattle.link.specs.declared.state.Phase.the-variants.{Collecting, AckOffered, Sending, GoOffered, DataAwaited, ResultAwaited, EndOffered}
+use Rattle.link.specs.declared.state.Body.{Body}
+use Rattle.link.proofs.state.Phase.{the-type}
+use Rattle.controller.specs.declared.controller.Controller.{Controller}
+use Rattle.controller.specs.Controller.{refused}
+use Rattle.controller.specs.Machine.{takenIn, takenCall}
+use Rattle.controller.proofs.DamageLaws.{damaged, undamaged}
 use Rattle.controller.proofs.controller.Controller.taken.Statement.{statement}
 use Rattle.controller.proofs.controller.Controller.taken.Tie as tie
 
-in-range-requires : tie.Need-in-range-requires
-in-range-requires c κs = search needs
+-- the phases in which no ACK is offered, by their numbers
+abbrev six : List ℕ
+six = 0 ∷ 2 ∷ 3 ∷ 4 ∷ 5 ∷ 6 ∷ []
 
-taken-in-requires : tie.Need-taken-in-requires
-taken-in-requires c κs = search needs
+others : (c : Controller) (b : Body) (phase : Phase) → OneOf six (tagOf the-type phase) → takenIn c b phase ≡ refused 2 c
+unfolding takenIn
+others c b Collecting key = refl
+others c b AckOffered key = absurd (miss six 1 tt key)
+others c b (Sending send) key = refl
+others c b (GoOffered store) key = refl
+others c b (DataAwaited store) key = refl
+others c b (ResultAwaited operation store) key = refl
+others c b (EndOffered interrupt) key = refl
 
-returns : tie.Need-returns
-unfolding takenCall pick
-returns c = simp (
-  c .taken-in .ensures,
-  c .before .if1 .taken,
-  ← c .before .before .in-range .ensures,
-)
+is-damaged-requires : tie.Need-is-damaged-requires
+is-damaged-requires c κs = search needs
 
 refuse-requires : tie.Need-refuse-requires
 refuse-requires c κs = search needs
 
+returns : tie.Need-returns
+unfolding takenCall pick
+returns c = rw (damaged (c .before .before .before .args .self) (c .before .before .is-damaged .ensures) (c .before .if1 .taken), c .refuse .ensures)
+
+enum-told : tie.Need-enum-told
+enum-told c = search needs
+
+refuse-requires-2 : tie.Need-refuse-requires-2
+refuse-requires-2 c κs = search needs
+
 returns-2 : tie.Need-returns-2
 unfolding takenCall pick
-returns-2 c = simp (
-  c .refuse .ensures,
-  c .before .if1 .left,
-  ← c .before .before .in-range .ensures,
-)
+returns-2 c =
+    let e = c .before .before in
+    let s = e .before .before .args .self in
+    rw (undamaged (e .before .before .args .self) (e .before .is-damaged .ensures) (e .if1 .left), others s (s .body) (s .phase) (c .before .match .keys2), c .refuse2 .ensures)
+
+taken-body-requires : tie.Need-taken-body-requires
+taken-body-requires c κs = search needs
+
+carried-requires : tie.Need-carried-requires
+carried-requires c κs = search needs
+
+returns-3 : tie.Need-returns-3
+unfolding takenCall takenIn pick
+returns-3 c =
+    let t = c .before .before in
+    let e = t .before .before in
+    rw (
+      undamaged (e .before .before .args .self) (e .before .is-damaged .ensures) (e .if1 .left),
+      t .enum-told .given .1,
+      c .carried .ensures,
+      c .before .taken-body .ensures,
+    )
 
 pub taken-spec : {M : Type 1} → statement M
 taken-spec =
-    tie.close (tie.spec in-range-requires taken-in-requires returns refuse-requires returns-2)
+    tie.close
+    (tie.spec
+    is-damaged-requires
+    refuse-requires
+    returns
+    enum-told
+    refuse-requires-2
+    returns-2
+    taken-body-requires
+    carried-requires
+    returns-3)

@@ -1,0 +1,14 @@
+-- Laws of the test that each call begins with: whether the state is damaged.
+-- Assumes nothing.
+use mathlib.Core.Path.{_≡_, sym, _∙_}
+use mathlib.Core.Bool.{Bool, true, false, not}
+use borrow.Author.Tests.{not-true, not-false}
+use Rattle.link.specs.Damaged.{sound}
+use Rattle.controller.specs.declared.controller.Controller.{Controller}
+
+module _ (c : Controller) {test : Bool} (is : test ≡ not (sound (c .body) (c .phase))) where
+  pub damaged : test ≡ true → sound (c .body) (c .phase) ≡ false
+  damaged h = not-true _ (sym is ∙ h)
+
+  pub undamaged : test ≡ false → sound (c .body) (c .phase) ≡ true
+  undamaged h = not-false _ (sym is ∙ h)
