@@ -60,8 +60,7 @@ fn data_body(mut b: Body, drive: Drive, store: Store, host: &[u8]) -> Body
 {
     let gcr = is_gcr(drive);
     let short = runs_short(store, host);
-    let before = b.outcome;
-    let outcome = with_underflow(before, short);
+    let outcome = with_underflow(b.outcome, short);
     b.outcome = outcome;
     zeroed_words(b, gcr)
 }
@@ -79,10 +78,10 @@ fn data_done(
     requires { ⌜ dataRefusal drive store (length (now space)) (length (now check)) ≡ 0 ⌝ }
     ensures { λ r. ⌜ answered r (now (space .exit)) (now (check .exit)) ≡ dataDone b drive store (now (host .entry)) (now (space .entry)) (now (check .entry)) ⌝ }
 {
-    let bytes = put_record(store, host, drive.density, space);
-    put_data_check(drive, store, &space[..bytes], check);
     let body = data_body(b, drive, store, host);
     let reply = carried(ordered(body, Operation::Write, store));
+    let bytes = put_record(store, host, drive.density, space);
+    put_data_check(drive, store, &space[..bytes], check);
     Transfer { reply, bytes }
 }
 
@@ -104,12 +103,9 @@ fn result_body(
     requires { ⌜ ((length (now image) ≡ 0 → ⊥) → 2 ≤ length (now image)) ⌝ }
     ensures { λ r. ⌜ r ≡ resultBody b drive operation store (resultOf code mark late (now (image .entry)) (now (marks .entry))) bytes space ⌝ }
 {
-    let before = b.outcome;
-    let odd_even = b.tertiary;
-    let stop = b.quintary;
     let bits = result_bits(
         drive,
-        before,
+        b.outcome,
         operation,
         code,
         mark,
@@ -121,8 +117,8 @@ fn result_body(
     );
     let outcome = with_retry(bits);
     let secondary = result_secondary(drive, operation, store, code, image, marks, b.secondary);
-    let tertiary = result_tertiary(drive, operation, marks, odd_even);
-    let quintary = result_quintary(drive, operation, marks, stop);
+    let tertiary = result_tertiary(drive, operation, marks, b.tertiary);
+    let quintary = result_quintary(drive, operation, marks, b.quintary);
     let left = result_drive(drive, operation, code, marks);
     b.outcome = outcome;
     b.secondary = secondary;
@@ -148,11 +144,7 @@ fn result_done(
     requires { ⌜ resultRefusal drive operation (resultOf code mark late (now image) (now marks)) (length (now check)) ≡ 0 ⌝ }
     ensures { λ r. ⌜ answered r (now (space .exit)) (now (check .exit)) ≡ resultDone b drive operation store (resultOf code mark late (now (image .entry)) (now (marks .entry))) (now (space .entry)) (now (check .entry)) ⌝ }
 {
-    let room = space.len();
     let bytes = delivered_bytes(drive, operation, image, marks, check);
-    let wanted = bytes.len();
-    let fit = give_fitting(bytes, space);
-    put_result_check(drive, operation, image, check);
     let body = result_body(
         b,
         drive,
@@ -163,10 +155,12 @@ fn result_done(
         late,
         image,
         marks,
-        wanted,
-        room,
+        bytes.len(),
+        space.len(),
     );
     let reply = carried(end_operation(body, operation, store));
+    let fit = give_fitting(bytes, space);
+    put_result_check(drive, operation, image, check);
     Transfer { reply, bytes: fit }
 }
 

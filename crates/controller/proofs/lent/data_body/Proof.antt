@@ -17,7 +17,7 @@ zeroed-words-requires : tie.Need-zeroed-words-requires
 zeroed-words-requires c κs = search needs
 
 returns : tie.Need-returns
-returns c = simp (c .zeroed-words .ensures, c .before .with-underflow .ensures, c .before .before .before .runs-short .ensures, c .before .before .before .before .is-gcr .ensures)
+returns c = simp (c .zeroed-words .ensures, c .before .with-underflow .ensures, c .before .before .runs-short .ensures, c .before .before .before .is-gcr .ensures)
 
 pub data-body-spec : {M : Type 1} → statement M
 data-body-spec =

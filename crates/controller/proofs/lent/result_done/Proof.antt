@@ -19,18 +19,9 @@ delivered-bytes-requires c κs =
     let h = result-passed (e .args .drive) _ (e .args .operation) _ (e .pre) in
     (h .within, h .read)
 
-give-fitting-requires : tie.Need-give-fitting-requires
-give-fitting-requires c κs = search needs
-
-put-result-check-requires : tie.Need-put-result-check-requires
-put-result-check-requires c κs =
-    let e = c .before .before .before .before .before .before .before .before .before .before .before in
-    let h = result-passed (e .args .drive) _ (e .args .operation) _ (e .pre) in
-    (h .store, (h .within, (h .two, h .checked)))
-
 result-body-requires : tie.Need-result-body-requires
 result-body-requires c κs =
-    let e = c .before .before .before .before .before .before .before .before .before .before .before .before .before .before in
+    let e = c .before .before .before .before .before .before in
     let h = result-passed (e .args .drive) _ (e .args .operation) _ (e .pre) in
     (h .within, h .two)
 
@@ -39,6 +30,15 @@ end-operation-requires c κs = search needs
 
 carried-requires : tie.Need-carried-requires
 carried-requires c κs = search needs
+
+give-fitting-requires : tie.Need-give-fitting-requires
+give-fitting-requires c κs = search needs
+
+put-result-check-requires : tie.Need-put-result-check-requires
+put-result-check-requires c κs =
+    let e = c .before .before .before .before .before .before .before .before .before .before .before .before .before .before in
+    let h = result-passed (e .args .drive) _ (e .args .operation) _ (e .pre) in
+    (h .store, (h .within, (h .two, h .checked)))
 
 same-length : tie.Need-same-length
 same-length c = search needs
@@ -49,15 +49,16 @@ same-length-2 c = search needs
 returns : tie.Need-returns
 unfolding resultDone
 returns c =
-    let o = c .before in
-    let m = o .before in
-    let k = m .before .before .before in
+    let k = c .before .before in
     let g = k .before .before .before .before in
-    let v = g .before .before in
+    let n = g .before .before in
+    let o = n .before in
+    let m = o .before in
+    let v = m .before in
     let a = v .before .before .before .before .before .before .args in
     let r = resultOf (a .code) (a .mark) (a .late) (a .image .now) (a .marks .now) in
     result-answer (a .b) (a .drive) (a .operation) (a .store) (a .code) (a .mark) (a .late) (a .image .now) (a .marks .now) (a .space .now) (a .check .now)
-    _ _ _ _ _ _ (m .result-body .ensures) (c .carried .ensures ∙ ap (λ (x : Turn). carried x) (o .end-operation .ensures)) (g .give-fitting .ensures .0) (g .give-fitting .ensures .1) (k .put-result-check .ensures)
+    _ _ _ _ _ _ (m .result-body .ensures) (n .carried .ensures ∙ ap (λ (x : Turn). carried x) (o .end-operation .ensures)) (g .give-fitting .ensures .0) (g .give-fitting .ensures .1) (k .put-result-check .ensures)
     ∙ ap (λ (x : List ℕ). resultGiven (a .b) (a .drive) (a .operation) (a .store) r x (a .space .now) (a .check .now))
     (v .delivered-bytes .ensures ∙ delivered-parts _ (a .operation) (a .code) (a .mark) (a .late) (a .image .now) (a .marks .now) (a .check .now))
 
@@ -66,11 +67,11 @@ result-done-spec =
     tie.close
     (tie.spec
     delivered-bytes-requires
-    give-fitting-requires
-    put-result-check-requires
     result-body-requires
     end-operation-requires
     carried-requires
+    give-fitting-requires
+    put-result-check-requires
     same-length
     same-length-2
     returns)
