@@ -12,31 +12,21 @@ use lib.Dec.{leb, eqb}
 use lib.ListN.{length, getD, take, drop}
 use lib.Seq.{drop-cons, take-at}
 use Rattle.common.specs.Given.{given}
+use Rattle.common.proofs.PickLaws.{both-hold}
 use borrow.Author.Tests.{le-leb, lt-leb, eqb-true, leb-true}
 use Rattle.lines.specs.Digits.{digitValue, isDigit, allDigits, byteValue, isByte, isBytes, bytesOf, decimalFrom, decimalOf, isDecimal}
 
 -- ---- tests
 
-not-so : false ≡ true → ⊥
-not-so h = let z : _≡_ {A = ℕ} 0 1 = cc in omega arith
-
-pub and-left : (a b : Bool) → (a && b) ≡ true → a ≡ true
-and-left true b e = refl
-and-left false b e = e
-
-pub and-right : (a b : Bool) → (a && b) ≡ true → b ≡ true
-and-right true b e = e
-and-right false b e = absurd (not-so e)
-
 pub and-six : (a b c d e f : Bool) → (a && (b && (c && (d && (e && f))))) ≡ true
     → (a ≡ true) × (b ≡ true) × (c ≡ true) × (d ≡ true) × (e ≡ true) × (f ≡ true)
-and-six true true true true true true h = (refl, refl, refl, refl, refl, refl)
-and-six true true true true true false h = absurd (not-so h)
-and-six true true true true false f h = absurd (not-so h)
-and-six true true true false e f h = absurd (not-so h)
-and-six true true false d e f h = absurd (not-so h)
-and-six true false c d e f h = absurd (not-so h)
-and-six false b c d e f h = absurd (not-so h)
+and-six a b c d e f h =
+    let h1 = both-hold a _ h in
+    let h2 = both-hold b _ (h1 .1) in
+    let h3 = both-hold c _ (h2 .1) in
+    let h4 = both-hold d _ (h3 .1) in
+    let h5 = both-hold e f (h4 .1) in
+    (h1 .0, h2 .0, h3 .0, h4 .0, h5 .0, h5 .1)
 
 -- a byte that is no digit decides, and a digit is passed
 pub digits-stop : (base : ℕ) (s : List ℕ) (at : ℕ) → at < length s → isDigit base (getD s at 0) ≡ false → allDigits base (drop at s) ≡ false
@@ -52,13 +42,13 @@ digits-pass base s at below good = rw (add-one, drop-cons s at 0, good)
 
 pub is-byte-length : (s : List ℕ) → isByte s ≡ true → length s ≡ 2
 unfolding isByte
-is-byte-length s e = eqb-true _ _ (and-left _ _ e)
+is-byte-length s e = eqb-true _ _ (both-hold (eqb (length s) 2) _ e .0)
 
 pub is-bytes-length : (limit : ℕ) (s : List ℕ) → isBytes limit s ≡ true → length s ≤ 2 * limit
 unfolding isBytes
 is-bytes-length limit s e =
-    let both : (leb (length s) (2 * limit) && allDigits 16 s) ≡ true = and-right (eqb (length s % 2) 0) _ e in
-    leb-true _ _ (and-left _ (allDigits 16 s) both)
+    let both : (leb (length s) (2 * limit) && allDigits 16 s) ≡ true = both-hold (eqb (length s % 2) 0) _ e .1 in
+    leb-true _ _ (both-hold _ (allDigits 16 s) both .0)
 
 pub bytes-length : (s : List ℕ) → length (bytesOf s) ≡ length s / 2
 unfolding bytesOf
@@ -118,5 +108,5 @@ limit-capped x limit h =
 pub is-decimal-limit : (limit : ℕ) (s : List ℕ) → isDecimal limit s ≡ true → decimalOf s ≤ limit
 unfolding isDecimal
 is-decimal-limit limit s e =
-    let both : (allDigits 10 s && leb (decimalOf s) limit) ≡ true = and-right (not (eqb (length s) 0)) _ e in
-    leb-true _ _ (and-right (allDigits 10 s) _ both)
+    let both : (allDigits 10 s && leb (decimalOf s) limit) ≡ true = both-hold (not (eqb (length s) 0)) _ e .1 in
+    leb-true _ _ (both-hold (allDigits 10 s) _ both .1)

@@ -1,4 +1,5 @@
 // What is printed for a line. Each function puts a text into the lent space from a place on, and answers the place after it.
+use common::give;
 use link::state::Action;
 use status::strings::Six;
 ghost use mathlib.Core.Path.{_≡_};
@@ -134,10 +135,7 @@ pub fn print_unreadable(out: &mut [u8]) -> usize
     requires { ⌜ 6 ≤ length (now out) ⌝ }
     ensures { λ r. ⌜ (r ≡ 6) × (take r (now (out .exit)) ≡ unreadableText) ⌝ }
 {
-    let mark = put(b'?', out, 0);
-    let first = put(b',', out, mark);
-    let none = put(b'-', out, first);
-    let second = put(b',', out, none);
-    let third = put(b',', out, second);
-    put(b'\n', out, third)
+    let text = [b'?', b',', b'-', b',', b',', b'\n'];
+    give(&text, out);
+    text.len()
 }

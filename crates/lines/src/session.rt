@@ -56,10 +56,10 @@ pub fn answer_data(
     ensures { λ r. ⌜ (r .count ≤ 19 + 2 * length (now (space .entry))) × (left r (now (space .exit)) (now (check .exit)) (now (out .exit)) ≡ transferLeft (dataCall c (now (host .entry)) (now (space .entry)) (now (check .entry)))) ⌝ }
 {
     let transfer = c.data(host, space, check);
-    let given = least(transfer.bytes, space.len());
     let reply = transfer.reply;
     let controller = reply.controller;
     let action = reply.action;
+    let given = least(transfer.bytes, space.len());
     let count = print_answer(reply.refusal, action, &space[..given], out);
     Answered { controller, count }
 }
@@ -80,10 +80,10 @@ pub fn answer_result(
     ensures { λ r. ⌜ (r .count ≤ 19 + 2 * length (now (space .entry))) × (left r (now (space .exit)) (now (check .exit)) (now (out .exit)) ≡ transferLeft (resultCall c (resultOf code mark late (now (image .entry)) (now (marks .entry))) (now (space .entry)) (now (check .entry)))) ⌝ }
 {
     let transfer = c.result(code, mark, late, image, marks, space, check);
-    let given = least(transfer.bytes, space.len());
     let reply = transfer.reply;
     let controller = reply.controller;
     let action = reply.action;
+    let given = least(transfer.bytes, space.len());
     let count = print_answer(reply.refusal, action, &space[..given], out);
     Answered { controller, count }
 }
@@ -101,21 +101,21 @@ pub fn answer_reading(
     requires { ⌜ 19 + 2 * length (now space) ≤ length (now out) ⌝ }
     ensures { λ r. ⌜ (r .count ≤ 19 + 2 * length (now (space .entry))) × (left r (now (space .exit)) (now (check .exit)) (now (out .exit)) ≡ lineLeft c (lineRead reading (now (bytes .entry)) (now (marks .entry))) (now (space .entry)) (now (check .entry))) ⌝ }
 {
-    match reading {
-        Reading::Unreadable => answer_unreadable(c, space, check, out),
-        Reading::Byte(byte) => answer_reply(c.byte(byte), space, check, out),
-        Reading::Taken => answer_reply(c.taken(), space, check, out),
-        Reading::Broken => answer_reply(c.broken(), space, check, out),
-        Reading::Report(drive, report) => answer_reply(c.report(drive, report), space, check, out),
+    let reply = match reading {
+        Reading::Unreadable => return answer_unreadable(c, space, check, out),
+        Reading::Byte(byte) => c.byte(byte),
+        Reading::Taken => c.taken(),
+        Reading::Broken => c.broken(),
+        Reading::Report(drive, report) => c.report(drive, report),
         Reading::HostData(count) => {
             let end = least(count, bytes.len());
-            answer_data(c, &bytes[..end], space, check, out)
+            return answer_data(c, &bytes[..end], space, check, out);
         }
         Reading::Result(code, mark, late, image_count, mark_count, lent) => {
             let image_end = least(image_count, bytes.len());
             let marks_end = least(mark_count, marks.len());
             let end = least(lent, space.len());
-            answer_result(
+            return answer_result(
                 c,
                 code,
                 mark,
@@ -125,11 +125,12 @@ pub fn answer_reading(
                 &mut space[..end],
                 check,
                 out,
-            )
+            );
         }
-        Reading::Tick => answer_reply(c.tick(), space, check, out),
-        Reading::Reset => answer_reply(c.reset(), space, check, out),
-    }
+        Reading::Tick => c.tick(),
+        Reading::Reset => c.reset(),
+    };
+    answer_reply(reply, space, check, out)
 }
 
 // A line, without its #0A.

@@ -19,11 +19,11 @@ slice-reshare-prefix-print-answer : tie.Need-slice-reshare-prefix-print-answer
 slice-reshare-prefix-print-answer c = search needs
 
 slice-aggregate-print-answer : tie.Need-slice-aggregate-print-answer
-slice-aggregate-print-answer c = length-least (c .before .before .before .before .before .before .before .before .«data» .last .1 .1 .0) (c .before .before .before .before .before .before .before .before .«data» .result .bytes) (c .before .before .before .least .result) (c .before .before .before .least .ensures)
+slice-aggregate-print-answer c = length-least (c .before .before .before .before .before .before .before .before .«data» .last .1 .1 .0) (c .before .before .before .before .before .before .before .before .«data» .result .bytes) (c .before .least .result) (c .before .least .ensures)
 
 print-answer-requires : tie.Need-print-answer-requires
 print-answer-requires c κs =
-    let k = c .before .before .before .before .least in
+    let k = c .before .before .least in
     let t = c .before .before .before .before .before .before .before .before .before .«data» in
     let many : k .result ≡ length (take (k .result) (t .last .1 .1 .0)) = length-least (t .last .1 .1 .0) (t .result .bytes) (k .result) (k .ensures) in
     omega (arith, many, k .ensures, t .kept .1 .1 .0, c .before .before .before .before .before .before .before .before .before .before .before .before .before .before .before .before .pre)
@@ -39,7 +39,7 @@ same-length-3 c = search needs
 
 returns : tie.Need-returns
 returns c =
-    let k = c .before .before .before .before .before .before .before .least in
+    let k = c .before .before .before .before .before .least in
     let t = c .before .before .before .before .before .before .before .before .before .before .before .before .«data» in
     let p = c .before .before .print-answer in
     let many : k .result ≡ length (take (k .result) (t .last .1 .1 .0)) = length-least (t .last .1 .1 .0) (t .result .bytes) (k .result) (k .ensures) in (

@@ -1,15 +1,28 @@
 -- `lines::session::answer_reading` meets its contract: by what was read.
 -- Assumes nothing.
-
 use mathlib.Core.Path.{_≡_, _∙_}
+use mathlib.Core.Logic.{⊎-elim}
+use mathlib.Core.List.{List}
+use Prim.Native.Nat.{ℕ}
 use native.Mathlib.Omega.{arith}
 use lib.ListN.{length, take, drop}
-use Rattle.lines.specs.Session.{lineLeft}
+use Rattle.lines.specs.Session.{replyLeft, lineLeft}
 use Rattle.lines.specs.Line.{lineRead}
 use Rattle.lines.proofs.SessionLaws.{take-least, drop-least, length-least, left-rest}
 use borrow.Author.Needs.{needs}
 use Rattle.lines.proofs.session.answer_reading.Statement.{statement}
 use Rattle.lines.proofs.session.answer_reading.Tie as tie
+
+-- where the arms meet, the reply is that of the call
+replied : (c : tie.At-match-came) → let a = c .before .before .before .before .before .before .args in (space check : List ℕ) → replyLeft (c .match .reply) space check ≡ lineLeft (a .c) (lineRead (a .reading) (a .bytes .now) (a .marks .now)) space check
+unfolding lineLeft lineRead
+replied c space check =
+    ⊎-elim (λ w. rw (w .1 .given .1, w .4, w .3 .ensures))
+    (⊎-elim (λ w. rw (w .1 .given .1, w .3, w .2 .ensures))
+    (⊎-elim (λ w. rw (w .1 .given .1, w .3, w .2 .ensures))
+    (⊎-elim (λ w. rw (w .1 .given .1, w .4, w .3 .ensures))
+    (⊎-elim (λ w. rw (w .1 .given .1, w .3, w .2 .ensures)) (λ w. rw (w .1 .given .1, w .3, w .2 .ensures))))))
+    (c .match .came)
 
 enum-told : tie.Need-enum-told
 enum-told c = search needs
@@ -17,14 +30,27 @@ enum-told c = search needs
 answer-unreadable-requires : tie.Need-answer-unreadable-requires
 answer-unreadable-requires c κs = search needs
 
+same-length : tie.Need-same-length
+same-length c = search needs
+
+same-length-2 : tie.Need-same-length-2
+same-length-2 c = search needs
+
+same-length-3 : tie.Need-same-length-3
+same-length-3 c = search needs
+
+returns : tie.Need-returns
+unfolding lineLeft lineRead
+returns c = (
+  omega (arith, c .before .before .answer-unreadable .ensures .0),
+  c .before .before .answer-unreadable .ensures .1 ∙ simp (c .before .before .before .before .before .before .enum-told .given .1),
+)
+
 enum-known-reading : tie.Need-enum-known-reading
 enum-known-reading c = search needs
 
 byte-requires : tie.Need-byte-requires
 byte-requires c κs = search needs
-
-answer-reply-requires : tie.Need-answer-reply-requires
-answer-reply-requires c κs = search needs
 
 enum-told-2 : tie.Need-enum-told-2
 enum-told-2 c = search needs
@@ -32,26 +58,17 @@ enum-told-2 c = search needs
 taken-requires : tie.Need-taken-requires
 taken-requires c κs = search needs
 
-answer-reply-requires-2 : tie.Need-answer-reply-requires-2
-answer-reply-requires-2 c κs = search needs
-
 enum-told-3 : tie.Need-enum-told-3
 enum-told-3 c = search needs
 
 broken-requires : tie.Need-broken-requires
 broken-requires c κs = search needs
 
-answer-reply-requires-3 : tie.Need-answer-reply-requires-3
-answer-reply-requires-3 c κs = search needs
-
 enum-known-reading-2 : tie.Need-enum-known-reading-2
 enum-known-reading-2 c = search needs
 
 report-requires : tie.Need-report-requires
 report-requires c κs = search needs
-
-answer-reply-requires-4 : tie.Need-answer-reply-requires-4
-answer-reply-requires-4 c κs = search needs
 
 enum-known-reading-3 : tie.Need-enum-known-reading-3
 enum-known-reading-3 c = search needs
@@ -64,6 +81,23 @@ slice-aggregate-answer-data c = length-least (c .before .before .before .before 
 
 answer-data-requires : tie.Need-answer-data-requires
 answer-data-requires c κs = search needs
+
+same-length-4 : tie.Need-same-length-4
+same-length-4 c = search needs
+
+same-length-5 : tie.Need-same-length-5
+same-length-5 c = search needs
+
+same-length-6 : tie.Need-same-length-6
+same-length-6 c = search needs
+
+returns-2 : tie.Need-returns-2
+unfolding lineLeft lineRead
+returns-2 c =
+    let a = c .before .before .before .before .before .before .before .before .before .before .before .before .before .before .before .before .before .before .before .before .args in (
+      omega (arith, c .before .before .before .before .before .before .answer-data .ensures .0),
+      c .before .before .before .before .before .before .answer-data .ensures .1 ∙ simp (take-least (a .bytes .now) _ _ (c .before .before .before .before .before .before .before .before .before .before .before .least .ensures), c .before .before .before .before .before .before .before .before .before .before .before .before .before .reading3 .given .1),
+    )
 
 enum-known-reading-4 : tie.Need-enum-known-reading-4
 enum-known-reading-4 c = search needs
@@ -96,56 +130,6 @@ answer-result-requires c κs =
     let many : k .result ≡ length (take (k .result) (e .args .space .now)) = length-least (e .args .space .now) _ _ (k .ensures) in
     omega (arith, many, k .ensures, e .pre)
 
-enum-told-4 : tie.Need-enum-told-4
-enum-told-4 c = search needs
-
-tick-requires : tie.Need-tick-requires
-tick-requires c κs = search needs
-
-answer-reply-requires-5 : tie.Need-answer-reply-requires-5
-answer-reply-requires-5 c κs = search needs
-
-enum-told-5 : tie.Need-enum-told-5
-enum-told-5 c = search needs
-
-reset-requires : tie.Need-reset-requires
-reset-requires c κs = search needs
-
-answer-reply-requires-6 : tie.Need-answer-reply-requires-6
-answer-reply-requires-6 c κs = search needs
-
-same-length : tie.Need-same-length
-same-length c = search needs
-
-same-length-2 : tie.Need-same-length-2
-same-length-2 c = search needs
-
-same-length-3 : tie.Need-same-length-3
-same-length-3 c = search needs
-
-returns : tie.Need-returns
-unfolding lineLeft lineRead
-returns c = (
-  omega (arith, c .before .before .answer-unreadable .ensures .0),
-  c .before .before .answer-unreadable .ensures .1 ∙ simp (c .before .before .before .before .before .before .enum-told .given .1),
-)
-
-same-length-4 : tie.Need-same-length-4
-same-length-4 c = search needs
-
-same-length-5 : tie.Need-same-length-5
-same-length-5 c = search needs
-
-same-length-6 : tie.Need-same-length-6
-same-length-6 c = search needs
-
-returns-2 : tie.Need-returns-2
-unfolding lineLeft lineRead
-returns-2 c = (
-  omega (arith, c .before .before .answer-reply .ensures .0),
-  c .before .before .answer-reply .ensures .1 ∙ simp (c .before .before .before .before .before .before .byte .ensures, c .before .before .before .before .before .before .before .before .reading .given .1),
-)
-
 same-length-7 : tie.Need-same-length-7
 same-length-7 c = search needs
 
@@ -157,72 +141,7 @@ same-length-9 c = search needs
 
 returns-3 : tie.Need-returns-3
 unfolding lineLeft lineRead
-returns-3 c = (
-  omega (arith, c .before .before .answer-reply2 .ensures .0),
-  c .before .before .answer-reply2 .ensures .1 ∙ simp (c .before .before .before .before .before .before .taken .ensures, c .before .before .before .before .before .before .before .enum-told2 .given .1),
-)
-
-same-length-10 : tie.Need-same-length-10
-same-length-10 c = search needs
-
-same-length-11 : tie.Need-same-length-11
-same-length-11 c = search needs
-
-same-length-12 : tie.Need-same-length-12
-same-length-12 c = search needs
-
-returns-4 : tie.Need-returns-4
-unfolding lineLeft lineRead
-returns-4 c = (
-  omega (arith, c .before .before .answer-reply3 .ensures .0),
-  c .before .before .answer-reply3 .ensures .1 ∙ simp (c .before .before .before .before .before .before .broken .ensures, c .before .before .before .before .before .before .before .enum-told3 .given .1),
-)
-
-same-length-13 : tie.Need-same-length-13
-same-length-13 c = search needs
-
-same-length-14 : tie.Need-same-length-14
-same-length-14 c = search needs
-
-same-length-15 : tie.Need-same-length-15
-same-length-15 c = search needs
-
-returns-5 : tie.Need-returns-5
-unfolding lineLeft lineRead
-returns-5 c = (
-  omega (arith, c .before .before .answer-reply4 .ensures .0),
-  c .before .before .answer-reply4 .ensures .1 ∙ simp (c .before .before .before .before .before .before .report .ensures, c .before .before .before .before .before .before .before .before .reading2 .given .1),
-)
-
-same-length-16 : tie.Need-same-length-16
-same-length-16 c = search needs
-
-same-length-17 : tie.Need-same-length-17
-same-length-17 c = search needs
-
-same-length-18 : tie.Need-same-length-18
-same-length-18 c = search needs
-
-returns-6 : tie.Need-returns-6
-unfolding lineLeft lineRead
-returns-6 c =
-    let a = c .before .before .before .before .before .before .before .before .before .before .before .before .before .before .before .before .before .before .before .before .args in (
-      omega (arith, c .before .before .before .before .before .before .answer-data .ensures .0),
-      c .before .before .before .before .before .before .answer-data .ensures .1 ∙ simp (take-least (a .bytes .now) _ _ (c .before .before .before .before .before .before .before .before .before .before .before .least .ensures), c .before .before .before .before .before .before .before .before .before .before .before .before .before .reading3 .given .1),
-    )
-
-same-length-19 : tie.Need-same-length-19
-same-length-19 c = search needs
-
-same-length-20 : tie.Need-same-length-20
-same-length-20 c = search needs
-
-same-length-21 : tie.Need-same-length-21
-same-length-21 c = search needs
-
-returns-7 : tie.Need-returns-7
-unfolding lineLeft lineRead
-returns-7 c =
+returns-3 c =
     let a = c .before .before .before .before .before .before .before .before .before .before .before .before .before .before .before .before .before .before .before .before .before .before .before .args in
     let r = c .before .before .before .before .before .before .answer-result in
     let k = c .before .before .before .before .before .before .before .before .before .before .before .before .least4 in
@@ -238,36 +157,34 @@ returns-7 c =
           ),
     )
 
-same-length-22 : tie.Need-same-length-22
-same-length-22 c = search needs
+enum-told-4 : tie.Need-enum-told-4
+enum-told-4 c = search needs
 
-same-length-23 : tie.Need-same-length-23
-same-length-23 c = search needs
+tick-requires : tie.Need-tick-requires
+tick-requires c κs = search needs
 
-same-length-24 : tie.Need-same-length-24
-same-length-24 c = search needs
+enum-told-5 : tie.Need-enum-told-5
+enum-told-5 c = search needs
 
-returns-8 : tie.Need-returns-8
-unfolding lineLeft lineRead
-returns-8 c = (
-  omega (arith, c .before .before .answer-reply5 .ensures .0),
-  c .before .before .answer-reply5 .ensures .1 ∙ simp (c .before .before .before .before .before .before .tick .ensures, c .before .before .before .before .before .before .before .enum-told4 .given .1),
-)
+reset-requires : tie.Need-reset-requires
+reset-requires c κs = search needs
 
-same-length-25 : tie.Need-same-length-25
-same-length-25 c = search needs
+answer-reply-requires : tie.Need-answer-reply-requires
+answer-reply-requires c κs = search needs
 
-same-length-26 : tie.Need-same-length-26
-same-length-26 c = search needs
+same-length-10 : tie.Need-same-length-10
+same-length-10 c = search needs
 
-same-length-27 : tie.Need-same-length-27
-same-length-27 c = search needs
+same-length-11 : tie.Need-same-length-11
+same-length-11 c = search needs
 
-returns-9 : tie.Need-returns-9
-unfolding lineLeft lineRead
-returns-9 c = (
-  omega (arith, c .before .before .answer-reply6 .ensures .0),
-  c .before .before .answer-reply6 .ensures .1 ∙ simp (c .before .before .before .before .before .before .reset .ensures, c .before .before .before .before .before .before .before .enum-told5 .given .1),
+same-length-12 : tie.Need-same-length-12
+same-length-12 c = search needs
+
+returns-4 : tie.Need-returns-4
+returns-4 c = (
+  omega (arith, c .before .before .answer-reply .ensures .0),
+  c .before .before .answer-reply .ensures .1 ∙ replied (c .before .before .before .before .before .before) _ _,
 )
 
 pub answer-reading-spec : {M : Type 1} → statement M
@@ -276,22 +193,26 @@ answer-reading-spec =
     (tie.spec
     enum-told
     answer-unreadable-requires
+    same-length
+    same-length-2
+    same-length-3
+    returns
     enum-known-reading
     byte-requires
-    answer-reply-requires
     enum-told-2
     taken-requires
-    answer-reply-requires-2
     enum-told-3
     broken-requires
-    answer-reply-requires-3
     enum-known-reading-2
     report-requires
-    answer-reply-requires-4
     enum-known-reading-3
     least-requires
     slice-aggregate-answer-data
     answer-data-requires
+    same-length-4
+    same-length-5
+    same-length-6
+    returns-2
     enum-known-reading-4
     least-requires-2
     least-requires-3
@@ -301,45 +222,16 @@ answer-reading-spec =
     slice-relend-prefix-answer-result
     slice-aggregate-answer-result-3
     answer-result-requires
-    enum-told-4
-    tick-requires
-    answer-reply-requires-5
-    enum-told-5
-    reset-requires
-    answer-reply-requires-6
-    same-length
-    same-length-2
-    same-length-3
-    returns
-    same-length-4
-    same-length-5
-    same-length-6
-    returns-2
     same-length-7
     same-length-8
     same-length-9
     returns-3
+    enum-told-4
+    tick-requires
+    enum-told-5
+    reset-requires
+    answer-reply-requires
     same-length-10
     same-length-11
     same-length-12
-    returns-4
-    same-length-13
-    same-length-14
-    same-length-15
-    returns-5
-    same-length-16
-    same-length-17
-    same-length-18
-    returns-6
-    same-length-19
-    same-length-20
-    same-length-21
-    returns-7
-    same-length-22
-    same-length-23
-    same-length-24
-    returns-8
-    same-length-25
-    same-length-26
-    same-length-27
-    returns-9)
+    returns-4)
