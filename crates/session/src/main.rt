@@ -1,32 +1,16 @@
 // The session program: reads lines from standard input to its end, and answers each as soon as it is there.
+mod answers;
+
+use crate::answers::Work;
+use crate::answers::answer_lines;
+use crate::answers::answer_next;
 use controller::controller::Controller;
 use controller::controller::fresh_controller;
 use libc::STDIN_FILENO;
 use libc::STDOUT_FILENO;
-use lines::print::print_unreadable;
-use lines::session::Answered;
-use lines::session::answer_line;
 ghost use mathlib.Core.Path.{_≡_};
 ghost use Prim.Native.Nat.{_≤_, _<_};
 ghost use lib.ListN.{length};
-
-// With no more text than this in hand, the longest answer still fits.
-const ROOM: usize = 31721;
-
-// The state between two lines: how much text is in hand, whether the line that comes next is too long to be read, and whether every
-// write went well.
-struct Work {
-    controller: Controller,
-    count: usize,
-    long: bool,
-    open: bool,
-}
-
-// What is left of the input: the state, and where the line starts that has not ended yet.
-struct Cut {
-    work: Work,
-    from: usize,
-}
 
 // The state between two reads: how many bytes of a line that has not ended stand in the input, and whether to go on.
 struct Session {
@@ -34,132 +18,6 @@ struct Session {
     held: usize,
     long: bool,
     open: bool,
-}
-
-// The place of the first #0A from a place on, or the end.
-fn line_end(input: &[u8], from: usize) -> usize
-    requires { ⌜ from ≤ length (now input) ⌝ }
-    ensures { λ r. ⌜ (from ≤ r) × (r ≤ length (now (input .entry))) ⌝ }
-{
-    let end = input.len();
-    let mut at = from;
-    while at < end {
-        if input[at] == b'\n' {
-            return at;
-        }
-        at += 1;
-    }
-    end
-}
-
-// Room for one more answer: the text in hand is written where there is too little.
-fn with_room(work: Work, out: &[u8]) -> Work
-    requires { ⌜ work .count ≤ length (now out) ⌝ }
-    ensures { λ r. ⌜ r .count ≤ 31721 ⌝ }
-{
-    let count = work.count;
-    if count <= ROOM {
-        return work;
-    }
-    let controller = work.controller;
-    let written = io::write_all(STDOUT_FILENO, &out[..count]);
-    Work {
-        controller,
-        count: 0,
-        long: work.long,
-        open: written & work.open,
-    }
-}
-
-// A line's answer, put after the text in hand. A line that is too long is unreadable.
-fn put_answer(
-    c: Controller,
-    long: bool,
-    line: &[u8],
-    bytes: &mut [u8; 16898],
-    marks: &mut [u8; 66],
-    space: &mut [u8; 16898],
-    check: &mut [u8; 512],
-    out: &mut [u8],
-    count: usize,
-) -> Answered
-    requires { ⌜ (count ≤ 31721) × (length (now out) ≡ 65536) ⌝ }
-    ensures { λ r. ⌜ r .count ≤ 65536 ⌝ }
-{
-    if long {
-        let more = print_unreadable(&mut out[count..]);
-        return Answered {
-            controller: c,
-            count: count + more,
-        };
-    }
-    let answer = answer_line(c, line, bytes, marks, space, check, &mut out[count..]);
-    let next = answer.controller;
-    Answered {
-        controller: next,
-        count: count + answer.count,
-    }
-}
-
-// One line.
-fn answer_next(
-    work: Work,
-    line: &[u8],
-    bytes: &mut [u8; 16898],
-    marks: &mut [u8; 66],
-    space: &mut [u8; 16898],
-    check: &mut [u8; 512],
-    out: &mut [u8],
-) -> Work
-    requires { ⌜ (work .count ≤ 65536) × (length (now out) ≡ 65536) ⌝ }
-    ensures { λ r. ⌜ r .count ≤ 65536 ⌝ }
-{
-    let ready = with_room(work, out);
-    let c = ready.controller;
-    let answer = put_answer(
-        c,
-        ready.long,
-        line,
-        bytes,
-        marks,
-        space,
-        check,
-        out,
-        ready.count,
-    );
-    let controller = answer.controller;
-    Work {
-        controller,
-        count: answer.count,
-        long: false,
-        open: ready.open,
-    }
-}
-
-// Every whole line of the input. The first `held` bytes were looked through before and have no #0A.
-fn answer_lines(
-    first: Work,
-    input: &[u8],
-    held: usize,
-    bytes: &mut [u8; 16898],
-    marks: &mut [u8; 66],
-    space: &mut [u8; 16898],
-    check: &mut [u8; 512],
-    out: &mut [u8],
-) -> Cut
-    requires { ⌜ (first .count ≤ 65536) × (length (now out) ≡ 65536) ⌝ }
-    requires { ⌜ held ≤ length (now input) ⌝ }
-    ensures { λ r. ⌜ (r .work .count ≤ 65536) × (r .from ≤ length (now (input .entry))) ⌝ }
-{
-    let mut work = first;
-    let mut from = 0;
-    let mut end = line_end(input, held);
-    while end < input.len() {
-        work = answer_next(work, &input[from..end], bytes, marks, space, check, out);
-        from = end + 1;
-        end = line_end(input, from);
-    }
-    Cut { work, from }
 }
 
 // Moves the bytes from a place on to the start.
@@ -236,15 +94,9 @@ fn answer_read(
     requires { ⌜ length (now out) ≡ 65536 ⌝ }
     ensures { λ r. ⌜ r .held < 65536 ⌝ }
 {
-    let c = session.controller;
-    let work = Work {
-        controller: c,
-        count: 0,
-        long: session.long,
-        open: true,
-    };
     let cut = answer_lines(
-        work,
+        session.controller,
+        session.long,
         &input[..end],
         session.held,
         bytes,
@@ -253,15 +105,13 @@ fn answer_read(
         check,
         out,
     );
-    let left = cut.work;
+    let controller = cut.work.controller;
     let from = cut.from;
-    let count = left.count;
+    let count = cut.work.count;
     let written = io::write_all(STDOUT_FILENO, &out[..count]);
     move_to_start(input, from, end);
-    let controller = left.controller;
-    let fine = written & left.open;
-    if fine {
-        return held_line(controller, end - from, left.long);
+    if written & cut.work.open {
+        return held_line(controller, end - from, cut.work.long);
     }
     failed(controller)
 }

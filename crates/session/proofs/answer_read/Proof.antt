@@ -9,22 +9,22 @@ use borrow.Author.Needs.{needs}
 use Rattle.session.proofs.answer_read.Statement.{statement}
 use Rattle.session.proofs.answer_read.Tie as tie
 
+-- the bytes in hand are as many as is said
+in-hand : (e : tie.Start) → e .args .end ≡ length (take (e .args .end) (e .args .input .now))
+in-hand e =
+    let inside : e .args .end ≤ length (e .args .input .now) = omega (arith, e .pre) in
+    sym (length-take-le (e .args .end) (e .args .input .now) inside)
+
 slice-reshare-prefix-answer-lines : tie.Need-slice-reshare-prefix-answer-lines
 slice-reshare-prefix-answer-lines c = search needs
 
 slice-aggregate-answer-lines : tie.Need-slice-aggregate-answer-lines
-slice-aggregate-answer-lines c =
-    let e = c .before .before .before .before in
-    let inside : e .args .end ≤ length (e .args .input .now) = omega (arith, e .pre) in
-    let many : e .args .end ≡ length (take (e .args .end) (e .args .input .now)) = sym (length-take-le (e .args .end) (e .args .input .now) inside) in
-    many
+slice-aggregate-answer-lines c = in-hand (c .before .before .before)
 
 answer-lines-requires : tie.Need-answer-lines-requires
 answer-lines-requires c κs =
-    let e = c .before .before .before .before .before .before .before .before .before in
-    let inside : e .args .end ≤ length (e .args .input .now) = omega (arith, e .pre) in
-    let many : e .args .end ≡ length (take (e .args .end) (e .args .input .now)) = sym (length-take-le (e .args .end) (e .args .input .now) inside) in
-    omega (arith, many, e .pre)
+    let e = c .before .before .before .before .before .before .before .before in
+    omega (arith, in-hand e, e .pre)
 
 slice-reshare-prefix-write-all : tie.Need-slice-reshare-prefix-write-all
 slice-reshare-prefix-write-all c = search needs
@@ -32,25 +32,21 @@ slice-reshare-prefix-write-all c = search needs
 slice-aggregate-write-all : tie.Need-slice-aggregate-write-all
 slice-aggregate-write-all c =
     let r = c .before .before .before .before .answer-lines in
-    let within : r .result .work .count ≤ length (r .last .1 .1 .1 .1 .1 .1 .1 .0) = omega (arith, r .ensures, r .kept .1 .1 .1 .1 .1 .1 .1 .0, c .before .before .before .before .before .before .before .before .before .before .before .before .before .before .pre) in
-    sym (length-take-le (r .result .work .count) (r .last .1 .1 .1 .1 .1 .1 .1 .0) within)
+    let within : r .result .work .count ≤ length (r .last .1 .1 .1 .1 .1 .1 .1 .1 .0) = omega (arith, r .ensures, r .kept .1 .1 .1 .1 .1 .1 .1 .1 .0, c .before .before .before .before .before .before .before .before .before .before .before .before .before .pre) in
+    sym (length-take-le (r .result .work .count) (r .last .1 .1 .1 .1 .1 .1 .1 .1 .0) within)
 
 write-all-requires : tie.Need-write-all-requires
 write-all-requires c κs = search needs
 
 move-to-start-requires : tie.Need-move-to-start-requires
 move-to-start-requires c κs =
-    let e = c .before .before .before .before .before .before .before .before .before .before .before .before .before .before .before .before in
-    let inside : e .args .end ≤ length (e .args .input .now) = omega (arith, e .pre) in
-    let many : e .args .end ≡ length (take (e .args .end) (e .args .input .now)) = sym (length-take-le (e .args .end) (e .args .input .now) inside) in
-    omega (arith, many, c .before .before .before .before .before .before .answer-lines .ensures, e .pre)
+    let e = c .before .before .before .before .before .before .before .before .before .before .before .before .before .before .before in
+    omega (arith, in-hand e, c .before .before .before .before .before .before .answer-lines .ensures, e .pre)
 
 sub-held-line : tie.Need-sub-held-line
 sub-held-line c =
-    let e = c .before .before .before .before .before .before .before .before .before .before .before .before .before .before .before .before .before .before .before .before .before .before in
-    let inside : e .args .end ≤ length (e .args .input .now) = omega (arith, e .pre) in
-    let many : e .args .end ≡ length (take (e .args .end) (e .args .input .now)) = sym (length-take-le (e .args .end) (e .args .input .now) inside) in
-    omega (arith, many, c .before .before .before .before .before .before .before .before .before .before .before .before .answer-lines .ensures, e .pre)
+    let e = c .before .before .before .before .before .before .before .before .before .before .before .before .before .before .before .before .before .before .before .before in
+    omega (arith, in-hand e, c .before .before .before .before .before .before .before .before .before .before .before .answer-lines .ensures, e .pre)
 
 held-line-requires : tie.Need-held-line-requires
 held-line-requires c κs = search needs
@@ -59,7 +55,7 @@ same-length : tie.Need-same-length
 same-length c = search needs
 
 same-length-2 : tie.Need-same-length-2
-same-length-2 c = c .before .before .before .before .before .before .before .before .before .before .before .before .before .answer-lines .kept .1 .1 .1 .1 .1 .1 .1 .0
+same-length-2 c = c .before .before .before .before .before .before .before .before .before .before .before .before .answer-lines .kept .1 .1 .1 .1 .1 .1 .1 .1 .0
 
 returns : tie.Need-returns
 returns c = search needs
@@ -71,7 +67,7 @@ same-length-3 : tie.Need-same-length-3
 same-length-3 c = search needs
 
 same-length-4 : tie.Need-same-length-4
-same-length-4 c = c .before .before .before .before .before .before .before .before .before .before .before .before .before .answer-lines .kept .1 .1 .1 .1 .1 .1 .1 .0
+same-length-4 c = c .before .before .before .before .before .before .before .before .before .before .before .before .answer-lines .kept .1 .1 .1 .1 .1 .1 .1 .1 .0
 
 returns-2 : tie.Need-returns-2
 returns-2 c = search needs

@@ -1,19 +1,18 @@
--- `session::answer_lines` meets its contract: before each turn the line that comes next starts before its end, within the input, and the text in hand lies within its space.
+-- `session::answers::answer_lines` meets its contract: before each turn the line that comes next starts before its end, within the input, and the text in hand lies within its space.
 -- Assumes nothing.
-
 use borrow.Author.Needs.{needs}
 use native.Mathlib.Omega.{arith}
 use mathlib.Core.Path.{_≡_}
 use Prim.Native.Nat.{_≤_, _-_}
 use lib.ListN.{length}
-use Rattle.session.proofs.answer_lines.Statement.{statement}
-use Rattle.session.proofs.answer_lines.Tie as tie
+use Rattle.session.proofs.answers.answer_lines.Statement.{statement}
+use Rattle.session.proofs.answers.answer_lines.Tie as tie
 
 abbrev Inv-loop : tie.InvT-loop
-Inv-loop input held bytes₀ marks₀ space₀ check₀ out₀ work₀ from₀ end₀ bytes marks space check out work from end = (work .count ≤ 65536) × (length out ≡ 65536) × (from ≤ end) × (end ≤ length input)
+Inv-loop long input held bytes₀ marks₀ space₀ check₀ out₀ work₀ from₀ end₀ bytes marks space check out work from end = (work .count ≤ 65536) × (length out ≡ 65536) × (from ≤ end) × (end ≤ length input)
 
 abbrev μ-loop : tie.MeasureT-loop
-μ-loop input held bytes₀ marks₀ space₀ check₀ out₀ work₀ from₀ end₀ bytes marks space check out work from end = length input - end
+μ-loop long input held bytes₀ marks₀ space₀ check₀ out₀ work₀ from₀ end₀ bytes marks space check out work from end = length input - end
 
 line-end-requires : tie.Need-line-end-requires Inv-loop μ-loop
 line-end-requires c κs = search needs
@@ -34,7 +33,7 @@ answer-next-requires : tie.Need-answer-next-requires Inv-loop μ-loop
 answer-next-requires c κs = search needs
 
 add-from : tie.Need-add-from Inv-loop μ-loop
-add-from c = omega (arith, c .before .before .before .before .before .before .before .before .before .loop-test .taken, c .before .before .before .before .before .before .before .before .before .before .before .before .before .before .good .1 .0)
+add-from c = omega (arith, c .before .before .before .before .before .before .before .before .before .loop-test .taken, c .before .before .before .before .before .before .before .before .before .before .before .before .before .before .good .1 .1 .0)
 
 line-end-requires-2 : tie.Need-line-end-requires-2 Inv-loop μ-loop
 line-end-requires-2 c κs = search needs

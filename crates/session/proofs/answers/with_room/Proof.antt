@@ -1,17 +1,18 @@
--- `session::with_room` meets its contract: the text in hand lies within its space.
+-- `session::answers::with_room` meets its contract: the text in hand lies within its space.
 -- Assumes nothing.
-
 use mathlib.Core.Path.{sym}
 use lib.Seq.{length-take-le}
 use borrow.Author.Needs.{needs}
-use Rattle.session.proofs.with_room.Statement.{statement}
-use Rattle.session.proofs.with_room.Tie as tie
+use Rattle.session.proofs.answers.with_room.Statement.{statement}
+use Rattle.session.proofs.answers.with_room.Tie as tie
 
 returns : tie.Need-returns
 returns c = search needs
 
 slice-aggregate-write-all : tie.Need-slice-aggregate-write-all
-slice-aggregate-write-all c = sym (length-take-le (c .before .before .before .before .args .work .count) (c .before .before .before .before .args .out .now) (c .before .before .before .before .pre))
+slice-aggregate-write-all c =
+    let e = c .before .before .before in
+    sym (length-take-le (e .args .count) (e .args .out .now) (e .pre))
 
 write-all-requires : tie.Need-write-all-requires
 write-all-requires c κs = search needs

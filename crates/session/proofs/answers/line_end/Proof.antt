@@ -1,10 +1,10 @@
--- `session::line_end` meets its contract: its place lies within the input.
+-- `session::answers::line_end` meets its contract: its place lies within the input.
 -- Assumes nothing.
 use borrow.Author.Needs.{needs}
 use Prim.Native.Nat.{_≤_, _-_}
 use lib.ListN.{length}
-use Rattle.session.proofs.line_end.Statement.{statement}
-use Rattle.session.proofs.line_end.Tie as tie
+use Rattle.session.proofs.answers.line_end.Statement.{statement}
+use Rattle.session.proofs.answers.line_end.Tie as tie
 
 abbrev Inv-loop : tie.InvT-loop
 Inv-loop input from end at₀ at = (from ≤ at) × (at ≤ length input)

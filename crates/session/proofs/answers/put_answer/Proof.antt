@@ -1,10 +1,9 @@
--- `session::put_answer` meets its contract: the longest answer fits.
+-- `session::answers::put_answer` meets its contract: the longest answer fits.
 -- Assumes nothing.
-
 use native.Mathlib.Omega.{arith}
 use borrow.Author.Needs.{needs}
-use Rattle.session.proofs.put_answer.Statement.{statement}
-use Rattle.session.proofs.put_answer.Tie as tie
+use Rattle.session.proofs.answers.put_answer.Statement.{statement}
+use Rattle.session.proofs.answers.put_answer.Tie as tie
 
 sub-print-unreadable : tie.Need-sub-print-unreadable
 sub-print-unreadable c = search needs
