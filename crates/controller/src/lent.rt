@@ -213,8 +213,8 @@ impl Controller {
             return refuse_transfer(3, self);
         };
         let moved = get(self.body.drives, self.body.selected);
-        let room = check.len();
-        let refusal = result_refusal(moved, operation, code, mark, late, image, marks, room);
+        let stored = check.len();
+        let refusal = result_refusal(moved, operation, code, mark, late, image, marks, stored);
         if refusal != 0 {
             return refuse_transfer(refusal, self);
         }

@@ -91,8 +91,7 @@ pub fn motion_order(b: Body, operation: Operation, store: Store) -> Six
 pub fn past_test(mut b: Body, operation: Operation) -> Body
     ensures { λ r. ⌜ r ≡ pastTest b operation ⌝ }
 {
-    let counts = counts_bytes(operation);
-    if counts {
+    if counts_bytes(operation) {
         b.secondary = 0;
     }
     b
@@ -103,8 +102,7 @@ pub fn end_operation(b: Body, operation: Operation, store: Store) -> Turn
     ensures { λ r. ⌜ r ≡ ending b operation store ⌝ }
 {
     let asked = asks_interrupt(store);
-    let offered = offers_end(operation);
-    if offered {
+    if offers_end(operation) {
         return Turn {
             body: b,
             phase: Phase::EndOffered(asked),

@@ -4,7 +4,7 @@ use borrow.Author.Needs.{needs}
 use borrow.Author.Tests.{eq-eqb, ne-eqb}
 use Prim.Native.Nat.{ℕ}
 use mathlib.Core.Bool.{true}
-use mathlib.Core.Path.{_≡_, refl, _∙_}
+use mathlib.Core.Path.{_≡_, refl}
 use mathlib.Core.List.{List, [], _∷_}
 use types.Run.{OneOf, miss}
 use denote.Enum.Declared.{tagOf}
@@ -117,14 +117,13 @@ returns-4 c =
     let d = t .before in
     let g = d .before in
     let p = g .before .before in
-    w .data-done .ensures
-    ∙ rw (
+    rw (
       whole (p .before .before),
       p .phase .given .1,
       ← g .get .ensures,
       ← d .data-refusal .ensures,
       eq-eqb _ _ (t .if2 .left),
-    )
+    ) (w .data-done .ensures)
 
 pub data-spec : {M : Type 1} → statement M
 data-spec =
