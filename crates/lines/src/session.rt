@@ -7,10 +7,12 @@ use crate::print::print_unreadable;
 use common::least;
 use controller::controller::Controller;
 use controller::controller::Reply;
+use controller::controller::Transfer;
 ghost use mathlib.Core.Path.{_≡_};
 ghost use Prim.Native.Nat.{_+_, _*_, _≤_};
 ghost use lib.ListN.{length};
 ghost use Rattle.transfers.specs.Results.{resultOf};
+ghost use Rattle.controller.specs.Records.{answered};
 ghost use Rattle.controller.specs.Machine.{dataCall, resultCall};
 ghost use Rattle.lines.specs.Line.{Line, lineOf, lineRead};
 ghost use Rattle.lines.specs.Session.{replyLeft, transferLeft, lineLeft, left};
@@ -44,6 +46,19 @@ pub fn answer_unreadable(c: Controller, space: &[u8], check: &[u8], out: &mut [u
     }
 }
 
+// A data call or a result: the reply, and the bytes that it gives at the start of the space.
+pub fn answer_transfer(transfer: Transfer, space: &[u8], check: &[u8], out: &mut [u8]) -> Answered
+    requires { ⌜ 19 + 2 * length (now space) ≤ length (now out) ⌝ }
+    ensures { λ r. ⌜ (r .count ≤ 19 + 2 * length (now (space .entry))) × (left r (now (space .entry)) (now (check .entry)) (now (out .exit)) ≡ transferLeft (answered transfer (now (space .entry)) (now (check .entry)))) ⌝ }
+{
+    let reply = transfer.reply;
+    let controller = reply.controller;
+    let action = reply.action;
+    let given = least(transfer.bytes, space.len());
+    let count = print_answer(reply.refusal, action, &space[..given], out);
+    Answered { controller, count }
+}
+
 // Host bytes.
 pub fn answer_data(
     c: Controller,
@@ -56,12 +71,7 @@ pub fn answer_data(
     ensures { λ r. ⌜ (r .count ≤ 19 + 2 * length (now (space .entry))) × (left r (now (space .exit)) (now (check .exit)) (now (out .exit)) ≡ transferLeft (dataCall c (now (host .entry)) (now (space .entry)) (now (check .entry)))) ⌝ }
 {
     let transfer = c.data(host, space, check);
-    let reply = transfer.reply;
-    let controller = reply.controller;
-    let action = reply.action;
-    let given = least(transfer.bytes, space.len());
-    let count = print_answer(reply.refusal, action, &space[..given], out);
-    Answered { controller, count }
+    answer_transfer(transfer, space, check, out)
 }
 
 // A result, with as much space as it is lent.
@@ -80,12 +90,7 @@ pub fn answer_result(
     ensures { λ r. ⌜ (r .count ≤ 19 + 2 * length (now (space .entry))) × (left r (now (space .exit)) (now (check .exit)) (now (out .exit)) ≡ transferLeft (resultCall c (resultOf code mark late (now (image .entry)) (now (marks .entry))) (now (space .entry)) (now (check .entry)))) ⌝ }
 {
     let transfer = c.result(code, mark, late, image, marks, space, check);
-    let reply = transfer.reply;
-    let controller = reply.controller;
-    let action = reply.action;
-    let given = least(transfer.bytes, space.len());
-    let count = print_answer(reply.refusal, action, &space[..given], out);
-    Answered { controller, count }
+    answer_transfer(transfer, space, check, out)
 }
 
 // A line that was read.
