@@ -1,0 +1,186 @@
+//! Times the library on records of 16,384 bytes beside two programs that fold one byte at a time.
+
+use crate::byte_at_a_time::{by_index, by_iterator};
+use crate::library;
+use std::hint::black_box;
+use std::time::Instant;
+
+pub const COUNT: usize = 16_384;
+pub const PLACES: usize = COUNT / 256 + 2;
+pub const IMAGE: usize = 2 + 256 * PLACES;
+const ROUNDS: usize = 3000;
+/// Calls in one timing: long enough for the clock, short enough to fall between two interruptions.
+const CALLS: usize = 20;
+
+type Build = fn(&[u8], u8, &mut [u8]) -> u32;
+type Restore = fn(&[u8], &[u8], &mut [u8]) -> u32;
+type Call<'a> = Box<dyn Fn(&mut [u8]) -> u32 + 'a>;
+
+/// The programs to be timed; the first is the one that the others are compared with.
+const PROGRAMS: [(&str, Build, Restore); 3] = [
+    ("library", library::build, library::restore),
+    ("by index", by_index::build, by_index::restore),
+    ("by iterator", by_iterator::build, by_iterator::restore),
+];
+
+/// Places of the lent space that take turns: how two buffers lie to each other can double a time.
+const STARTS: usize = 64;
+const STEP: usize = 64;
+
+/// One thing to be timed with every program, all of them on the same space.
+struct Job<'a> {
+    name: &'a str,
+    calls: Vec<Call<'a>>,
+    length: usize,
+    space: Vec<u8>,
+    /// Nanoseconds of a call, the least of all rounds, for each program.
+    least: Vec<f64>,
+}
+
+impl<'a> Job<'a> {
+    fn of(name: &'a str, length: usize, calls: Vec<Call<'a>>) -> Self {
+        Job {
+            name,
+            length,
+            space: vec![0; length + STARTS * STEP],
+            least: vec![f64::INFINITY; calls.len()],
+            calls,
+        }
+    }
+
+    fn building(name: &'a str, record: &'a [u8], density: u8) -> Self {
+        let with = |(_, build, _): (&str, Build, Restore)| -> Call<'a> {
+            Box::new(move |image| build(black_box(record), black_box(density), image))
+        };
+        Job::of(name, IMAGE, PROGRAMS.map(with).into())
+    }
+
+    fn restoring(name: &'a str, image: &'a [u8], marks: &'a [u8]) -> Self {
+        let with = |(_, _, restore): (&str, Build, Restore)| -> Call<'a> {
+            Box::new(move |out| restore(black_box(image), black_box(marks), out))
+        };
+        Job::of(name, COUNT, PROGRAMS.map(with).into())
+    }
+
+    fn time(&mut self, program: usize, round: usize) {
+        let start = STEP * (round % STARTS);
+        let space = &mut self.space[start..start + self.length];
+        let begun = Instant::now();
+        for _ in 0..CALLS {
+            assert_eq!((self.calls[program])(black_box(space)), 0);
+        }
+        let took = begun.elapsed().as_nanos() as f64 / CALLS as f64;
+        self.least[program] = self.least[program].min(took);
+    }
+}
+
+/// A record with its image, and the same image with one odd and one even blockette spoiled.
+struct Example {
+    record: Vec<u8>,
+    image: Vec<u8>,
+    good: Vec<u8>,
+    spoiled: Vec<u8>,
+    two_bad: Vec<u8>,
+}
+
+pub fn random_bytes(count: usize) -> Vec<u8> {
+    let mut state: u32 = 8000;
+    let mut bytes = Vec::new();
+    for _ in 0..count {
+        state = state.wrapping_mul(1_664_525).wrapping_add(1_013_904_223);
+        bytes.push((state >> 24) as u8);
+    }
+    bytes
+}
+
+fn example() -> Example {
+    let record = random_bytes(COUNT);
+    let mut image = vec![0; IMAGE];
+    assert_eq!(library::build(&record, 1, &mut image), 0);
+    let good = vec![15; PLACES];
+    let mut two_bad = good.clone();
+    let mut spoiled = image.clone();
+    for (place, mark) in [(20, 3), (41, 7)] {
+        two_bad[place] = mark;
+        spoiled[2 + 256 * place..2 + 256 * (place + 1)].fill(0x55);
+    }
+    Example {
+        record,
+        image,
+        good,
+        spoiled,
+        two_bad,
+    }
+}
+
+/// All programs must do the same before they are timed.
+fn expect_agreement(example: &Example) {
+    for (program, build, restore) in PROGRAMS {
+        let mut built = vec![0; IMAGE];
+        assert_eq!(build(&example.record, 1, &mut built), 0, "{program}");
+        assert!(built == example.image, "{program}: another GCR image");
+        assert_eq!(build(&example.record, 0, &mut built), 0, "{program}");
+        assert!(
+            built[2..2 + COUNT] == example.record,
+            "{program}: another MFM image"
+        );
+        for (image, marks) in [
+            (&example.image, &example.good),
+            (&example.spoiled, &example.two_bad),
+        ] {
+            let mut out = vec![0; COUNT];
+            assert_eq!(restore(image, marks, &mut out), 0, "{program}");
+            assert!(out == example.record, "{program}: another record came back");
+        }
+    }
+}
+
+fn print_row(job: &str, least: &[f64]) {
+    let ratios: Vec<String> = least[1..]
+        .iter()
+        .map(|time| format!("{:.2}", time / least[0]))
+        .collect();
+    let nanoseconds: Vec<String> = least.iter().map(|time| format!("{time:.0}")).collect();
+    println!(
+        "| {job} | {} | {} |",
+        ratios.join(" | "),
+        nanoseconds.join(" | ")
+    );
+}
+
+pub fn print_table() {
+    let example = example();
+    expect_agreement(&example);
+    let mut jobs = [
+        Job::building("builder, GCR", &example.record, 1),
+        Job::building("builder, MFM (no check bytes)", &example.record, 0),
+        Job::restoring(
+            "restorer, one odd and one even bad",
+            &example.spoiled,
+            &example.two_bad,
+        ),
+        Job::restoring("restorer, none bad", &example.image, &example.good),
+    ];
+    for round in 0..ROUNDS {
+        for job in &mut jobs {
+            for turn in 0..PROGRAMS.len() {
+                // who comes first changes from round to round
+                job.time((round + turn) % PROGRAMS.len(), round);
+            }
+        }
+    }
+    println!(
+        "| 16,384-byte records | by index : library | by iterator : library | library, ns \
+         | by index, ns | by iterator, ns |"
+    );
+    println!("|---|---:|---:|---:|---:|---:|");
+    let [gcr, mfm, spoiled, good] = &jobs;
+    let folds: Vec<f64> = (gcr.least.iter().zip(&mfm.least))
+        .map(|(gcr, mfm)| (gcr - mfm).max(1.0))
+        .collect();
+    print_row(gcr.name, &gcr.least);
+    print_row(mfm.name, &mfm.least);
+    print_row("check fold (GCR less MFM)", &folds);
+    print_row(spoiled.name, &spoiled.least);
+    print_row(good.name, &good.least);
+}
