@@ -19,7 +19,7 @@ use Rattle.operations.specs.declared.operation.Operation.the-variants.{Read, Ch
 use Rattle.operations.specs.declared.decode.Decoded.{Decoded}
 use Rattle.operations.specs.declared.decode.Decoded.the-variants.{Reset, Code, Track, Enable, Density, Operate}
 use Rattle.operations.specs.declared.store.Store.{Store}
-use Rattle.operations.specs.Operation.{numberOf, moveOf}
+use Rattle.operations.specs.Operation.{moveOf, sameOperation}
 use Rattle.operations.specs.Store.{asked, heldCount}
 use Rattle.operations.specs.Test.{mayMove}
 use Rattle.link.specs.declared.state.Phase.{Phase}
@@ -38,8 +38,8 @@ use Rattle.controller.specs.Stores.{storeOf, tracked, withDensity, pastT
 use Rattle.controller.specs.Records.{zeroedWords, dataDone, resultBody, resultGiven, resultDone}
 use Rattle.controller.specs.Machine.{unchanged, reportNoted, dataIn, resultIn, Call, Exchange, plain, step, run}
 use Rattle.controller.specs.Machine.Call.{byte, taken, broken, report, hostData, result, tick, reset}
-use Rattle.controller.specs.Lists.{notRefused, isTaken, holdsStore, carriesOut, lastStore, noStore}
-use Rattle.controller.specs.Counts.{OwnRecord, isWrite, passedBy, recordAfter, ownRecord, Sends, ValidFrom, CountsAreOwn}
+use Rattle.controller.specs.Lists.{notRefused, isTaken, holdsStore, carriesOut, lastStore, noStore, asksFor}
+use Rattle.controller.specs.Counts.{OwnRecord, passedBy, recordAfter, ownRecord, Sends, ValidFrom, CountsAreOwn}
 use Rattle.controller.specs.Counts.OwnRecord.{noRecord, recordOf}
 use Rattle.controller.proofs.Steps.Resting.{Free, Rests, ended-rests, settled-rests, go-refused-rests, ending-rests}
 use Rattle.controller.proofs.Steps.Strings.{marked, HeldUpToDate, SentUpToDate, StringsUpToDate, ended-strings, settled-strings, go-refused-strings, ending-strings}
@@ -230,21 +230,6 @@ writes-case : OfData Keeps
 unfolding dataIn
 writes-case b held host space check = data-for Keeps refusals-case b held _ host space check (written b held _ host space check)
 
--- a write well done, by the number of its operation
-writes-well : (operation : Operation) (code : ℕ) → wroteWell operation code ≡ (eqb (numberOf operation) (numberOf Write) && eqb code 0)
-unfolding wroteWell
-writes-well Read code = refl
-writes-well CheckBytes code = refl
-writes-well Write code = refl
-writes-well Erase code = refl
-writes-well Rewind code = refl
-writes-well FastForward code = refl
-writes-well SkipForward code = refl
-writes-well SkipReverse code = refl
-writes-well SearchForward code = refl
-writes-well SearchReverse code = refl
-writes-well WriteMark code = refl
-
 -- a result's code is 0 in the end only if the tape was there and the code was 0 at first
 final-zero :
     (drive : Drive) (operation : Operation) (r : Result)
@@ -269,13 +254,13 @@ module _ (drive : Drive) (operation : Operation) (last store : Store) (r : Resul
 
   -- a write well done is the store's own
   write-told : usesImage drive operation r ≡ false → wroteWell operation (finalCode drive operation r) ≡ true → told
-  unfolding passedBy resultSecondary usesImage isWrite
+  unfolding passedBy resultSecondary usesImage wroteWell asksFor
   write-told unused well =
-      let (writes, zero) = both-hold (eqb (numberOf operation) (numberOf Write)) (eqb (finalCode drive operation r) 0) (sym (writes-well operation _) ∙ well) in
+      let (writes, zero) = both-hold (sameOperation operation Write) (eqb (finalCode drive operation r) 0) well in
       let (there, code) = final-zero drive operation r (eqb-true (finalCode drive operation r) 0 zero) in
       let empty : eqb (length (r .image)) 0 ≡ true = not-false (eqb (length (r .image)) 0) (sym (ap (λ (t : Bool). not t && not (eqb (length (r .image)) 0)) there) ∙ unused) in
       pick-yes _ _ empty
-      ∙ pick-yes _ _ (ap₂ (λ (decode : Decoded) (n : ℕ). isWrite decode && eqb n 0) asks code ∙ ap (λ (t : Bool). t && true) writes)
+      ∙ pick-yes _ _ (ap₂ (λ (decode : Decoded) (n : ℕ). asksFor Write decode && eqb n 0) asks code ∙ ap (λ (t : Bool). t && true) writes)
       ∙ ap (λ (s : Store). recordOf (heldCount s)) (sym same)
       ∙ sym (ap recordOf (pick-no _ _ unused ∙ pick-yes _ _ well))
 

@@ -3,17 +3,14 @@
 -- Assumes nothing.
 use mathlib.Core.Path.{_≡_}
 use Prim.Native.Nat.{ℕ, _/_, _%_}
-use mathlib.Core.Bool.{Bool, true, false, _&&_}
+use mathlib.Core.Bool.{Bool, true, _&&_}
 use mathlib.Core.List.{List, [], _∷_}
 use lib.Dec.{eqb}
 use lib.ListN.{length}
 use Rattle.common.specs.Pick.{pick}
 use Rattle.records.specs.Count.{countOf}
 use Rattle.operations.specs.declared.operation.Operation.the-variants.{Write}
-use Rattle.operations.specs.declared.decode.Decoded.{Decoded}
-use Rattle.operations.specs.declared.decode.Decoded.the-variants.{Reset, Code, Track, Enable, Density, Operate}
 use Rattle.operations.specs.declared.store.Store.{Store}
-use Rattle.operations.specs.Operation.{numberOf}
 use Rattle.operations.specs.Store.{asked, heldCount}
 use Rattle.status.specs.declared.words.Word.{Word}
 use Rattle.status.specs.declared.strings.Six.{Six}
@@ -28,7 +25,7 @@ use Rattle.controller.specs.declared.controller.Reply.{Reply}
 use Rattle.controller.specs.Controller.{fresh}
 use Rattle.controller.specs.Machine.{Call, Exchange}
 use Rattle.controller.specs.Machine.Call.{byte, taken, broken, report, hostData, result, tick, reset}
-use Rattle.controller.specs.Lists.{notRefused, holdsStore, lastStore, noStore}
+use Rattle.controller.specs.Lists.{notRefused, holdsStore, lastStore, noStore, asksFor}
 
 -- ---- the record of a store
 
@@ -37,18 +34,10 @@ pub data OwnRecord : Type 0 where
   noRecord : OwnRecord
   recordOf : ℕ → OwnRecord
 
-unfoldable pub isWrite : Decoded → Bool
-isWrite (Operate operation) = eqb (numberOf operation) (numberOf Write)
-isWrite Reset = false
-isWrite (Code code) = false
-isWrite (Track track) = false
-isWrite (Enable enable) = false
-isWrite (Density density) = false
-
 -- of a store's result: the record of its image, or, "writes with code 0", the one that it wrote
 unfoldable pub passedBy : Store → Result → OwnRecord
 passedBy store r =
-    pick (eqb (length (r .image)) 0) (pick (isWrite (asked store) && eqb (r .code) 0) (recordOf (heldCount store)) noRecord)
+    pick (eqb (length (r .image)) 0) (pick (asksFor Write (asked store) && eqb (r .code) 0) (recordOf (heldCount store)) noRecord)
     (recordOf (countOf (r .image)))
 
 -- a call not refused: a store that is carried out has no record yet, and its result may tell of one. `store` is the last store carried out,

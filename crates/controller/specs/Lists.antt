@@ -5,7 +5,11 @@ use mathlib.Core.Bool.{Bool, true, false, not, _&&_}
 use mathlib.Core.List.{List, [], _∷_}
 use lib.Dec.{eqb}
 use Rattle.common.specs.Pick.{pick}
+use Rattle.operations.specs.declared.operation.Operation.{Operation}
+use Rattle.operations.specs.declared.decode.Decoded.{Decoded}
+use Rattle.operations.specs.declared.decode.Decoded.the-variants.{Reset, Code, Track, Enable, Density, Operate}
 use Rattle.operations.specs.declared.store.Store.{Store}
+use Rattle.operations.specs.Operation.{sameOperation}
 use Rattle.controller.specs.declared.controller.Controller.{Controller}
 use Rattle.controller.specs.Stores.{storeOf}
 use Rattle.controller.specs.Machine.{Call, Exchange}
@@ -40,6 +44,15 @@ lastStore last c x = pick (carriesOut c x) (storeOf (c .body .collected)) last
 -- before the first store: one that names no drive
 abbrev pub noStore : Store
 noStore = record { address = 0; first = 0; second = 0; third = 0; fourth = 0 }
+
+-- a store that asks for this operation
+unfoldable pub asksFor : Operation → Decoded → Bool
+asksFor this (Operate operation) = sameOperation operation this
+asksFor this Reset = false
+asksFor this (Code code) = false
+asksFor this (Track track) = false
+asksFor this (Enable enable) = false
+asksFor this (Density density) = false
 
 -- the state after a list
 unfoldable pub after : Controller → List Exchange → Controller

@@ -12,7 +12,6 @@ use Rattle.common.specs.Pick.{pick}
 use Rattle.operations.specs.declared.decode.Decoded.{Decoded}
 use Rattle.operations.specs.declared.decode.Decoded.the-variants.{Reset, Code, Track, Enable, Density, Operate}
 use Rattle.operations.specs.declared.operation.Operation.the-variants.{Read}
-use Rattle.operations.specs.Operation.{numberOf}
 use Rattle.status.specs.declared.drives.Drive.{Drive}
 use Rattle.status.specs.declared.strings.Six.{Six}
 use Rattle.status.specs.Drives.{driveOf}
@@ -28,7 +27,7 @@ use Rattle.controller.specs.Stores.{storeOf}
 use Rattle.transfers.specs.Results.{Result}
 use Rattle.controller.specs.Machine.{Call, Exchange}
 use Rattle.controller.specs.Machine.Call.{byte, taken, broken, report, hostData, result, tick, reset}
-use Rattle.controller.specs.Lists.{notRefused, holdsStore, carriesOut, lastStore, noStore, after}
+use Rattle.controller.specs.Lists.{notRefused, holdsStore, carriesOut, lastStore, noStore, asksFor, after}
 
 -- ---- the history of a drive
 
@@ -94,23 +93,15 @@ ordersFor d Nothing = []
 ordersFor d (Byte b) = []
 ordersFor d (Text s) = []
 
--- "Check bytes .. demand 3 leaves their delivery out": of the operations that deliver, reads alone
-unfoldable pub isRead : Decoded → Bool
-isRead (Operate operation) = eqb (numberOf operation) (numberOf Read)
-isRead Reset = false
-isRead (Code code) = false
-isRead (Track track) = false
-isRead (Enable enable) = false
-isRead (Density density) = false
-
 -- the bytes that a call gives in the space it is lent
 unfoldable pub bytesGiven : Exchange → List ℕ
 bytesGiven x = take (x .answer .bytes) (x .answer .space)
 
--- "its write images and read bytes come from the data calls and results of its stores"
+-- "its write images and read bytes come from the data calls and results of its stores"; "Check bytes .. demand 3 leaves their delivery out": of
+-- the operations that deliver, reads alone
 unfoldable pub transferOf : ℕ → Store → List ℕ → Call → List Output
 transferOf d store bytes (hostData host space check) = pick (isOf d store) (image bytes ∷ []) []
-transferOf d store bytes (result r space check) = pick (isOf d store && isRead (asked store)) (delivery bytes ∷ []) []
+transferOf d store bytes (result r space check) = pick (isOf d store && asksFor Read (asked store)) (delivery bytes ∷ []) []
 transferOf d store bytes (byte b) = []
 transferOf d store bytes taken = []
 transferOf d store bytes broken = []

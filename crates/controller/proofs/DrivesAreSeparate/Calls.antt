@@ -14,7 +14,7 @@ use Rattle.common.proofs.PickLaws.{by-test, pick-yes, pick-no}
 use Rattle.operations.specs.declared.operation.Operation.{Operation}
 use Rattle.operations.specs.declared.operation.Operation.the-variants.{Read, CheckBytes, Write, Erase, Rewind, FastForward, SkipForward, SkipReverse, SearchForward, SearchReverse, WriteMark}
 use Rattle.operations.specs.declared.decode.Decoded.{Decoded}
-use Rattle.operations.specs.Operation.{numberOf, orderByte}
+use Rattle.operations.specs.Operation.{orderByte, sameOperation}
 use Rattle.records.specs.Image.{imageOf}
 use Rattle.status.specs.declared.drives.Drive.{Drive}
 use Rattle.status.specs.Drives.{driveOf, reported, copied}
@@ -33,7 +33,8 @@ use Rattle.transfers.specs.Results.{Result, withGap, resultDrive, finalCode, is
 use Rattle.controller.specs.Records.{resultGiven, zeroedWords, dataDone, resultBody, resultDone}
 use Rattle.controller.specs.Machine.{reportNoted, Call, plain}
 use Rattle.controller.specs.Machine.Call.{byte, report, hostData, result}
-use Rattle.controller.specs.Separation.{Output, isOf, isRead, awaitsGo, eventOf, ordersFor, bytesGiven, transferOf}
+use Rattle.controller.specs.Lists.{asksFor}
+use Rattle.controller.specs.Separation.{Output, isOf, awaitsGo, eventOf, ordersFor, bytesGiven, transferOf}
 use Rattle.controller.specs.Separation.Event.{reportCame, goAnswered, dataCame, resultCame}
 use Rattle.controller.specs.Separation.Output.{motion, image, delivery}
 use Rattle.controller.proofs.DrivesAreSeparate.OneDrive.{Hand, View, resting, handAfterGo, handAfterData, givenAtData, driveAfterResult, givenAtResult, told, gives}
@@ -189,7 +190,7 @@ module _ (d : ℕ) (last : Store) (b : Body) (store : Store) (host space check :
 -- a read's bytes depend on the drive's report and on nothing else of the state
 read-seen :
     (operation : Operation) (drive : Drive) (r : Result) (check : List ℕ) (space : ℕ)
-    → pick (eqb (numberOf operation) (numberOf Read)) (delivery (fitting (delivered drive operation r check) space) ∷ []) [] ≡ pick (eqb (numberOf operation) (numberOf Read)) (delivery (fitting (delivered (copied drive) operation r []) space) ∷ []) []
+    → pick (sameOperation operation Read) (delivery (fitting (delivered drive operation r check) space) ∷ []) [] ≡ pick (sameOperation operation Read) (delivery (fitting (delivered (copied drive) operation r []) space) ∷ []) []
 unfolding delivered usesImage isGone pick
 read-seen Read drive r check space = refl
 read-seen CheckBytes drive r check space = refl
@@ -210,7 +211,7 @@ module _ (d : ℕ) (low : d ≤ 3) (last : Store) (b : Body) (operation : Operat
   pub result-follows :
       Held last (b .selected) operation store
       → Follows d (viewOf d last moving) last moving (record { call = result r space check; answer = resultDone b (current b) operation store r space check })
-  unfolding eventOf transferOf bytesGiven told gives resultDone resultGiven resultBody resultDrive withGap finalCode isGone handIn driveAfterResult givenAtResult isRead
+  unfolding eventOf transferOf bytesGiven told gives resultDone resultGiven resultBody resultDrive withGap finalCode isGone handIn driveAfterResult givenAtResult asksFor
   result-follows held =
       let bytes = delivered (current b) operation r check in
       let body = resultBody b (current b) operation store r (length bytes) (length space) in
@@ -228,8 +229,8 @@ module _ (d : ℕ) (low : d ≤ 3) (last : Store) (b : Body) (operation : Operat
             ∙ sym (ap (λ (h : Hand). resting (driveAfterResult (seen d b) r h)) hand);
         given =
             ap₂ (λ (l m : List Output). l ++ m)
-            (ap₂ (λ (t : Bool) (asks : Decoded). pick (t && isRead asks) (delivery (take (length fits) (given fits space)) ∷ []) []) own (held .asks)
-            ∙ ap (λ (l : List ℕ). pick (eqb (numberOf operation) (numberOf Read)) (delivery l ∷ []) [])
+            (ap₂ (λ (t : Bool) (asks : Decoded). pick (t && asksFor Read asks) (delivery (take (length fits) (given fits space)) ∷ []) []) own (held .asks)
+            ∙ ap (λ (l : List ℕ). pick (sameOperation operation Read) (delivery l ∷ []) [])
             (given-front fits space ∙ ap (λ (n : ℕ). fitting (delivered (driveOf (b .drives) n) operation r check) (length space)) e)
             ∙ read-seen operation (driveOf (b .drives) d) r check (length space))
             (none-for d _ (rests .quiet))
@@ -244,7 +245,7 @@ module _ (d : ℕ) (low : d ≤ 3) (last : Store) (b : Body) (operation : Operat
             rests-view d low last body _ rests
             ∙ ap resting (set-other d low b (resultDrive (current b) operation r) within differs)
             ∙ sym (other-view d last moving _ other refl);
-        transfer = pick-no _ [] (ap (λ (t : Bool). t && isRead (asked last)) other);
+        transfer = pick-no _ [] (ap (λ (t : Bool). t && asksFor Read (asked last)) other);
         quiet = none-for d _ (rests .quiet);
       })
       (free-held last _ _ (rests .free))

@@ -4,13 +4,12 @@
 use Prim.Native.Nat.{ℕ}
 use mathlib.Core.Bool.{Bool, true, false}
 use mathlib.Core.List.{List, [], _∷_, _++_}
-use lib.Dec.{eqb}
 use Rattle.common.specs.Pick.{pick}
 use Rattle.operations.specs.declared.operation.Operation.{Operation}
 use Rattle.operations.specs.declared.operation.Operation.the-variants.{Read, CheckBytes, Write, Erase, Rewind, FastForward, SkipForward, SkipReverse, SearchForward, SearchReverse, WriteMark}
 use Rattle.operations.specs.declared.decode.Decoded.{Decoded}
 use Rattle.operations.specs.declared.decode.Decoded.the-variants.{Reset, Code, Track, Enable, Density, Operate}
-use Rattle.operations.specs.Operation.{numberOf, moveOf, orderByte}
+use Rattle.operations.specs.Operation.{moveOf, orderByte, sameOperation}
 use Rattle.operations.specs.Decode.{decodeOf}
 use Rattle.operations.specs.Test.{mayMove}
 use Rattle.records.specs.Image.{imageOf}
@@ -124,7 +123,7 @@ driveAfterResult drive r (dataAwaited store) = drive
 
 unfoldable pub givenAtResult : Drive → Result → ℕ → Hand → List Output
 givenAtResult drive r space (resultAwaited operation store) =
-    pick (eqb (numberOf operation) (numberOf Read)) (delivery (fitting (delivered drive operation r []) space) ∷ []) []
+    pick (sameOperation operation Read) (delivery (fitting (delivered drive operation r []) space) ∷ []) []
 givenAtResult drive r space empty = []
 givenAtResult drive r space (goOffered store) = []
 givenAtResult drive r space (dataAwaited store) = []
