@@ -6,6 +6,7 @@ use crate::answers::answer_lines;
 use crate::answers::answer_next;
 use controller::controller::Controller;
 use controller::controller::fresh_controller;
+use libc::STDERR_FILENO;
 use libc::STDIN_FILENO;
 use libc::STDOUT_FILENO;
 ghost use mathlib.Core.Path.{_≡_};
@@ -79,6 +80,32 @@ fn failed(controller: Controller) -> Session
     }
 }
 
+// A program has no exit status to tell a failure by, so it is told on standard error.
+fn unread(controller: Controller) -> Session
+    ensures { λ r. ⌜ r .held < 65536 ⌝ }
+{
+    io::write_all(STDERR_FILENO, b"session: the input cannot be read\n");
+    failed(controller)
+}
+
+fn tell_unwritten() {
+    io::write_all(STDERR_FILENO, b"session: the answers cannot be written\n");
+}
+
+fn unwritten(controller: Controller) -> Session
+    ensures { λ r. ⌜ r .held < 65536 ⌝ }
+{
+    tell_unwritten();
+    failed(controller)
+}
+
+// Writes the last answer.
+fn write_last(text: &[u8]) {
+    if !io::write_all(STDOUT_FILENO, text) {
+        tell_unwritten();
+    }
+}
+
 // Answers every whole line in hand, and writes the answers.
 fn answer_read(
     session: Session,
@@ -113,7 +140,7 @@ fn answer_read(
     if written & cut.work.open {
         return held_line(controller, end - from, cut.work.long);
     }
-    failed(controller)
+    unwritten(controller)
 }
 
 // Reads once, and answers every line that is whole by then.
@@ -133,7 +160,7 @@ fn read_some(
     let held = session.held;
     let got = libc::read(STDIN_FILENO, &mut input[held..]);
     if got < 0 {
-        return failed(session.controller);
+        return unread(session.controller);
     }
     if got == 0 {
         return ended(session);
@@ -184,7 +211,7 @@ fn answer_held(
         };
         let last = answer_next(work, &input[..held], bytes, marks, space, check, out);
         let count = last.count;
-        io::write_all(STDOUT_FILENO, &out[..count]);
+        write_last(&out[..count]);
     }
 }
 

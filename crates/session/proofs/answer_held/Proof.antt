@@ -18,17 +18,17 @@ slice-aggregate-answer-next c =
 answer-next-requires : tie.Need-answer-next-requires
 answer-next-requires c κs = search needs
 
-slice-reshare-prefix-write-all : tie.Need-slice-reshare-prefix-write-all
-slice-reshare-prefix-write-all c = search needs
+slice-reshare-prefix-write-last : tie.Need-slice-reshare-prefix-write-last
+slice-reshare-prefix-write-last c = search needs
 
-slice-aggregate-write-all : tie.Need-slice-aggregate-write-all
-slice-aggregate-write-all c =
+slice-aggregate-write-last : tie.Need-slice-aggregate-write-last
+slice-aggregate-write-last c =
     let a = c .before .before .before .answer-next in
     let within : a .result .count ≤ length (a .last .1 .1 .1 .1 .1 .1 .0) = omega (arith, a .ensures, a .kept .1 .1 .1 .1 .1 .1 .0, c .before .before .before .before .before .before .before .before .before .before .before .before .before .before .before .pre) in
     sym (length-take-le (a .result .count) (a .last .1 .1 .1 .1 .1 .1 .0) within)
 
-write-all-requires : tie.Need-write-all-requires
-write-all-requires c κs = search needs
+write-last-requires : tie.Need-write-last-requires
+write-last-requires c κs = search needs
 
 same-length : tie.Need-same-length
 same-length c = search needs
@@ -45,9 +45,9 @@ answer-held-spec =
     (tie.spec
     slice-aggregate-answer-next
     answer-next-requires
-    slice-reshare-prefix-write-all
-    slice-aggregate-write-all
-    write-all-requires
+    slice-reshare-prefix-write-last
+    slice-aggregate-write-last
+    write-last-requires
     same-length
     returns
     returns-2)

@@ -60,8 +60,8 @@ same-length-2 c = c .before .before .before .before .before .before .before .bef
 returns : tie.Need-returns
 returns c = search needs
 
-failed-requires : tie.Need-failed-requires
-failed-requires c κs = search needs
+unwritten-requires : tie.Need-unwritten-requires
+unwritten-requires c κs = search needs
 
 same-length-3 : tie.Need-same-length-3
 same-length-3 c = search needs
@@ -88,7 +88,7 @@ answer-read-spec =
     same-length
     same-length-2
     returns
-    failed-requires
+    unwritten-requires
     same-length-3
     same-length-4
     returns-2)
