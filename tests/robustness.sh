@@ -209,11 +209,18 @@ cut_input() {
 
 # ---- outputs and inputs that fail ----
 
+# told STATUS: the program ended, and a read or write that failed is told: by a status that is not 0, or, since the program's
+# language has no exit status, by a message in the file errors.
+told() {
+    [ "$1" -ne 124 ] || no "it did not end" || return
+    [ "$1" -ne 0 ] || [ -s errors ] || no "status 0 and no message"
+}
+
 # ends_with_reader SIGNAL-OPTION: input without end to a reader of one line. The program has to end by itself.
 ends_with_reader() {
-    { timeout 10 env "$1-signal=PIPE" "$program" < <(yes K 2>/dev/null); echo $? >status; } | head -n 1 >said
+    { timeout 10 env "$1-signal=PIPE" "$program" < <(yes K 2>/dev/null) 2>errors; echo $? >status; } | head -n 1 >said
     [ "$(cat said)" = "0,-,," ] || no "the reader got $(cat said)" || return
-    [ "$(cat status)" -ne 124 ] || no "it did not end"
+    told "$(cat status)"
 }
 
 # A reader that comes late and slowly gets every answer.
@@ -228,16 +235,16 @@ slow_reader() {
 short_file() {
     cat "$sessions"/codes-*.session >text
     "$machine" <text >expected
-    (ulimit -f 1 && timeout 10 env --ignore-signal=XFSZ "$program" <text >said)
-    [ $? -ne 124 ] || no "it did not end" || return
+    (ulimit -f 1 && timeout 10 env --ignore-signal=XFSZ "$program" <text >said 2>errors)
+    told $? || return
     [ -s said ] || no "nothing was written" || return
     head -c "$(wc -c <said)" expected | cmp - said
 }
 
-# ends COMMAND...: the command ends before its time and writes no answer to standard output.
+# ends COMMAND...: the command ends before its time, tells of its failure and writes no answer to standard output.
 ends() {
-    timeout 10 "$@" >said
-    [ $? -ne 124 ] || no "it did not end" || return
+    timeout 10 "$@" >said 2>errors
+    told $? || return
     [ ! -s said ] || no "it said $(head -c 100 said)"
 }
 
@@ -248,9 +255,9 @@ failing_files() {
     check "a file that may not grow" short_file
     # shellcheck disable=SC2016 # the inner shell has them as $0 and $1
     {
-        check "a full disk" ends bash -c 'yes K | "$0" >/dev/full' "$program"
+        check "a full disk" ends bash -c 'yes K 2>/dev/null | "$0" >/dev/full' "$program"
         check "a full disk at the last line" ends bash -c 'printf K | "$0" >/dev/full' "$program"
-        check "standard output closed" ends bash -c 'yes K | "$0" >&-' "$program"
+        check "standard output closed" ends bash -c 'yes K 2>/dev/null | "$0" >&-' "$program"
         check "standard input closed" ends bash -c '"$0" <&-' "$program"
         check "standard input and output closed" ends bash -c '"$0" <&- >&-' "$program"
         check "a folder as standard input" ends bash -c '"$0" <"$1"' "$program" "$folder"
@@ -272,6 +279,13 @@ script_plays() { # ARGUMENT...
     timeout 10 tree/session "$@" | cmp - "$sessions/story-read.answers"
 }
 
+# The script has a status: not 0 where the program could not read or write.
+script_fails() { # COMMAND...
+    local status=0
+    timeout 10 "$@" 2>/dev/null || status=$?
+    if [ "$status" -eq 0 ] || [ "$status" -eq 124 ]; then no "status $status"; fi
+}
+
 root_script() {
     mkdir -p tree/target/bin tree/crates
     cp -r "$root/session" "$root/tools" "$root/sessions" tree/
@@ -284,6 +298,12 @@ root_script() {
     check "script: a folder" refused "is not a file that can be read" tree/session "$folder"
     check "script: no such file" refused "is not a file that can be read" tree/session missing
     check "script: two files" refused "one file at a time" tree/session text text
+    # shellcheck disable=SC2016 # the inner shell has it as $0
+    {
+        check "script: a full disk" script_fails bash -c 'tree/session "$0" >/dev/full' "$sessions/story-read.session"
+        check "script: standard output closed" script_fails bash -c 'tree/session "$0" >&-' "$sessions/story-read.session"
+        check "script: standard input closed" script_fails bash -c 'tree/session - <&-'
+    }
 }
 
 for name in "$program" "$machine"; do
