@@ -9,6 +9,7 @@ use marks::scan_marks;
 ghost use mathlib.Core.Path.{_≡_};
 ghost use Prim.Native.Nat.{_≤_};
 ghost use lib.ListN.{length, take};
+ghost use Rattle.marks.specs.Scan.{scanOf};
 ghost use Rattle.records.specs.Image.{blocketteCount};
 ghost use Rattle.records.specs.Restore.{mendedAt, restoreRefusal, restoredInto};
 
@@ -38,8 +39,9 @@ fn put_restored(blockettes: &[u8], n: usize, odd: usize, even: usize, space: &mu
     mend_at(blockettes, n, even, space);
 }
 
-// 9 to 12, or 0.
-fn restore_refusal(image: &[u8], marks: &[u8], space: usize) -> u32
+// 9 to 12, or 0; `stop` is where the scan of the marks stopped.
+fn restore_refusal(image: &[u8], marks: &[u8], stop: usize, space: usize) -> u32
+    requires { ⌜ stop ≡ scanOf (now marks) .stop ⌝ }
     ensures { λ r. ⌜ r ≡ restoreRefusal (now (image .entry)) (now (marks .entry)) space ⌝ }
 {
     let refusal = whole_refusal(image, marks, 1);
@@ -47,8 +49,6 @@ fn restore_refusal(image: &[u8], marks: &[u8], space: usize) -> u32
         return refusal;
     }
     let count = count_of(image);
-    let errors = scan_marks(marks);
-    let stop = errors.stop;
     if space < count {
         return 11;
     }
@@ -63,12 +63,12 @@ pub fn restore(image: &[u8], marks: &[u8], space: &mut [u8]) -> u32
     ensures { λ r. ⌜ r ≡ restoreRefusal (now (image .entry)) (now (marks .entry)) (length (now (space .entry))) ⌝ }
     ensures { λ _. ⌜ now (space .exit) ≡ restoredInto (now (image .entry)) (now (marks .entry)) (now (space .entry)) ⌝ }
 {
-    let refusal = restore_refusal(image, marks, space.len());
+    let errors = scan_marks(marks);
+    let refusal = restore_refusal(image, marks, errors.stop, space.len());
     if refusal != 0 {
         return refusal;
     }
     let count = count_of(image);
-    let errors = scan_marks(marks);
     let n = blockette_count(count);
     put_restored(&image[2..], n, errors.odd, errors.even, &mut space[..count]);
     0

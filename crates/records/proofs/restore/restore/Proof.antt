@@ -36,58 +36,56 @@ restored image marks space last count none e so-many =
     ap₂ (λ (x : List ℕ) (k : ℕ). x ++ drop k space) e (sym so-many ∙ ap (λ (x : List ℕ). length x) e) ∙ sym (where-done _ _ _ none)
 
 -- what is known where the call is not refused
-accepted : (c : tie.Else1) → let e = c .before .before .before .before .before in
+accepted : (c : tie.Else1) → let e = c .before .before .before .before .before .before in
     IsWhole (e .args .image .now) (e .args .marks .now) 1 × (countOf (e .args .image .now) ≤ length (e .args .space .now))
 accepted c =
     let w = c .before in
-    let e = w .before .before .before .before in
+    let e = w .before .before .before .before .before in
     restorable (e .args .image .now) (e .args .marks .now) (length (e .args .space .now)) (sym (w .restore-refusal .ensures) ∙ c .if1 .left)
 
 -- the bytes fit
-room : (n : tie.After-count-of) → n .count-of .result ≤ length (n .before .before .before .before .before .before .args .space .now)
+room : (n : tie.After-count-of) → n .count-of .result ≤ length (n .before .before .before .before .before .before .before .args .space .now)
 room n = rw (n .count-of .ensures) (accepted (n .before) .1)
 
+scan-marks-requires : tie.Need-scan-marks-requires
+scan-marks-requires c κs = search needs
+
 restore-refusal-requires : tie.Need-restore-refusal-requires
-restore-refusal-requires c κs = search needs
+restore-refusal-requires c κs = ap (λ (s : Scan). s .stop) (c .scan-marks .ensures)
 
 returns : tie.Need-returns
 returns c =
     let w = c .before in
-    let e = w .before .before .before .before in
+    let e = w .before .before .before .before .before in
     (w .restore-refusal .ensures, kept (e .args .image .now) (e .args .marks .now) (e .args .space .now) _ (w .restore-refusal .ensures) (c .if1 .taken))
 
 count-of-requires : tie.Need-count-of-requires
 count-of-requires c κs = accepted c .0 .two
 
-scan-marks-requires : tie.Need-scan-marks-requires
-scan-marks-requires c κs = search needs
-
 blockette-count-requires : tie.Need-blockette-count-requires
-blockette-count-requires c κs =
-    let n = c .before in
-    rw (n .count-of .ensures) (accepted (n .before) .0 .within)
+blockette-count-requires c κs = rw (c .count-of .ensures) (accepted (c .before) .0 .within)
 
 sub-put-restored : tie.Need-sub-put-restored
-sub-put-restored c = accepted (c .before .before .before) .0 .two
+sub-put-restored c = accepted (c .before .before) .0 .two
 
 part-put-restored-start : tie.Need-part-put-restored-start
-part-put-restored-start c = omega (arith, accepted (c .before .before .before) .0 .two)
+part-put-restored-start c = omega (arith, accepted (c .before .before) .0 .two)
 
 part-put-restored-end : tie.Need-part-put-restored-end
 part-put-restored-end c = search needs
 
 slice-relend-prefix-put-restored : tie.Need-slice-relend-prefix-put-restored
-slice-relend-prefix-put-restored c = room (c .before .before .before)
+slice-relend-prefix-put-restored c = room (c .before .before)
 
 slice-aggregate-put-restored : tie.Need-slice-aggregate-put-restored
-slice-aggregate-put-restored c = simp length-take (omega (arith, room (c .before .before .before .before)))
+slice-aggregate-put-restored c = simp length-take (omega (arith, room (c .before .before .before)))
 
 put-restored-requires : tie.Need-put-restored-requires
 put-restored-requires c κs =
     let b = c .before .before in
-    let n = b .before .before in
+    let n = b .before in
     let h = accepted (n .before) .0 in
-    let e = n .before .before .before .before .before .before in
+    let e = n .before .before .before .before .before .before .before in
     let count = n .count-of .result in
     let image = e .args .image .now in
     let is-count : count ≡ countOf image = n .count-of .ensures in
@@ -107,11 +105,11 @@ unfolding restoredOf
 returns-2 c =
     let p = c .before .before in
     let b = p .before .before .before in
-    let s = b .before in
-    let n = s .before in
+    let n = b .before in
     let i = n .before in
     let w = i .before in
-    let e = w .before .before .before .before in
+    let s = w .before in
+    let e = w .before .before .before .before .before in
     let image = e .args .image .now in
     let marks = e .args .marks .now in
     let space = e .args .space .now in
@@ -129,10 +127,10 @@ pub restore-spec : {M : Type 1} → statement M
 restore-spec =
     tie.close
     (tie.spec
+    scan-marks-requires
     restore-refusal-requires
     returns
     count-of-requires
-    scan-marks-requires
     blockette-count-requires
     sub-put-restored
     part-put-restored-start

@@ -19,13 +19,10 @@ returns c = simp (← c .before .whole-refusal .ensures, ne-eqb _ _ (c .if1 .tak
 count-of-requires : tie.Need-count-of-requires
 count-of-requires c κs = whole _ _ 1 (sym (c .before .whole-refusal .ensures) ∙ c .if1 .left) .two
 
-scan-marks-requires : tie.Need-scan-marks-requires
-scan-marks-requires c κs = search needs
-
 returns-2 : tie.Need-returns-2
 unfolding restoreRefusal pick
 returns-2 c =
-    let n = c .before .before in
+    let n = c .before in
     let i = n .before in
     simp (← i .before .whole-refusal .ensures, eq-eqb _ _ (i .if1 .left), ← n .count-of .ensures, lt-ltb _ _ (c .if2 .taken))
 
@@ -33,15 +30,15 @@ returns-3 : tie.Need-returns-3
 unfolding restoreRefusal pick
 returns-3 c =
     let j = c .before in
-    let s = j .before in
-    let n = s .before in
+    let n = j .before in
     let i = n .before in
+    let e = i .before .before .before .before in
     simp (
       ← i .before .whole-refusal .ensures,
       eq-eqb _ _ (i .if1 .left),
       ← n .count-of .ensures,
       le-ltb _ _ (j .if2 .left),
-      ← s .scan-marks .ensures,
+      ← e .pre,
       lt-ltb _ _ (c .if3 .taken),
     )
 
@@ -49,15 +46,15 @@ returns-4 : tie.Need-returns-4
 unfolding restoreRefusal pick
 returns-4 c =
     let j = c .before in
-    let s = j .before in
-    let n = s .before in
+    let n = j .before in
     let i = n .before in
+    let e = i .before .before .before .before in
     simp (
       ← i .before .whole-refusal .ensures,
       eq-eqb _ _ (i .if1 .left),
       ← n .count-of .ensures,
       le-ltb _ _ (j .if2 .left),
-      ← s .scan-marks .ensures,
+      ← e .pre,
       le-ltb _ _ (c .if3 .left),
     )
 
@@ -68,7 +65,6 @@ restore-refusal-spec =
     whole-refusal-requires
     returns
     count-of-requires
-    scan-marks-requires
     returns-2
     returns-3
     returns-4)
