@@ -3,19 +3,13 @@
 -- `calls-keep-drives-separate`: the drives are separate in any two such lists. And of every such list: `calls-count-their-own-record`, and
 -- `calls-order-what-was-asked`.
 -- Assumes nothing.
+pub mod Contracts
 use mathlib.Core.Path.{_≡_, refl, sym, ap, ap₂, subst, subst₂, _∙_}
 use mathlib.Core.List.{List, [], _∷_}
-use contract.Lifetimes.{Lfts}
-use denote.Ref.{RefT, now, at-last}
-use Prim.Native.Nat.{ℕ}
-use Rattle.transfers.specs.Results.{Result, resultOf}
 use Rattle.controller.specs.declared.controller.Controller.{Controller}
-use Rattle.controller.specs.declared.controller.Reply.{Reply}
-use Rattle.controller.specs.declared.controller.Transfer.{Transfer}
 use Rattle.controller.specs.Controller.{fresh}
-use Rattle.controller.specs.Records.{Answer, answered}
-use Rattle.controller.specs.Machine.{byteCall, takenCall, brokenCall, reportCall, dataCall, resultCall, tickCall, resetCall, Call, Exchange, plain, step, run}
-use Rattle.controller.specs.Machine.Call.{byte, taken, broken, report, hostData, result, tick, reset}
+use Rattle.controller.specs.Records.{Answer}
+use Rattle.controller.specs.Machine.{Call, Exchange, step, run}
 use Rattle.controller.specs.Separation.{Separate}
 use Rattle.controller.specs.Counts.{CountsAreOwn}
 use Rattle.controller.specs.Orders.{OrdersAreAsked}
@@ -23,106 +17,16 @@ use Rattle.controller.proofs.DrivesAreSeparate.{drives-are-separate}
 use Rattle.controller.proofs.CountsAreOwn.{counts-are-own}
 use Rattle.controller.proofs.OrdersAreAsked.{orders-are-asked}
 use Rattle.controller.proofs.controller.fresh_controller.Reads as fresh-reads
-use Rattle.controller.proofs.controller.Controller.byte.Reads as byte-reads
-use Rattle.controller.proofs.controller.Controller.taken.Reads as taken-reads
-use Rattle.controller.proofs.controller.Controller.broken.Reads as broken-reads
-use Rattle.controller.proofs.controller.Controller.report.Reads as report-reads
-use Rattle.controller.proofs.controller.Controller.data.Reads as data-reads
-use Rattle.controller.proofs.controller.Controller.result.Reads as result-reads
-use Rattle.controller.proofs.controller.Controller.tick.Reads as tick-reads
-use Rattle.controller.proofs.controller.Controller.reset.Reads as reset-reads
-use Rattle.controller.proofs.controller.Controller.byte.Met as byte-met
-use Rattle.controller.proofs.controller.Controller.byte.Statement as byte-statement
-use Rattle.controller.proofs.controller.Controller.taken.Met as taken-met
-use Rattle.controller.proofs.controller.Controller.taken.Statement as taken-statement
-use Rattle.controller.proofs.controller.Controller.broken.Met as broken-met
-use Rattle.controller.proofs.controller.Controller.broken.Statement as broken-statement
-use Rattle.controller.proofs.controller.Controller.report.Met as report-met
-use Rattle.controller.proofs.controller.Controller.report.Statement as report-statement
-use Rattle.controller.proofs.controller.Controller.data.Met as data-met
-use Rattle.controller.proofs.controller.Controller.data.Statement as data-statement
-use Rattle.controller.proofs.controller.Controller.result.Met as result-met
-use Rattle.controller.proofs.controller.Controller.result.Statement as result-statement
-use Rattle.controller.proofs.controller.Controller.tick.Met as tick-met
-use Rattle.controller.proofs.controller.Controller.tick.Statement as tick-statement
-use Rattle.controller.proofs.controller.Controller.reset.Met as reset-met
-use Rattle.controller.proofs.controller.Controller.reset.Statement as reset-statement
-use Rattle.controller.proofs.controller.fresh_controller.Met as fresh-met
-use Rattle.controller.proofs.controller.fresh_controller.Statement as fresh-statement
+use Rattle.controller.proofs.Demands.Contracts.{Allows, Meet, all-met, answers-are-steps, steps-are-allowed}
 
--- ---- what the contracts promise
+-- ---- demand 1
 
--- the answer of a call that is lent nothing
-pub record Plainly (Promise : Reply → Type 0) (answer : Answer) : Type 0 where
-  pub reply : Reply
-  pub promise : Promise reply
-  pub same : answer ≡ plain reply
+-- Each call's own function, and the one that makes a fresh controller, meets its contract, which has no `requires`; so it returns and does
+-- nothing undefined, whatever it is handed.
+pub calls-meet-their-contracts : {M : Type 1} → Meet M
+calls-meet-their-contracts = all-met
 
--- the answer of a call that is lent space: three slices of the data call, four of the result, wherever they lie
-pub record DataLent (c : Controller) (host space check : List ℕ) (answer : Answer) : Type 0 where
-  pub lifetimes : Lfts 3
-  pub host-slice : RefT (List ℕ)
-  pub space-slice : RefT (List ℕ)
-  pub check-slice : RefT (List ℕ)
-  pub transfer : Transfer
-  pub holds-host : now host-slice ≡ host
-  pub holds-space : now space-slice ≡ space
-  pub holds-check : now check-slice ≡ check
-  pub promise : data-reads.Post lifetimes (c, (host-slice, (space-slice, (check-slice, tt)))) transfer (c, (host-slice, (at-last space-slice (answer .space), (at-last check-slice (answer .check), tt))))
-  pub same : answer ≡ answered transfer (answer .space) (answer .check)
-
-pub record ResultLent (c : Controller) (r : Result) (space check : List ℕ) (answer : Answer) : Type 0 where
-  pub lifetimes : Lfts 4
-  pub image-slice : RefT (List ℕ)
-  pub marks-slice : RefT (List ℕ)
-  pub space-slice : RefT (List ℕ)
-  pub check-slice : RefT (List ℕ)
-  pub transfer : Transfer
-  pub holds-image : now image-slice ≡ r .image
-  pub holds-marks : now marks-slice ≡ r .marks
-  pub holds-space : now space-slice ≡ space
-  pub holds-check : now check-slice ≡ check
-  pub promise : result-reads.Post lifetimes (c, (r .code, (r .mark, (r .late, (image-slice, (marks-slice, (space-slice, (check-slice, tt)))))))) transfer (c, (r .code, (r .mark, (r .late, (image-slice, (marks-slice, (at-last space-slice (answer .space), (at-last check-slice (answer .check), tt))))))))
-  pub same : answer ≡ answered transfer (answer .space) (answer .check)
-
-abbrev somewhere : List ℕ → RefT (List ℕ)
-somewhere bytes = record { ptr = (0, 0); name = 0; now = bytes }
-
-abbrev handedBack : Answer → Transfer
-handedBack answer = record { reply = answer .reply; bytes = answer .bytes }
-
--- what the contract of a call's own function allows as its answer
-unfoldable pub Allows : Controller → Call → Answer → Type 0
-Allows c (byte b) = Plainly (λ (r : Reply). byte-reads.Post tt (c, (b, tt)) r (c, (b, tt)))
-Allows c taken = Plainly (λ (r : Reply). taken-reads.Post tt (c, tt) r (c, tt))
-Allows c broken = Plainly (λ (r : Reply). broken-reads.Post tt (c, tt) r (c, tt))
-Allows c (report drive bits) = Plainly (λ (r : Reply). report-reads.Post tt (c, (drive, (bits, tt))) r (c, (drive, (bits, tt))))
-Allows c tick = Plainly (λ (r : Reply). tick-reads.Post tt (c, tt) r (c, tt))
-Allows c (hostData host space check) = DataLent c host space check
-Allows c (result r space check) = ResultLent c r space check
-Allows c reset = Plainly (λ (r : Reply). reset-reads.Post tt (c, tt) r (c, tt))
-
--- an allowed answer is the machine's
-pub answers-are-steps : (c : Controller) (call : Call) (answer : Answer) → Allows c call answer → answer ≡ step c call
-unfolding Allows step
-answers-are-steps c (byte b) answer allowed = allowed .same ∙ ap plain (allowed .promise)
-answers-are-steps c taken answer allowed = allowed .same ∙ ap plain (allowed .promise)
-answers-are-steps c broken answer allowed = allowed .same ∙ ap plain (allowed .promise)
-answers-are-steps c (report drive r) answer allowed = allowed .same ∙ ap plain (allowed .promise)
-answers-are-steps c tick answer allowed = allowed .same ∙ ap plain (allowed .promise)
-answers-are-steps c (hostData host space check) answer allowed =
-    allowed .same
-    ∙ allowed .promise
-    ∙ ap (λ (h : List ℕ). dataCall c h (now (allowed .space-slice)) (now (allowed .check-slice))) (allowed .holds-host)
-    ∙ ap₂ (λ (s k : List ℕ). dataCall c host s k) (allowed .holds-space) (allowed .holds-check)
-answers-are-steps c (result r space check) answer allowed =
-    allowed .same
-    ∙ allowed .promise
-    ∙ ap₂ (λ (i m : List ℕ). resultCall c (resultOf (r .code) (r .mark) (r .late) i m) (now (allowed .space-slice)) (now (allowed .check-slice))) (allowed .holds-image) (allowed .holds-marks)
-    ∙ ap₂ (λ (s k : List ℕ). resultCall c r s k) (allowed .holds-space) (allowed .holds-check)
-answers-are-steps c reset answer allowed = allowed .same ∙ ap plain (allowed .promise)
-
--- ---- whole lists
+-- ---- lists of calls, and demand 2
 
 -- "each call gets the state that the last one handed back"
 unfoldable pub Made : Controller → List Exchange → Type 0
@@ -147,49 +51,12 @@ made-runs c (x ∷ xs) (allowed, others) =
     ap₂ (λ (y : Exchange) (ys : List Exchange). y ∷ ys) (ap (λ (a : Answer). record { call = x .call; answer = a }) answer)
     (made-runs (x .answer .reply .controller) xs others ∙ ap (λ (a : Answer). run (a .reply .controller) (callsOf xs)) answer)
 
--- Demand 2: every answer, state and buffer is the machine's.
+-- Every answer, state and buffer is the machine's.
 pub calls-run-the-machine : (xs : List Exchange) → FromFresh xs → xs ≡ run fresh (callsOf xs)
 calls-run-the-machine xs made =
     made-runs (made .start) xs (made .goes) ∙ ap (λ (c : Controller). run c (callsOf xs)) (made .begins)
 
--- and the machine's run is such a list, so the two demands speak of something
-steps-are-allowed : (c : Controller) (call : Call) → Allows c call (step c call)
-unfolding Allows step
-steps-are-allowed c (byte b) = record { reply = byteCall c b; promise = refl; same = refl }
-steps-are-allowed c taken = record { reply = takenCall c; promise = refl; same = refl }
-steps-are-allowed c broken = record { reply = brokenCall c; promise = refl; same = refl }
-steps-are-allowed c (report drive bits) = record { reply = reportCall c drive bits; promise = refl; same = refl }
-steps-are-allowed c (hostData host space check) =
-    record {
-      lifetimes = ([], ([], ([], tt)));
-      host-slice = somewhere host;
-      space-slice = somewhere space;
-      check-slice = somewhere check;
-      transfer = handedBack (dataCall c host space check);
-      holds-host = refl;
-      holds-space = refl;
-      holds-check = refl;
-      promise = refl;
-      same = refl;
-    }
-steps-are-allowed c (result r space check) =
-    record {
-      lifetimes = ([], ([], ([], ([], tt))));
-      image-slice = somewhere (r .image);
-      marks-slice = somewhere (r .marks);
-      space-slice = somewhere space;
-      check-slice = somewhere check;
-      transfer = handedBack (resultCall c r space check);
-      holds-image = refl;
-      holds-marks = refl;
-      holds-space = refl;
-      holds-check = refl;
-      promise = refl;
-      same = refl;
-    }
-steps-are-allowed c tick = record { reply = tickCall c; promise = refl; same = refl }
-steps-are-allowed c reset = record { reply = resetCall c; promise = refl; same = refl }
-
+-- and the machine's run is such a list, so the demands speak of something
 runs-are-made : (c : Controller) (calls : List Call) → Made c (run c calls)
 unfolding Made run
 runs-are-made c [] = tt
@@ -198,12 +65,14 @@ runs-are-made c (call ∷ calls) = (steps-are-allowed c call, runs-are-made (ste
 pub runs-are-from-fresh : (calls : List Call) → FromFresh (run fresh calls)
 runs-are-from-fresh calls = record { start = fresh; begins = refl; goes = runs-are-made fresh calls }
 
--- Demand 3: the drives are separate.
+-- ---- demand 3
+
+-- The drives are separate.
 pub calls-keep-drives-separate : (xs ys : List Exchange) → FromFresh xs → FromFresh ys → Separate xs ys
 calls-keep-drives-separate xs ys one two =
     subst₂ Separate (sym (calls-run-the-machine xs one)) (sym (calls-run-the-machine ys two)) (drives-are-separate (callsOf xs) (callsOf ys))
 
--- ---- every list, resets and stores that name no drive included
+-- ---- claims over every list, resets and stores that name no drive included
 
 -- Wherever primary's bit 22 is set, secondary is the count of the record that the last store carried out itself passed or wrote.
 pub calls-count-their-own-record : (xs : List Exchange) → FromFresh xs → CountsAreOwn xs
@@ -212,21 +81,3 @@ calls-count-their-own-record xs made = subst CountsAreOwn (sym (calls-run-the-ma
 -- Every motion order is the one that its store asked for, of the drive that it selected; none goes out unasked, and no store gives two.
 pub calls-order-what-was-asked : (xs : List Exchange) → FromFresh xs → OrdersAreAsked xs
 calls-order-what-was-asked xs made = subst OrdersAreAsked (sym (calls-run-the-machine xs made)) (orders-are-asked (callsOf xs))
-
--- ---- the functions
-
--- Demand 1, and what the two above rest on: each call's own function, and the one that makes a fresh controller, meets its contract, which
--- has no `requires`; so it returns and does nothing undefined, whatever it is handed.
-pub record Meet (M : Type 1) : Type 2 where
-  pub fresh : fresh-statement.statement M
-  pub byte : byte-statement.statement M
-  pub taken : taken-statement.statement M
-  pub broken : broken-statement.statement M
-  pub report : report-statement.statement M
-  pub hostData : data-statement.statement M
-  pub result : result-statement.statement M
-  pub tick : tick-statement.statement M
-  pub reset : reset-statement.statement M
-
-pub calls-meet-their-contracts : {M : Type 1} → Meet M
-calls-meet-their-contracts = record { fresh = fresh-met.met; byte = byte-met.met; taken = taken-met.met; broken = broken-met.met; report = report-met.met; hostData = data-met.met; result = result-met.met; tick = tick-met.met; reset = reset-met.met }

@@ -1,5 +1,5 @@
 -- For each of the eight calls, and for the function that makes a fresh controller, two wrong answers that its contract does not allow. The
--- contract is `Allows` (Demands.antt), as the toolchain reads it from the function.
+-- contract is `Allows` (Demands/Contracts.antt), as the toolchain reads it from the function.
 -- Assumes nothing.
 use mathlib.Core.Path.{_≡_, refl, sym, ap, subst, _∙_}
 use mathlib.Core.Bool.{Bool, true, false, _||_, false≢true, true≢false, and-false}
@@ -47,7 +47,7 @@ use Rattle.controller.specs.Records.{Answer, dataDone, resultBody, endin
 use Rattle.controller.specs.Machine.{byteIn, brokenIn, tickIn, byteCall, brokenCall, tickCall, takenBody, takenIn, takenCall, reportNoted, reportCall, resetCall, dataFor, dataIn, dataCall, resultFor, resultIn, resultCall, Call, step}
 use Rattle.controller.specs.Machine.Call.{byte, taken, broken, report, hostData, result, tick, reset}
 use Rattle.controller.proofs.controller.fresh_controller.Reads as fresh-reads
-use Rattle.controller.proofs.Demands.{Allows, answers-are-steps}
+use Rattle.controller.proofs.Demands.Contracts.{Allows, answers-are-steps}
 
 -- no answer that the call's contract allows is wrong in this way
 abbrev pub Excludes : Controller → Call → (Answer → Type 0) → Type 0
