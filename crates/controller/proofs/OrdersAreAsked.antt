@@ -142,9 +142,12 @@ ordered-complies a b operation store pending agrees =
     record { asked = pending ∙ ap (λ (o : Six). o ∷ []) (same-order a b operation store agrees); kept = record { agrees = agrees; pending = tt } }
 
 module _ (a : Settings) (b : Body) (store : Store) (agrees : Agreeing (withPending a (b .selected) []) b) where
-  -- past the test, the operation's order is pending
+  -- the operation's order is pending, where tape is to move
+  abbrev pendingIf : Bool → Operation → Settings
+  pendingIf moves operation = withPending a (b .selected) (pick moves (orderBy (withPending a (b .selected) []) operation store ∷ []) [])
+
   abbrev pendingOrder : Operation → Settings
-  pendingOrder operation = withPending a (b .selected) (pick (movesTape (moveOf operation)) (orderBy (withPending a (b .selected) []) operation store ∷ []) [])
+  pendingOrder operation = pendingIf (movesTape (moveOf operation)) operation
 
   begun-complies : (operation : Operation) → Complies (pendingOrder operation) (begun (pastTest b operation) operation store)
   unfolding begun pastTest movesTape pick Asked issued Pending
@@ -162,20 +165,20 @@ module _ (a : Settings) (b : Body) (store : Store) (agrees : Agreeing (withPendi
 
   -- the test is that of the report in the settings
   operated-complies :
-      (operation : Operation)
-      → Complies (withPending a (b .selected) (orderAsked a (b .selected) operation store)) (operated b operation store)
+      (operation : Operation) → Complies (withPending a (b .selected) (orderAsked a (b .selected) operation store)) (operated b operation store)
   unfolding operated orderAsked pick
   operated-complies operation =
       subst
-      (λ (report : ℕ). Complies (withPending a (b .selected) (pick (movesTape (moveOf operation) && mayMove (moveOf operation) report) (orderBy (withPending a (b .selected) []) operation store ∷ []) [])) (operated b operation store))
+      (λ (report : ℕ). Complies (pendingIf (movesTape (moveOf operation) && mayMove (moveOf operation) report) operation) (operated b operation store))
       (agrees .drive (b .selected) (agrees .low) .report)
       (by-may (mayMove (moveOf operation) (current b .report)))
     where
       by-may :
           (may : Bool)
-          → Complies (withPending a (b .selected) (pick (movesTape (moveOf operation) && may) (orderBy (withPending a (b .selected) []) operation store ∷ []) [])) (pick may (begun (pastTest b operation) operation store) (endedBy b store 0x04))
+          → Complies (pendingIf (movesTape (moveOf operation) && may) operation)
+          (pick may (begun (pastTest b operation) operation store) (endedBy b store 0x04))
       by-may true =
-          subst (λ (moves : Bool). Complies (withPending a (b .selected) (pick moves (orderBy (withPending a (b .selected) []) operation store ∷ []) [])) (begun (pastTest b operation) operation store))
+          subst (λ (moves : Bool). Complies (pendingIf moves operation) (begun (pastTest b operation) operation store))
           (sym (and-true (movesTape (moveOf operation)))) (begun-complies operation)
       by-may false = rests-comply _ b _ (ended-rests b store 0x04) agrees
 

@@ -9,7 +9,7 @@ use lib.Dec.{leb, eqb}
 use borrow.Author.Tests.{eqb-true, eqb-false, eq-eqb, ne-eqb, leb-false, leb-true}
 use Rattle.common.specs.Pick.{pick}
 use Rattle.common.specs.Given.{given}
-use Rattle.common.proofs.PickLaws.{pick-by, pick-yes, pick-no}
+use Rattle.common.proofs.PickLaws.{by-test, pick-by, pick-yes, pick-no}
 use Rattle.operations.specs.declared.operation.Operation.{Operation}
 use Rattle.operations.specs.declared.operation.Operation.the-variants.{Read, CheckBytes, Write, Erase, Rewind, FastForward, SkipForward, SkipReverse, SearchForward, SearchReverse, WriteMark}
 use Rattle.operations.specs.declared.decode.Decoded.{Decoded}
@@ -18,7 +18,7 @@ use Rattle.operations.specs.Operation.{moveOf, orderByte}
 use Rattle.operations.specs.Test.{mayMove}
 use Rattle.status.specs.declared.drives.Drive.{Drive}
 use Rattle.status.specs.declared.drives.Drives.{Drives}
-use Rattle.status.specs.Drives.{reports, driveOf, copied}
+use Rattle.status.specs.Drives.{driveOf, copied}
 use Rattle.status.specs.Strings.{orderOf}
 use Rattle.status.proofs.DriveLaws.{put-same, put-other}
 use Rattle.operations.specs.declared.store.Store.{Store}
@@ -146,14 +146,11 @@ module _ (d : ℕ) (store : Store) where
 
 -- a track and a density are set alike whatever the reviewed copy is
 tracked-seen : (drive : Drive) (track : ℕ) → copied (tracked drive track) ≡ copied (tracked (copied drive) track)
-unfolding tracked pick
-tracked-seen drive track = same (eqb (drive .track) track)
-  where
-    same :
-        (t : Bool)
-        → copied (pick t drive (record { report = drive .report; reviewed = drive .reviewed; track = track; density = drive .density; gap = pick (reports (drive .report) 1) 0 3 })) ≡ copied (pick t (copied drive) (record { report = drive .report; reviewed = drive .report; track = track; density = drive .density; gap = pick (reports (drive .report) 1) 0 3 }))
-    same true = refl
-    same false = refl
+unfolding tracked
+tracked-seen drive track =
+    let seen-of : Drive → Drive = λ (x : Drive). copied x in
+    by-test (eqb (drive .track) track) (λ same. ap seen-of (pick-yes drive _ same) ∙ sym (ap seen-of (pick-yes (copied drive) _ same)))
+    (λ new. ap seen-of (pick-no drive _ new) ∙ sym (ap seen-of (pick-no (copied drive) _ new)))
 
 -- the record that is set is the selected drive's
 pub set-own :
