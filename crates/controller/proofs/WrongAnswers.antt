@@ -7,23 +7,23 @@ use mathlib.Core.List.{List}
 use Prim.Native.Nat.{ℕ, _+_, _≤_, _<_}
 use native.Mathlib.Omega.{arith}
 use lib.Dec.{leb, ltb, eqb}
-use lib.ListN.{length}
+use lib.ListN.{length, length-take}
 use borrow.Author.Tests.{eqb-false, eqb-true, not-false, le-leb, leb-false}
 use Rattle.common.specs.Pick.{pick}
 use Rattle.common.proofs.PickLaws.{pick-by, not-refused}
 use Rattle.marks.specs.Scan.{scanOf}
-use Rattle.records.specs.Image.{imageOf}
 use Rattle.records.specs.declared.whole.Expected.{Expected}
 use Rattle.records.specs.declared.whole.Expected.the-variants.{Nothing as NoImage}
 use Rattle.records.specs.Whole.{emptyRefusal, imageRefusal}
 use Rattle.status.specs.declared.drives.Drive.{Drive}
 use Rattle.status.specs.declared.strings.Six.{Six}
 use Rattle.status.specs.Drives.{reports, driveOf, freshDrives, resetDrives}
-use Rattle.status.specs.Words.{noOutcome}
 use Rattle.status.proofs.DriveLaws.{put-other, by-four}
 use Rattle.operations.specs.declared.operation.Operation.the-variants.{Read}
 use Rattle.operations.specs.declared.store.Store.{Store}
-use Rattle.operations.specs.Store.{asksInterrupt, namesDrive, named}
+use Rattle.operations.specs.Store.{asksInterrupt, namesDrive, named, heldCount}
+use Rattle.records.proofs.ImageLaws.{image-length, image-holds}
+use Rattle.common.proofs.GivenLaws.{filled-length}
 use Rattle.transfers.specs.Data.{recordBytes, dataRefusal}
 use Rattle.transfers.specs.Results.{resultOf, wholeCode, expectedWhole, expectedOf, resultRefusal, isGone, usesImage, scanCode, finalCode, wroteWell, resultBits, withRetry}
 use Rattle.link.specs.declared.state.Kind.{Kind}
@@ -42,7 +42,7 @@ use Rattle.link.specs.Damaged.{sound}
 use Rattle.controller.specs.declared.controller.Controller.{Controller}
 use Rattle.controller.specs.declared.controller.Reply.{Reply}
 use Rattle.controller.specs.Controller.{fresh}
-use Rattle.controller.specs.Stores.{storeOf, endedBy, cleared, namesUnknown, carriedOut}
+use Rattle.controller.specs.Stores.{storeOf, endedBy, namesUnknown, carriedOut}
 use Rattle.controller.specs.Records.{Answer, dataDone, resultBody, ending, resultGiven, resultDone}
 use Rattle.controller.specs.Machine.{byteIn, brokenIn, tickIn, byteCall, brokenCall, tickCall, takenBody, takenIn, takenCall, reportNoted, reportCall, resetCall, dataFor, dataIn, dataCall, resultFor, resultIn, resultCall, Call, step}
 use Rattle.controller.specs.Machine.Call.{byte, taken, broken, report, hostData, result, tick, reset}
@@ -136,11 +136,16 @@ taken-with-no-ack b phase ack =
     (pick-by (λ (r : Reply). r .refusal ≡ 0 → ⊥) (sound b phase) (λ sane. taken-in-refuses (at b phase) b phase ack) (λ hurt. nonzero 1 refl))
 
 -- such a store ends with code 01
+ended-coded : (b : Body) (store : Store) → endedBy b store 0x01 .body .outcome .code ≡ 0 → ⊥
+unfolding endedBy completed interrupts sent idle review coded pick
+ended-coded b store =
+    pick-by (λ (t : Turn). t .body .outcome .code ≡ 0 → ⊥) (asksInterrupt store)
+    (λ asked. pick-by (λ (t : Turn). t .body .outcome .code ≡ 0 → ⊥) (b .outcome .counted) (λ counted. nonzero 1 refl) (λ none. nonzero 1 refl))
+    (λ quiet. nonzero 1 refl)
+
 named-above : (b : Body) (store : Store) → namesDrive store ≡ true → 4 ≤ named store → carriedOut b store .body .outcome .code ≡ 0 → ⊥
-unfolding carriedOut namesUnknown endedBy completed interrupts sent idle review coded cleared noOutcome pick
-named-above b store names high =
-    simp (names, le-leb 4 (named store) high)
-    (pick-by (λ (t : Turn). t .body .outcome .code ≡ 0 → ⊥) (asksInterrupt store) (λ asked. nonzero 1 refl) (λ quiet. nonzero 1 refl))
+unfolding carriedOut namesUnknown pick
+named-above b store names high = simp (names, le-leb 4 (named store) high) (ended-coded _ store)
 
 -- a store that names a drive above 3 goes without code 01
 pub taken-drive-4-with-code-00 :
@@ -203,25 +208,47 @@ report-of-drive-4 c n value high =
 
 -- ---- data
 
--- fewer bytes are given than the image has
+-- a record has the bytes that its store says
+record-length : (store : Store) (host : List ℕ) → length (recordBytes store host) ≡ heldCount store
+unfolding recordBytes
+record-length store host = filled-length _ (heldCount store) (simp length-take (omega arith))
+
+module _ (c : Controller) (b : Body) (drive : Drive) (store : Store) (host space check : List ℕ) where
+  abbrev short : Answer → Type 0
+  short a = (a .reply .refusal ≡ 0) × (a .bytes < 2 + heldCount store) → ⊥
+
+  data-for-short : short (dataFor c b drive store host space check)
+  unfolding dataFor dataDone
+  data-for-short =
+      let bytes = recordBytes store host in
+      pick-by short (eqb (dataRefusal drive store (length space) (length check)) 0)
+      (λ good w. omega (arith, w .1, image-length bytes (drive .density), image-holds (length bytes) (drive .density), record-length store host))
+      (λ refused w. eqb-false _ 0 refused (w .0))
+
+  -- the space is as it was
+  data-for-refused : (dataFor c b drive store host space check .reply .refusal ≡ 0 → ⊥) → dataFor c b drive store host space check .space ≡ space
+  unfolding dataFor dataDone
+  data-for-refused =
+      pick-by (λ (a : Answer). (a .reply .refusal ≡ 0 → ⊥) → a .space ≡ space) (eqb (dataRefusal drive store (length space) (length check)) 0)
+      (λ good some. absurd (some refl)) (λ refused some. refl)
+
+-- fewer bytes are given than the count and the bytes of the record
 pub data-image-cut-short :
-    (b : Body) (store : Store) (host space check : List ℕ) → Excludes (at b (DataAwaited store)) (hostData host space check) (λ a. (a .reply .refusal ≡ 0) × (a .bytes < length (imageOf (recordBytes store host) (current b .density))))
-unfolding step dataCall dataIn dataFor dataDone
+    (b : Body) (store : Store) (host space check : List ℕ)
+    → Excludes (at b (DataAwaited store)) (hostData host space check) (λ a. (a .reply .refusal ≡ 0) × (a .bytes < 2 + heldCount store))
+unfolding step dataCall dataIn
 data-image-cut-short b store host space check =
     excluded _ _ _
-    (pick-by short (sound b (DataAwaited store))
-    (λ sane. pick-by short (eqb (dataRefusal (current b) store (length space) (length check)) 0) (λ good w. omega (arith, w .1)) (λ refused w. eqb-false _ 0 refused (w .0)))
-    (λ hurt w. nonzero 1 refl (w .0)))
-  where
-    short : Answer → Type 0
-    short a = (a .reply .refusal ≡ 0) × (a .bytes < length (imageOf (recordBytes store host) (current b .density))) → ⊥
+    (pick-by (λ (a : Answer). (a .reply .refusal ≡ 0) × (a .bytes < 2 + heldCount store) → ⊥) (sound b (DataAwaited store))
+    (λ sane. data-for-short _ b _ store host space check) (λ hurt w. nonzero 1 refl (w .0)))
 
--- the space is as it was, whatever the phase
-data-in-refused : (c : Controller) (b : Body) (host space check : List ℕ) (phase : Phase) → (dataIn c b host space check phase .reply .refusal ≡ 0 → ⊥) → dataIn c b host space check phase .space ≡ space
-unfolding dataIn dataFor dataDone
-data-in-refused c b host space check (DataAwaited store) =
-    pick-by (λ (a : Answer). (a .reply .refusal ≡ 0 → ⊥) → a .space ≡ space) (eqb (dataRefusal (current b) store (length space) (length check)) 0)
-    (λ good some. absurd (some refl)) (λ refused some. refl)
+-- the same, whatever the phase
+data-in-refused :
+    (c : Controller) (b : Body) (host space check : List ℕ) (phase : Phase)
+    → (dataIn c b host space check phase .reply .refusal ≡ 0 → ⊥)
+    → dataIn c b host space check phase .space ≡ space
+unfolding dataIn
+data-in-refused c b host space check (DataAwaited store) = data-for-refused c b _ store host space check
 data-in-refused c b host space check Collecting = λ some. refl
 data-in-refused c b host space check AckOffered = λ some. refl
 data-in-refused c b host space check (Sending s) = λ some. refl
