@@ -41,7 +41,7 @@ use Rattle.controller.specs.Machine.Call.{byte, taken, broken, report, h
 use Rattle.controller.specs.Lists.{notRefused, isTaken, holdsStore, carriesOut, lastStore, noStore, asksFor}
 use Rattle.controller.specs.Counts.{OwnRecord, passedBy, recordAfter, ownRecord, Sends, ValidFrom, CountsAreOwn}
 use Rattle.controller.specs.Counts.OwnRecord.{noRecord, recordOf}
-use Rattle.controller.proofs.Steps.Resting.{Free, Rests, ended-rests, settled-rests, go-refused-rests, ending-rests}
+use Rattle.controller.proofs.Steps.Resting.{by-free, Free, Rests, ended-rests, settled-rests, go-refused-rests, ending-rests}
 use Rattle.controller.proofs.Steps.Strings.{marked, HeldUpToDate, SentUpToDate, StringsUpToDate, ended-strings, settled-strings, go-refused-strings, ending-strings}
 use Rattle.controller.proofs.Steps.{stated, exchanged, turnOf, LinkCall, SaysNo, OfRefusals, OfLink, OfStores, OfNo, OfData, OfResults, Kinds, data-for, result-for, by-step}
 
@@ -63,14 +63,8 @@ InHand last counted (DataAwaited store) = Unmarked last counted Write store
 InHand last counted (ResultAwaited operation store) = Unmarked last counted operation store
 
 free-hand : (last : Store) (counted : Bool) (phase : Phase) → Free phase → InHand last counted phase
-unfolding InHand Free
-free-hand last counted Collecting free = tt
-free-hand last counted AckOffered free = tt
-free-hand last counted (Sending s) free = tt
-free-hand last counted (EndOffered interrupt) free = tt
-free-hand last counted (GoOffered store) free = absurd free
-free-hand last counted (DataAwaited store) free = absurd free
-free-hand last counted (ResultAwaited operation store) free = absurd free
+unfolding InHand
+free-hand last counted = by-free (InHand last counted) tt tt (λ s. tt) (λ interrupt. tt)
 
 record Kept (last : Store) (own : OwnRecord) (b : Body) (phase : Phase) : Type 0 where
   pub hand : InHand last (b .outcome .counted) phase

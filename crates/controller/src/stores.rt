@@ -46,7 +46,7 @@ pub fn store_of(s: Collected) -> Store
 }
 
 // A drive with a track selected. The gap of a new track is proper at the beginning of tape, else lost.
-pub fn with_track(mut drive: Drive, track: u8) -> Drive
+fn with_track(mut drive: Drive, track: u8) -> Drive
     ensures { λ r. ⌜ r ≡ tracked drive track ⌝ }
 {
     let same = drive.track == track;
@@ -64,7 +64,7 @@ pub fn with_track(mut drive: Drive, track: u8) -> Drive
 }
 
 // A drive with a density selected.
-pub fn with_density(mut drive: Drive, density: u8) -> Drive
+fn with_density(mut drive: Drive, density: u8) -> Drive
     ensures { λ r. ⌜ r ≡ withDensity drive density ⌝ }
 {
     drive.density = density;
@@ -72,7 +72,7 @@ pub fn with_density(mut drive: Drive, density: u8) -> Drive
 }
 
 // The order of an operation for the selected drive.
-pub fn motion_order(b: Body, operation: Operation, store: Store) -> Six
+fn motion_order(b: Body, operation: Operation, store: Store) -> Six
     ensures { λ r. ⌜ r ≡ motionOrder b operation store ⌝ }
 {
     let drive = current_drive(b);
@@ -88,7 +88,7 @@ pub fn motion_order(b: Body, operation: Operation, store: Store) -> Six
 }
 
 // Secondary is set to 0 for a read, a skip and a write.
-pub fn past_test(mut b: Body, operation: Operation) -> Body
+fn past_test(mut b: Body, operation: Operation) -> Body
     ensures { λ r. ⌜ r ≡ pastTest b operation ⌝ }
 {
     if counts_bytes(operation) {

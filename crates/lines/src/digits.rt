@@ -8,10 +8,10 @@ ghost use Rattle.common.specs.Given.{given};
 ghost use Rattle.lines.specs.Digits.{digitValue, isDigit, allDigits, byteValue, isByte, byteOf, isBytes, bytesOf, decimalOf, isDecimal};
 
 // Above every limit of a decimal. A longer number stays here.
-pub const MOST: usize = 65535;
+const MOST: usize = 65535;
 
 // The value of a digit.
-pub fn digit_value(d: u8) -> u8
+fn digit_value(d: u8) -> u8
     ensures { λ r. ⌜ (r ≡ digitValue d) × (r < 16) ⌝ }
 {
     if d < 58 {
@@ -21,7 +21,7 @@ pub fn digit_value(d: u8) -> u8
 }
 
 // Whether a byte is a digit of a base.
-pub fn is_digit(base: u8, d: u8) -> bool
+fn is_digit(base: u8, d: u8) -> bool
     ensures { λ r. ⌜ r ≡ isDigit base d ⌝ }
 {
     let value = digit_value(d);
@@ -29,7 +29,7 @@ pub fn is_digit(base: u8, d: u8) -> bool
 }
 
 // Whether every byte is.
-pub fn all_digits(base: u8, s: &[u8]) -> bool
+fn all_digits(base: u8, s: &[u8]) -> bool
     ensures { λ r. ⌜ r ≡ allDigits base (now (s .entry)) ⌝ }
 {
     let end = s.len();
@@ -44,7 +44,7 @@ pub fn all_digits(base: u8, s: &[u8]) -> bool
 }
 
 // The byte that two digits spell.
-pub fn byte_value(high: u8, low: u8) -> u8
+fn byte_value(high: u8, low: u8) -> u8
     ensures { λ r. ⌜ r ≡ byteValue high low ⌝ }
 {
     let h = digit_value(high);
@@ -90,7 +90,7 @@ pub fn put_bytes(s: &[u8], space: &mut [u8])
 }
 
 // The number that digits spell, or MOST where it is more.
-pub fn capped_decimal(s: &[u8]) -> usize
+fn capped_decimal(s: &[u8]) -> usize
     ensures { λ r. ⌜ r ≡ min (decimalOf (now (s .entry))) 65535 ⌝ }
 {
     let end = s.len();

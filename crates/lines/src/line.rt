@@ -24,7 +24,7 @@ pub enum Reading {
 }
 
 // The place of the first comma, or the end.
-pub fn field_end(s: &[u8]) -> usize
+fn field_end(s: &[u8]) -> usize
     ensures { λ r. ⌜ (take r (now (s .entry)) ≡ fieldOf (now (s .entry))) × (r ≤ length (now (s .entry))) ⌝ }
 {
     let end = s.len();
@@ -59,7 +59,7 @@ pub fn after(s: &[u8], count: usize) -> &[u8]
 }
 
 // A line of one letter.
-pub fn read_bare(letter: u8) -> Reading
+fn read_bare(letter: u8) -> Reading
     ensures { λ r. ⌜ ReadAs r (bareLine letter) ⌝ }
 {
     match letter {
@@ -72,7 +72,7 @@ pub fn read_bare(letter: u8) -> Reading
 }
 
 // A byte.
-pub fn read_byte(s: &[u8]) -> Reading
+fn read_byte(s: &[u8]) -> Reading
     ensures { λ r. ⌜ ReadAs r (byteLine (now (s .entry))) ⌝ }
 {
     let readable = is_byte(s);
@@ -83,7 +83,7 @@ pub fn read_byte(s: &[u8]) -> Reading
 }
 
 // A report.
-pub fn read_report(s: &[u8]) -> Reading
+fn read_report(s: &[u8]) -> Reading
     ensures { λ r. ⌜ ReadAs r (reportLine (now (s .entry))) ⌝ }
 {
     let drive = field(s);
@@ -98,7 +98,7 @@ pub fn read_report(s: &[u8]) -> Reading
 }
 
 // Host bytes.
-pub fn read_data(s: &[u8], bytes: &mut [u8; 16898]) -> Reading
+fn read_data(s: &[u8], bytes: &mut [u8; 16898]) -> Reading
     ensures { λ r. ⌜ ReadWith r (now (bytes .exit)) (dataLine (now (s .entry))) ⌝ }
 {
     let readable = is_bytes(16384, s);
@@ -110,7 +110,7 @@ pub fn read_data(s: &[u8], bytes: &mut [u8; 16898]) -> Reading
 }
 
 // The fields of a result.
-pub fn read_fields(
+fn read_fields(
     code: &[u8],
     mark: &[u8],
     late: &[u8],
@@ -148,7 +148,7 @@ pub fn read_fields(
 }
 
 // A result.
-pub fn read_result(s: &[u8], bytes: &mut [u8; 16898], marks: &mut [u8; 66]) -> Reading
+fn read_result(s: &[u8], bytes: &mut [u8; 16898], marks: &mut [u8; 66]) -> Reading
     ensures { λ r. ⌜ lineRead r (now (bytes .exit)) (now (marks .exit)) ≡ resultLine (now (s .entry)) ⌝ }
 {
     let code = field(s);
@@ -165,7 +165,7 @@ pub fn read_result(s: &[u8], bytes: &mut [u8; 16898], marks: &mut [u8; 66]) -> R
 }
 
 // A letter and a comma, and what comes after them.
-pub fn read_call(letter: u8, s: &[u8], bytes: &mut [u8; 16898], marks: &mut [u8; 66]) -> Reading
+fn read_call(letter: u8, s: &[u8], bytes: &mut [u8; 16898], marks: &mut [u8; 66]) -> Reading
     ensures { λ r. ⌜ lineRead r (now (bytes .exit)) (now (marks .exit)) ≡ callLine letter (now (s .entry)) ⌝ }
 {
     match letter {

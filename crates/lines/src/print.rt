@@ -9,7 +9,7 @@ ghost use lib.ListN.{length, take};
 ghost use Rattle.lines.specs.Print.{digitOf, byteText, bytesText, refusalText, actionLetter, sixBytes, actionBytes, printed, unreadableText};
 
 // A digit below 16.
-pub fn digit_of(n: u8) -> u8
+fn digit_of(n: u8) -> u8
     requires { ⌜ n < 16 ⌝ }
     ensures { λ r. ⌜ r ≡ digitOf n ⌝ }
 {
@@ -29,7 +29,7 @@ pub fn put(byte: u8, out: &mut [u8], at: usize) -> usize
 }
 
 // A byte in hexadecimal.
-pub fn put_byte(byte: u8, out: &mut [u8], at: usize) -> usize
+fn put_byte(byte: u8, out: &mut [u8], at: usize) -> usize
     requires { ⌜ at + 2 ≤ length (now out) ⌝ }
     ensures { λ r. ⌜ (r ≡ at + 2) × (take r (now (out .exit)) ≡ take at (now (out .entry)) ++ byteText byte) ⌝ }
 {
@@ -38,7 +38,7 @@ pub fn put_byte(byte: u8, out: &mut [u8], at: usize) -> usize
 }
 
 // Bytes in hexadecimal.
-pub fn put_text(bytes: &[u8], out: &mut [u8], at: usize) -> usize
+fn put_text(bytes: &[u8], out: &mut [u8], at: usize) -> usize
     requires { ⌜ at + 2 * length (now bytes) ≤ length (now out) ⌝ }
     ensures { λ r. ⌜ (r ≡ at + 2 * length (now (bytes .entry))) × (take r (now (out .exit)) ≡ take at (now (out .entry)) ++ bytesText (now (bytes .entry))) ⌝ }
 {
@@ -51,7 +51,7 @@ pub fn put_text(bytes: &[u8], out: &mut [u8], at: usize) -> usize
 }
 
 // The number of a refusal.
-pub fn put_refusal(number: u32, out: &mut [u8], at: usize) -> usize
+fn put_refusal(number: u32, out: &mut [u8], at: usize) -> usize
     requires { ⌜ at + 2 ≤ length (now out) ⌝ }
     ensures { λ r. ⌜ (r ≤ at + 2) × (take r (now (out .exit)) ≡ take at (now (out .entry)) ++ refusalText number) ⌝ }
 {
@@ -65,7 +65,7 @@ pub fn put_refusal(number: u32, out: &mut [u8], at: usize) -> usize
 }
 
 // The letter of an action.
-pub fn action_letter(action: Action) -> u8
+fn action_letter(action: Action) -> u8
     ensures { λ r. ⌜ r ≡ actionLetter action ⌝ }
 {
     match action {
@@ -77,7 +77,7 @@ pub fn action_letter(action: Action) -> u8
 }
 
 // Six bytes.
-pub fn put_six(six: Six, out: &mut [u8], at: usize) -> usize
+fn put_six(six: Six, out: &mut [u8], at: usize) -> usize
     requires { ⌜ at + 12 ≤ length (now out) ⌝ }
     ensures { λ r. ⌜ (r ≤ at + 12) × (take r (now (out .exit)) ≡ take at (now (out .entry)) ++ bytesText (sixBytes six)) ⌝ }
 {
@@ -86,7 +86,7 @@ pub fn put_six(six: Six, out: &mut [u8], at: usize) -> usize
 }
 
 // The bytes of an action.
-pub fn put_action(action: Action, out: &mut [u8], at: usize) -> usize
+fn put_action(action: Action, out: &mut [u8], at: usize) -> usize
     requires { ⌜ at + 12 ≤ length (now out) ⌝ }
     ensures { λ r. ⌜ (r ≤ at + 12) × (take r (now (out .exit)) ≡ take at (now (out .entry)) ++ bytesText (actionBytes action)) ⌝ }
 {
@@ -99,7 +99,7 @@ pub fn put_action(action: Action, out: &mut [u8], at: usize) -> usize
 }
 
 // Refusal, action and its bytes, each with a comma.
-pub fn print_head(refusal: u32, action: Action, out: &mut [u8]) -> usize
+fn print_head(refusal: u32, action: Action, out: &mut [u8]) -> usize
     requires { ⌜ 18 ≤ length (now out) ⌝ }
     ensures { λ r. ⌜ (r ≤ 18) × (take r (now (out .exit)) ≡ refusalText refusal ++ (44 ∷ actionLetter action ∷ 44 ∷ (bytesText (actionBytes action) ++ (44 ∷ [])))) ⌝ }
 {

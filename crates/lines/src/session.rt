@@ -24,7 +24,7 @@ pub struct Answered {
 }
 
 // A call that gives no bytes.
-pub fn answer_reply(reply: Reply, space: &[u8], check: &[u8], out: &mut [u8]) -> Answered
+fn answer_reply(reply: Reply, space: &[u8], check: &[u8], out: &mut [u8]) -> Answered
     requires { ⌜ 19 ≤ length (now out) ⌝ }
     ensures { λ r. ⌜ (r .count ≤ 19) × (left r (now (space .entry)) (now (check .entry)) (now (out .exit)) ≡ replyLeft reply (now (space .entry)) (now (check .entry))) ⌝ }
 {
@@ -35,7 +35,7 @@ pub fn answer_reply(reply: Reply, space: &[u8], check: &[u8], out: &mut [u8]) ->
 }
 
 // An unreadable line.
-pub fn answer_unreadable(c: Controller, space: &[u8], check: &[u8], out: &mut [u8]) -> Answered
+fn answer_unreadable(c: Controller, space: &[u8], check: &[u8], out: &mut [u8]) -> Answered
     requires { ⌜ 19 ≤ length (now out) ⌝ }
     ensures { λ r. ⌜ (r .count ≤ 19) × (left r (now (space .entry)) (now (check .entry)) (now (out .exit)) ≡ lineLeft c Line.unreadable (now (space .entry)) (now (check .entry))) ⌝ }
 {
@@ -47,7 +47,7 @@ pub fn answer_unreadable(c: Controller, space: &[u8], check: &[u8], out: &mut [u
 }
 
 // A data call or a result: the reply, and the bytes that it gives at the start of the space.
-pub fn answer_transfer(transfer: Transfer, space: &[u8], check: &[u8], out: &mut [u8]) -> Answered
+fn answer_transfer(transfer: Transfer, space: &[u8], check: &[u8], out: &mut [u8]) -> Answered
     requires { ⌜ 19 + 2 * length (now space) ≤ length (now out) ⌝ }
     ensures { λ r. ⌜ (r .count ≤ 19 + 2 * length (now (space .entry))) × (left r (now (space .entry)) (now (check .entry)) (now (out .exit)) ≡ transferLeft (answered transfer (now (space .entry)) (now (check .entry)))) ⌝ }
 {
@@ -60,7 +60,7 @@ pub fn answer_transfer(transfer: Transfer, space: &[u8], check: &[u8], out: &mut
 }
 
 // Host bytes.
-pub fn answer_data(
+fn answer_data(
     c: Controller,
     host: &[u8],
     space: &mut [u8],
@@ -75,7 +75,7 @@ pub fn answer_data(
 }
 
 // A result, with as much space as it is lent.
-pub fn answer_result(
+fn answer_result(
     c: Controller,
     code: u8,
     mark: bool,
@@ -94,7 +94,7 @@ pub fn answer_result(
 }
 
 // A line that was read.
-pub fn answer_reading(
+fn answer_reading(
     c: Controller,
     reading: Reading,
     bytes: &[u8],

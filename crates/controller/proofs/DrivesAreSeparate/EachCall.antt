@@ -11,7 +11,7 @@ use Rattle.common.proofs.PickLaws.{both-hold, pick-yes, pick-no}
 use Rattle.operations.specs.declared.store.Store.{Store}
 use Rattle.operations.specs.Store.{namesDrive}
 use Rattle.link.specs.declared.state.Phase.{Phase}
-use Rattle.link.specs.declared.state.Phase.the-variants.{Collecting, AckOffered, Sending, GoOffered, DataAwaited, ResultAwaited, EndOffered}
+use Rattle.link.specs.declared.state.Phase.the-variants.{AckOffered}
 use Rattle.link.specs.declared.state.Turn.{Turn}
 use Rattle.controller.specs.declared.controller.Controller.{Controller}
 use Rattle.controller.specs.Controller.{carried}
@@ -21,7 +21,7 @@ use Rattle.controller.specs.Machine.Call.{byte, taken, broken, report, h
 use Rattle.controller.specs.Lists.{notRefused, isTaken, holdsStore, carriesOut, lastStore}
 use Rattle.controller.specs.Separation.{isOf, storeEvent, awaitsGo, eventOf, bytesGiven, transferOf, isReset, resets, admits}
 use Rattle.controller.specs.Separation.Event.{goAnswered}
-use Rattle.controller.proofs.Steps.Resting.{Free, Rests}
+use Rattle.controller.proofs.Steps.Resting.{by-free, Free, Rests}
 use Rattle.controller.proofs.Steps.{stated, exchanged, LinkCall, SaysNo, OfRefusals, OfLink, OfStores, OfNo, OfData, OfResults, OfResets, Kinds, data-for, result-for, by-step}
 use Rattle.controller.proofs.DrivesAreSeparate.Views.{viewOf, InHand, free-held, free-view, rests-view, none-for, Follows, refused-follows, passes-follows}
 use Rattle.controller.proofs.DrivesAreSeparate.Stores.{carried-follows}
@@ -29,14 +29,8 @@ use Rattle.controller.proofs.DrivesAreSeparate.Calls.{report-follows, g
 
 -- with nothing in hand no answer to GO is awaited
 free-goes : (phase : Phase) → Free phase → awaitsGo phase ≡ false
-unfolding Free awaitsGo
-free-goes Collecting free = refl
-free-goes AckOffered free = refl
-free-goes (Sending s) free = refl
-free-goes (EndOffered interrupt) free = refl
-free-goes (GoOffered store) free = absurd free
-free-goes (DataAwaited store) free = absurd free
-free-goes (ResultAwaited operation store) free = absurd free
+unfolding awaitsGo
+free-goes = by-free (λ (phase : Phase). awaitsGo phase ≡ false) refl refl (λ s. refl) (λ interrupt. refl)
 
 module _ (d : ℕ) (low : d ≤ 3) where
   -- what is claimed of a call: it is followed, whatever store came last

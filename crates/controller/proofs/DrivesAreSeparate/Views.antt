@@ -27,7 +27,7 @@ use Rattle.controller.specs.Lists.{notRefused}
 use Rattle.controller.specs.Separation.{Event, Output, isOf, eventOf, eventsOf, ordersFor, bytesGiven, transferOf, outputsOf}
 use Rattle.controller.proofs.DrivesAreSeparate.OneDrive.{Hand, View, resting, operand, told, gives, toldAll, givesAll}
 use Rattle.controller.proofs.DrivesAreSeparate.OneDrive.Hand.{empty, goOffered, dataAwaited, resultAwaited}
-use Rattle.controller.proofs.Steps.Resting.{seen, Free, NoOrder, Rests}
+use Rattle.controller.proofs.Steps.Resting.{by-free, seen, Free, NoOrder, Rests}
 
 -- ---- the view of a drive
 
@@ -67,24 +67,12 @@ InHand last selected (ResultAwaited operation store) = Held last selected operat
 
 -- where nothing is in hand
 pub free-held : (last : Store) (selected : ℕ) (phase : Phase) → Free phase → InHand last selected phase
-unfolding InHand Free
-free-held last selected Collecting free = tt
-free-held last selected AckOffered free = tt
-free-held last selected (Sending s) free = tt
-free-held last selected (EndOffered interrupt) free = tt
-free-held last selected (GoOffered store) free = absurd free
-free-held last selected (DataAwaited store) free = absurd free
-free-held last selected (ResultAwaited operation store) free = absurd free
+unfolding InHand
+free-held last selected = by-free (InHand last selected) tt tt (λ s. tt) (λ interrupt. tt)
 
 pub free-hand : (phase : Phase) → Free phase → handIn phase ≡ empty
-unfolding handIn Free
-free-hand Collecting free = refl
-free-hand AckOffered free = refl
-free-hand (Sending s) free = refl
-free-hand (EndOffered interrupt) free = refl
-free-hand (GoOffered store) free = absurd free
-free-hand (DataAwaited store) free = absurd free
-free-hand (ResultAwaited operation store) free = absurd free
+unfolding handIn
+free-hand = by-free (λ (phase : Phase). handIn phase ≡ empty) refl refl (λ s. refl) (λ interrupt. refl)
 
 pub free-view : (d : ℕ) (last : Store) (c : Controller) → Free (c .phase) → viewOf d last c ≡ resting (seen d (c .body))
 free-view d last c free =

@@ -29,7 +29,7 @@ use Rattle.controller.specs.Stores.{motionOrder}
 use Rattle.controller.specs.Machine.{Exchange}
 use Rattle.controller.specs.Machine.Call.{report}
 use Rattle.controller.specs.Orders.{Settings, entered, noted, Asked, issued}
-use Rattle.controller.proofs.Steps.Resting.{seen, Free, NoOrder, Rests}
+use Rattle.controller.proofs.Steps.Resting.{by-free, seen, Free, NoOrder, Rests}
 use Rattle.controller.proofs.Steps.{turnOf}
 
 -- ---- the settings agree with the controller
@@ -64,14 +64,8 @@ Pending a (DataAwaited store) = a .pending ≡ orderBy a Write store ∷ []
 Pending a (ResultAwaited operation store) = Unit
 
 free-pending : (a : Settings) (phase : Phase) → Free phase → Pending a phase
-unfolding Pending Free
-free-pending a Collecting free = tt
-free-pending a AckOffered free = tt
-free-pending a (Sending s) free = tt
-free-pending a (EndOffered interrupt) free = tt
-free-pending a (GoOffered store) free = absurd free
-free-pending a (DataAwaited store) free = absurd free
-free-pending a (ResultAwaited operation store) free = absurd free
+unfolding Pending
+free-pending a = by-free (Pending a) tt tt (λ s. tt) (λ interrupt. tt)
 
 -- the controller's order is that of the settings
 pub same-order :

@@ -54,6 +54,25 @@ Free (GoOffered store) = ⊥
 Free (DataAwaited store) = ⊥
 Free (ResultAwaited operation store) = ⊥
 
+-- a claim of such a phase, from the claim of each
+pub by-free :
+    (P : Phase → Type 0)
+    → P Collecting
+    → P AckOffered
+    → ((s : Send) → P (Sending s))
+    → ((interrupt : Bool) → P (EndOffered interrupt))
+    → (phase : Phase)
+    → Free phase
+    → P phase
+unfolding Free
+by-free P collecting offered sends ends Collecting free = collecting
+by-free P collecting offered sends ends AckOffered free = offered
+by-free P collecting offered sends ends (Sending s) free = sends s
+by-free P collecting offered sends ends (EndOffered interrupt) free = ends interrupt
+by-free P collecting offered sends ends (GoOffered store) free = absurd free
+by-free P collecting offered sends ends (DataAwaited store) free = absurd free
+by-free P collecting offered sends ends (ResultAwaited operation store) free = absurd free
+
 unfoldable pub NoOrder : Action → Type 0
 NoOrder Nothing = Unit
 NoOrder (Byte b) = Unit
