@@ -52,6 +52,7 @@ recordAfter store own c (hostData host space check) = own
 recordAfter store own c tick = own
 recordAfter store own c reset = own
 
+-- a refused call tells nothing
 unfoldable pub ownRecord : Store → OwnRecord → Controller → Exchange → OwnRecord
 ownRecord store own c x = pick (notRefused x) (recordAfter store own c (x .call)) own
 
@@ -70,6 +71,7 @@ pub record Brings (own : OwnRecord) (count : ℕ) (string : Six) : Type 0 where
   pub secondary : string .b0 ≡ 0x68 → (own ≡ recordOf count) × (string ≡ stringOf 0x68 (secondaryWord count))
   pub primary : string .b0 ≡ 0x69 → bit22 (wordIn string) ≡ true → own ≡ recordOf count
 
+-- whatever goes out
 unfoldable pub Sends : OwnRecord → ℕ → Action → Type 0
 Sends own count (Text string) = Brings own count string
 Sends own count Nothing = Unit
@@ -81,11 +83,13 @@ pub record Valid (own : OwnRecord) (reply : Reply) : Type 0 where
   pub stands : bit22 (primaryNow (reply .controller .body)) ≡ true → own ≡ recordOf (reply .controller .body .secondary)
   pub sends : Sends own (reply .controller .body .secondary) (reply .action)
 
+-- at every call of a list
 unfoldable pub ValidFrom : Store → OwnRecord → Controller → List Exchange → Type 0
 ValidFrom last own c [] = Unit
 ValidFrom last own c (x ∷ xs) =
     Valid (ownRecord (lastStore last c x) own c x) (x .answer .reply)
     × ValidFrom (lastStore last c x) (ownRecord (lastStore last c x) own c x) (x .answer .reply .controller) xs
 
+-- from Fresh, before any store
 abbrev pub CountsAreOwn : List Exchange → Type 0
 CountsAreOwn = ValidFrom noStore noRecord fresh

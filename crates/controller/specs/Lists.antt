@@ -19,6 +19,7 @@ use Rattle.controller.specs.Machine.Call.{byte, taken, broken, report, h
 unfoldable pub notRefused : Exchange → Bool
 notRefused x = eqb (x .answer .reply .refusal) 0
 
+-- the host takes the ACK
 unfoldable pub isTaken : Call → Bool
 isTaken taken = true
 isTaken (byte b) = false

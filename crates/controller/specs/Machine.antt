@@ -65,9 +65,11 @@ tickIn c b (EndOffered interrupt) = refused 4 c
 unfoldable pub byteCall : Controller → ℕ → Reply
 byteCall c byte = pick (sound (c .body) (c .phase)) (byteIn c (c .body) byte (c .phase)) (refused 1 c)
 
+-- the link is broken
 unfoldable pub brokenCall : Controller → Reply
 brokenCall c = pick (sound (c .body) (c .phase)) (brokenIn c (c .body) (c .phase)) (refused 1 c)
 
+-- a tick
 unfoldable pub tickCall : Controller → Reply
 tickCall c = pick (sound (c .body) (c .phase)) (tickIn c (c .body) (c .phase)) (refused 1 c)
 
@@ -85,6 +87,7 @@ takenIn c b (DataAwaited store) = refused 2 c
 takenIn c b (ResultAwaited operation store) = refused 2 c
 takenIn c b (EndOffered interrupt) = refused 2 c
 
+-- the ACK is taken
 unfoldable pub takenCall : Controller → Reply
 takenCall c = pick (sound (c .body) (c .phase)) (takenIn c (c .body) (c .phase)) (refused 1 c)
 
@@ -102,6 +105,7 @@ unfoldable pub reportCall : Controller → ℕ → ℕ → Reply
 reportCall c drive report =
     pick (sound (c .body) (c .phase)) (pick (leb 4 drive) (refused 5 c) (carried (reportNoted c drive report))) (refused 1 c)
 
+-- "Reset, by call or store": the call
 unfoldable pub resetCall : Controller → Reply
 resetCall c = pick (sound (c .body) (c .phase)) (carried (resetOf (c .body))) (refused 1 c)
 
@@ -125,6 +129,7 @@ dataIn c b host space check (GoOffered store) = unchanged 3 c space check
 dataIn c b host space check (ResultAwaited operation store) = unchanged 3 c space check
 dataIn c b host space check (EndOffered interrupt) = unchanged 3 c space check
 
+-- the data call, with the space it is lent and the check store
 unfoldable pub dataCall : Controller → List ℕ → List ℕ → List ℕ → Answer
 dataCall c host space check = pick (sound (c .body) (c .phase)) (dataIn c (c .body) host space check (c .phase)) (unchanged 1 c space check)
 
@@ -134,6 +139,7 @@ resultFor c b drive operation store r space check =
     pick (eqb (resultRefusal drive operation r (length check)) 0) (resultDone b drive operation store r space check)
     (unchanged (resultRefusal drive operation r (length check)) c space check)
 
+-- "3 data or result not awaited"
 unfoldable pub resultIn : Controller → Body → Result → List ℕ → List ℕ → Phase → Answer
 resultIn c b r space check (ResultAwaited operation store) = resultFor c b (current b) operation store r space check
 resultIn c b r space check Collecting = unchanged 3 c space check
@@ -143,6 +149,7 @@ resultIn c b r space check (GoOffered store) = unchanged 3 c space check
 resultIn c b r space check (DataAwaited store) = unchanged 3 c space check
 resultIn c b r space check (EndOffered interrupt) = unchanged 3 c space check
 
+-- the result, with the space it is lent and the check store
 unfoldable pub resultCall : Controller → Result → List ℕ → List ℕ → Answer
 resultCall c r space check = pick (sound (c .body) (c .phase)) (resultIn c (c .body) r space check (c .phase)) (unchanged 1 c space check)
 
@@ -163,6 +170,7 @@ pub data Call : Type 0 where
 abbrev pub plain : Reply → Answer
 plain r = record { reply = r; bytes = 0; space = []; check = [] }
 
+-- "The state goes in and the next state comes out, with one action or none"
 unfoldable pub step : Controller → Call → Answer
 step c (byte b) = plain (byteCall c b)
 step c taken = plain (takenCall c)

@@ -89,6 +89,7 @@ callNoted a c (hostData host space check) = a
 callNoted a c (result r space check) = a
 callNoted a c tick = a
 
+-- a refused call tells nothing
 unfoldable pub noted : Settings → Controller → Exchange → Settings
 noted a c x = pick (notRefused x) (callNoted a c (x .call)) a
 
@@ -108,10 +109,12 @@ issued a Nothing = a
 issued a (Byte b) = a
 issued a (Text string) = a
 
+-- at every call of a list
 unfoldable pub AskedFrom : Settings → Controller → List Exchange → Type 0
 AskedFrom a c [] = Unit
 AskedFrom a c (x ∷ xs) =
     Asked (noted a c x) (x .answer .reply .action) × AskedFrom (issued (noted a c x) (x .answer .reply .action)) (x .answer .reply .controller) xs
 
+-- from Fresh
 abbrev pub OrdersAreAsked : List Exchange → Type 0
 OrdersAreAsked = AskedFrom freshSettings fresh

@@ -48,6 +48,7 @@ pub data Event : Type 0 where
 unfoldable pub storeEvent : Store → Event
 storeEvent store = storeCame (store .address / 16 % 8) (store .first) (store .second) (store .third) (store .fourth)
 
+-- where a byte or a broken link answers GO
 unfoldable pub awaitsGo : Phase → Bool
 awaitsGo (GoOffered store) = true
 awaitsGo Collecting = false
@@ -68,6 +69,7 @@ eventOf d store c (result r space check) = pick (isOf d store) (resultCame r (le
 eventOf d store c tick = []
 eventOf d store c reset = []
 
+-- a refused call is in no history
 unfoldable pub eventsOf : ℕ → Store → Controller → Exchange → List Event
 eventsOf d store c x = pick (notRefused x) (eventOf d store c (x .call)) []
 
@@ -76,11 +78,13 @@ unfoldable pub historyFrom : ℕ → Store → Controller → List Exchange → 
 historyFrom d last c [] = []
 historyFrom d last c (x ∷ xs) = eventsOf d (lastStore last c x) c x ++ historyFrom d (lastStore last c x) (x .answer .reply .controller) xs
 
+-- the history of a drive in a list from Fresh
 abbrev pub history : ℕ → List Exchange → List Event
 history d = historyFrom d noStore fresh
 
 -- ---- what a drive was given, and what it delivered
 
+-- "Its orders ..; its write images and read bytes"
 pub data Output : Type 0 where
   motion : Six → Output
   image : List ℕ → Output
@@ -109,13 +113,16 @@ transferOf d store bytes (report drive r) = []
 transferOf d store bytes tick = []
 transferOf d store bytes reset = []
 
+-- what a call with its answer gives the drive; a refused call transfers nothing
 unfoldable pub outputsOf : ℕ → Store → Exchange → List Output
 outputsOf d store x = pick (notRefused x) (transferOf d store (bytesGiven x) (x .call)) [] ++ ordersFor d (x .answer .reply .action)
 
+-- "in order"
 unfoldable pub outputsFrom : ℕ → Store → Controller → List Exchange → List Output
 outputsFrom d last c [] = []
 outputsFrom d last c (x ∷ xs) = outputsOf d (lastStore last c x) x ++ outputsFrom d (lastStore last c x) (x .answer .reply .controller) xs
 
+-- all that a drive was given and delivered in a list from Fresh
 abbrev pub outputs : ℕ → List Exchange → List Output
 outputs d = outputsFrom d noStore fresh
 
@@ -130,9 +137,11 @@ asksReset (Enable enable) = false
 asksReset (Density density) = false
 asksReset (Operate operation) = false
 
+-- of a store: it is carried out as a reset
 unfoldable pub resets : Store → Bool
 resets store = not (leb 4 (named store)) && asksReset (asked store)
 
+-- the call reset
 unfoldable pub isReset : Call → Bool
 isReset reset = true
 isReset (byte b) = false
@@ -149,15 +158,18 @@ admits c x =
     pick (carriesOut c x) (namesDrive (storeOf (c .body .collected)) && not (resets (storeOf (c .body .collected))))
     (not (notRefused x && isReset (x .call)))
 
+-- of every call of a list
 unfoldable pub admittedFrom : Controller → List Exchange → Bool
 admittedFrom c [] = true
 admittedFrom c (x ∷ xs) = admits c x && admittedFrom (x .answer .reply .controller) xs
 
+-- from Fresh
 abbrev pub admitted : List Exchange → Bool
 admitted = admittedFrom fresh
 
 -- ---- the claim
 
+-- the drive as a list leaves it
 abbrev pub left : ℕ → List Exchange → Drive
 left d xs = driveOf (after fresh xs .body .drives) d
 

@@ -44,6 +44,7 @@ tracked drive track =
     pick (eqb (drive .track) track) drive
     (record { report = drive .report; reviewed = drive .reviewed; track = track; density = drive .density; gap = pick (reports (drive .report) 1) 0 3 })
 
+-- "0C/0D density 0/1"
 unfoldable pub withDensity : Drive → ℕ → Drive
 withDensity drive density =
     record { report = drive .report; reviewed = drive .reviewed; track = drive .track; density = density; gap = drive .gap }
@@ -90,6 +91,7 @@ decoded b store (Enable enable) = settled (setFlags b (b .changed) enable) store
 decoded b store (Density density) = settled (setCurrent b (withDensity (current b) density)) store
 decoded b store (Operate operation) = operated b operation store
 
+-- "clear primary bits 2 and 8-22"
 unfoldable pub cleared : Body → Body
 cleared b = setOutcome b noOutcome
 
@@ -101,6 +103,7 @@ namesUnknown store = namesDrive store && leb 4 (named store)
 unfoldable pub selectedBy : Store → ℕ → ℕ
 selectedBy store selected = pick (namesDrive store) (named store) selected
 
+-- "Carrying out: clear ..; .. code 01 .., else select it; decode; test."
 unfoldable pub carriedOut : Body → Store → Turn
 carriedOut b store =
     pick (namesUnknown store) (endedBy (cleared b) store 0x01)

@@ -16,18 +16,22 @@ digitValue d = pick (ltb d 58) (d % 16) ((d % 16 + 9) % 16)
 unfoldable pub isDigit : ℕ → ℕ → Bool
 isDigit base d = ((leb 48 d && leb d 57) || (leb 65 d && leb d 70)) && ltb (digitValue d) base
 
+-- nothing but digits
 unfoldable pub allDigits : ℕ → List ℕ → Bool
 allDigits base [] = true
 allDigits base (d ∷ s) = isDigit base d && allDigits base s
 
 -- ---- bytes: "Each of these has two digits"
 
+-- the byte of two digits
 unfoldable pub byteValue : ℕ → ℕ → ℕ
 byteValue high low = 16 * digitValue high + digitValue low
 
+-- a field of one byte
 unfoldable pub isByte : List ℕ → Bool
 isByte s = eqb (length s) 2 && allDigits 16 s
 
+-- and its value
 unfoldable pub byteOf : List ℕ → ℕ
 byteOf s = byteValue (getD s 0 0) (getD s 1 0)
 
@@ -35,6 +39,7 @@ byteOf s = byteValue (getD s 0 0) (getD s 1 0)
 unfoldable pub isBytes : ℕ → List ℕ → Bool
 isBytes limit s = eqb (length s % 2) 0 && (leb (length s) (2 * limit) && allDigits 16 s)
 
+-- and its bytes
 unfoldable pub bytesOf : List ℕ → List ℕ
 bytesOf [] = []
 bytesOf (high ∷ []) = []
@@ -42,12 +47,15 @@ bytesOf (high ∷ low ∷ s) = byteValue high low ∷ bytesOf s
 
 -- ---- decimals: one digit or more, up to a limit
 
+-- a decimal, digit by digit
 unfoldable pub decimalFrom : ℕ → List ℕ → ℕ
 decimalFrom value [] = value
 decimalFrom value (d ∷ s) = decimalFrom (10 * value + digitValue d) s
 
+-- the value of a decimal
 unfoldable pub decimalOf : List ℕ → ℕ
 decimalOf s = decimalFrom 0 s
 
+-- a field of one decimal
 unfoldable pub isDecimal : ℕ → List ℕ → Bool
 isDecimal limit s = not (eqb (length s) 0) && (allDigits 10 s && leb (decimalOf s) limit)

@@ -12,6 +12,7 @@ use Rattle.lines.specs.Digits.{isByte, byteOf, isBytes, bytesOf, isDecim
 use Rattle.lines.specs.declared.line.Reading.{Reading}
 use Rattle.lines.specs.declared.line.Reading.the-variants.{Unreadable, Byte, Taken, Broken, Report, HostData, Result, Tick, Reset}
 
+-- "B,byte; T; X (broken); S,drive,byte; D,host; R,..; K; Z (reset)", or a line that is none of them
 pub data Line : Type 0 where
   unreadable : Line
   byte : ℕ → Line
@@ -25,6 +26,7 @@ pub data Line : Type 0 where
 
 -- ---- fields, with a comma between
 
+-- the first field
 unfoldable pub fieldOf : List ℕ → List ℕ
 fieldOf [] = []
 fieldOf (b ∷ s) = pick (eqb b 44) [] (b ∷ fieldOf s)
@@ -33,6 +35,7 @@ fieldOf (b ∷ s) = pick (eqb b 44) [] (b ∷ fieldOf s)
 unfoldable pub afterField : List ℕ → List ℕ
 afterField s = drop (length (fieldOf s) + 1) s
 
+-- what comes after so many fields
 unfoldable pub afterFields : ℕ → List ℕ → List ℕ
 afterFields zero s = s
 afterFields (suc k) s = afterField (afterFields k s)
@@ -75,6 +78,7 @@ callLine letter s =
     pick (eqb letter 66) (byteLine s)
     (pick (eqb letter 83) (reportLine s) (pick (eqb letter 68) (dataLine s) (pick (eqb letter 82) (resultLine s) unreadable)))
 
+-- what a line says: one letter alone, or a letter with its fields
 unfoldable pub lineOf : List ℕ → Line
 lineOf line =
     pick (ltb (length line) 2) (pick (eqb (length line) 1) (bareLine (getD line 0 0)) unreadable)
@@ -82,6 +86,7 @@ lineOf line =
 
 -- ---- what the code reads: a host string or an image stands in one buffer, marks in another
 
+-- the line that was read, with what stands in the buffers
 unfoldable pub lineRead : Reading → List ℕ → List ℕ → Line
 lineRead Unreadable bytes marks = unreadable
 lineRead (Byte b) bytes marks = byte b
@@ -98,5 +103,6 @@ lineRead Reset bytes marks = reset
 abbrev pub ReadAs : Reading → Line → Type 0
 ReadAs r line = (bytes marks : List ℕ) → lineRead r bytes marks ≡ line
 
+-- the same for a line with bytes and no marks
 abbrev pub ReadWith : Reading → List ℕ → Line → Type 0
 ReadWith r bytes line = (marks : List ℕ) → lineRead r bytes marks ≡ line

@@ -17,6 +17,7 @@ digitOf n = pick (ltb n 10) (48 + n) (55 + n)
 unfoldable pub byteText : ℕ → List ℕ
 byteText b = digitOf (b / 16) ∷ digitOf (b % 16) ∷ []
 
+-- and of a string of bytes
 unfoldable pub bytesText : List ℕ → List ℕ
 bytesText [] = []
 bytesText (b ∷ bytes) = byteText b ++ bytesText bytes
@@ -32,6 +33,7 @@ actionLetter (Byte b) = 65
 actionLetter (Text s) = 80
 actionLetter (Order s) = 77
 
+-- the bytes of a string or an order
 unfoldable pub sixBytes : Six → List ℕ
 sixBytes s = s .b0 ∷ s .b1 ∷ s .b2 ∷ s .b3 ∷ s .b4 ∷ s .b5 ∷ []
 
