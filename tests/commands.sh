@@ -299,8 +299,9 @@ check "a library of an unknown kit is built anew" not_built_here
 
 # ---- a folder that cannot be written ----
 
-# One line, before rt is asked for anything; .ci/run has its count as well.
+# One line, before rt is asked for anything; .ci/run has its count as well, and the fuzzer's own status is 2.
 told_unwritable() { # COMMAND WORDS...
+    local fails_with=1
     case $1 in
     */.ci/run)
         [ "$status" -eq 1 ] || no "status $status" || return
@@ -309,7 +310,8 @@ told_unwritable() { # COMMAND WORDS...
         [ "$(tail -n 1 said)" = "0 passed, 1 failed" ] || no "its last line: $(tail -n 1 said)" || return
         ;;
     *)
-        ended 1 "/target cannot be made or written" && one_line errors || return
+        [[ $1 != */fuzz ]] || fails_with=2
+        ended "$fails_with" "/target cannot be made or written" && one_line errors || return
         [ ! -s said ] || no "it said $(cat said)" || return
         ;;
     esac
@@ -339,7 +341,9 @@ not_permitted() { # COMMAND WORDS...
     chmod u+w tree
     return "$result"
 }
-for command in "tree/session" "tree/ctc-record" "tree/tools/build library" "tree/bench/run" "tree/.ci/run"; do
+# the fuzzer's compiler is not come to
+export CLANG=true
+for command in tree/session tree/ctc-record "tree/tools/build library" tree/bench/run tree/tests/fuzz tree/.ci/run; do
     # shellcheck disable=SC2086 # words of a call
     check "a file in place of target/ is told: ${command#tree/}" file_in_place $command
     # shellcheck disable=SC2086

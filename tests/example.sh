@@ -447,6 +447,22 @@ owner_kept() {
     ended 0 && [ "$(stat -c %u:%g:%a earlier)" = "$before" ]
 }
 check "an earlier file keeps its owner" owner_kept
+# Permissions stop nobody who is root: root tries it as nobody.
+protected_kept() {
+    local drop=()
+    [ "$(id -u)" -ne 0 ] || drop=(setpriv --reuid=65534 --regid=65534 --clear-groups)
+    mkdir open_folder
+    cp "$tool" open_folder/tool
+    echo 'old contents' >open_folder/protected
+    chmod 711 .
+    chmod -R a+rX record open_folder
+    chmod 777 open_folder
+    chmod 444 open_folder/protected
+    run "${drop[@]}" open_folder/tool build mfm record open_folder/protected
+    ended 1 'cannot write open_folder/protected' && [ "$(cat open_folder/protected)" = 'old contents' ] &&
+        [ "$(mode_of open_folder/protected)" = 444 ]
+}
+check "an earlier file that may not be written stays" protected_kept
 long=$(printf 'n%.0s' {1..255})
 run "$tool" build mfm record "$long"
 check "the longest name of a file" restored image.mfm "$long"
