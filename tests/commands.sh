@@ -380,13 +380,14 @@ ci_fails() {
 }
 check ".ci/run hands a failure on" ci_fails
 
-# gone: what the stand-in started is no longer there, and no temporary file is left
+# gone: what the stand-in started has ended (state Z: nobody asked for its status yet), and no temporary file is left
 gone() {
-    local process
+    local process state
     [ -s proving ] || no "no proof was started" || return
     # shellcheck disable=SC2013 # numbers
     for process in $(cat proving); do
-        ! kill -0 "$process" 2>/dev/null || no "process $process is still there" || return
+        state=$(sed 's/.*) //; s/ .*//' "/proc/$process/stat" 2>/dev/null)
+        [[ ${state:-Z} == Z ]] || no "process $process is still there" || return
     done
     [ -z "$(ls tmp)" ] || no "left behind: $(ls tmp)"
 }
