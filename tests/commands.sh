@@ -406,7 +406,9 @@ cut_by_reader() {
     # the reader takes the first lines, and goes when the proof runs
     timeout 60 env PATH="$folder/stand_in:$PATH" TMPDIR="$folder/tmp" bash tree/.ci/run 2>errors </dev/null |
         { head -n 3 >said; proof_begins; }
+    local ended_with=${PIPESTATUS[0]}
     rm -f hangs
+    [ "$ended_with" -eq 141 ] || no "status $ended_with" || return
     gone
 }
 check ".ci/run: all ends when nobody reads its output" cut_by_reader

@@ -79,7 +79,18 @@ spoil() { # FILE PLACE: the blockette at this place in tape order
 
 hexadecimal() { od -An -tx1 -v "$1" | tr -d ' \n'; }
 
+# Permissions do not stop root, and a faulty tool that root runs could put a plain file in the place of a device of this machine:
+# where the machine's own devices are written, and where permissions are tried, root runs the tool as nobody.
+mkdir open_folder
+cp "$tool" open_folder/tool
+chmod 711 .
+chmod 777 open_folder
+chmod 755 open_folder/tool
+unprivileged=(open_folder/tool)
+[ "$(id -u)" -ne 0 ] || unprivileged=(setpriv --reuid=65534 --regid=65534 --clear-groups open_folder/tool)
+
 make_bytes 600 >record
+chmod a+r record
 make_bytes 16384 >limit
 make_bytes 16385 >above
 : >empty
@@ -416,7 +427,7 @@ check "standard input as output, by its name" refused_same from
     status=$?
     check "the record as standard output, by its name" refused_same same
 }
-run "$tool" build gcr /dev/null /dev/null
+run "${unprivileged[@]}" build gcr /dev/null /dev/null
 check "/dev/null as both, which loses nothing" ended 0
 
 # ---- an earlier output ----
@@ -447,18 +458,10 @@ owner_kept() {
     ended 0 && [ "$(stat -c %u:%g:%a earlier)" = "$before" ]
 }
 check "an earlier file keeps its owner" owner_kept
-# Permissions stop nobody who is root: root tries it as nobody.
 protected_kept() {
-    local drop=()
-    [ "$(id -u)" -ne 0 ] || drop=(setpriv --reuid=65534 --regid=65534 --clear-groups)
-    mkdir open_folder
-    cp "$tool" open_folder/tool
     echo 'old contents' >open_folder/protected
-    chmod 711 .
-    chmod -R a+rX record open_folder
-    chmod 777 open_folder
     chmod 444 open_folder/protected
-    run "${drop[@]}" open_folder/tool build mfm record open_folder/protected
+    run "${unprivileged[@]}" build mfm record open_folder/protected
     ended 1 'cannot write open_folder/protected' && [ "$(cat open_folder/protected)" = 'old contents' ] &&
         [ "$(mode_of open_folder/protected)" = 444 ]
 }
@@ -487,7 +490,7 @@ run "$tool" build gcr record nowhere/image
 no_folder() { ended 1 'nowhere/image' && absent nowhere; }
 check "an image in a folder that is not there" no_folder
 
-run "$tool" build gcr record /dev/full
+run "${unprivileged[@]}" build gcr record /dev/full
 device_full() { ended 1 'cannot write /dev/full' && [ -c /dev/full ]; }
 check "a full device" device_full
 
@@ -526,6 +529,10 @@ check "show to a full device" printed_to_full
 "$tool" build gcr record /dev/stdout 2>errors | cmp -s - image
 status=$?
 check "build into a pipe" ended 0
+{ echo head && "$tool" build mfm record /dev/stdout && echo tail; } >joined 2>errors
+status=$?
+joined() { ended 0 && { echo head && cat image.mfm && echo tail; } | cmp -s - joined; }
+check "/dev/stdout is standard output, with what else goes there" joined
 ln -s target.of.link link
 : >target.of.link
 run "$tool" build mfm record link
@@ -539,7 +546,7 @@ ln -sf other_folder/target link
 run "$tool" build mfm record link
 link_elsewhere() { ended 0 && [ -L link ] && cmp -s other_folder/target image.mfm && [ "$(ls other_folder)" = target ]; }
 check "a link into another folder" link_elsewhere
-run "$tool" build mfm record /dev/null
+run "${unprivileged[@]}" build mfm record /dev/null
 device_kept() { ended 0 && [ -c /dev/null ]; }
 check "a device is written and stays" device_kept
 mkfifo fifo
