@@ -5,11 +5,13 @@
  * is legal: the tool hands it whatever the files hold and puts its refusals into
  * words.
  */
-#define _POSIX_C_SOURCE 200809L /* for lstat and getpid */
+#define _XOPEN_SOURCE 700 /* for mkstemp, realpath and what POSIX says of files */
 
 #include "ctc_records.h"
 
 #include <errno.h>
+#include <fcntl.h>
+#include <limits.h>
 #include <stdbool.h>
 #include <stdint.h>
 #include <stdio.h>
@@ -20,22 +22,30 @@
 
 enum { STATUS_DONE = 0, STATUS_FAILED = 1, STATUS_USAGE = 2 };
 
+/* The root script takes both texts from here, to answer before the library is there. */
 static const char usage[] =
     "usage: ctc-record build DENSITY BYTES-FILE IMAGE-FILE\n"
-    "       ctc-record restore IMAGE-FILE MARKS-FILE|- OUT-FILE\n"
+    "       ctc-record bytes DENSITY IMAGE-FILE BYTES-FILE\n"
+    "       ctc-record restore IMAGE-FILE MARKS-FILE BYTES-FILE\n"
     "       ctc-record show IMAGE-FILE DENSITY [MARKS-FILE]\n"
-    "       ctc-record --help\n";
+    "       ctc-record --help | --version\n";
 
 static const char help[] =
     "\n"
     "build    writes the image of the record that BYTES-FILE holds.\n"
-    "restore  writes the bytes of the record whose GCR image IMAGE-FILE holds. One\n"
-    "         bad odd-numbered and one bad even-numbered blockette are made good.\n"
+    "bytes    undoes build: writes the bytes of the record whose image IMAGE-FILE holds.\n"
+    "restore  does so for a GCR image that was read with errors. One bad odd-numbered\n"
+    "         and one bad even-numbered blockette are made good.\n"
     "show     prints the count, the blockettes and the errors of an image.\n"
     "\n"
     "DENSITY     mfm or gcr\n"
     "MARKS-FILE  one byte for each GCR blockette in tape order, check blockettes\n"
-    "            included: 15 is good, 1 to 9 is an error; - (restore alone): all good\n"
+    "            included: 15 is good, 1 to 9 is an error. The word good in place of\n"
+    "            a file stands for all good; a file of that name is ./good\n"
+    "\n"
+    "A file - is standard input or standard output. What is written is never a file\n"
+    "that is read, and an earlier file is replaced whole or not at all; it keeps its\n"
+    "mode.\n"
     "\n"
     "Exit status: 0 done; 1 refused, or a file could not be read or written;\n"
     "2 wrong usage. A refused call writes no file.\n";
@@ -45,7 +55,13 @@ struct input {
     const char *path;
     uint8_t *bytes;
     size_t length;
+    struct stat about; /* all zeros where no file was read */
 };
+
+static bool is(const char *word, const char *other)
+{
+    return strcmp(word, other) == 0;
+}
 
 static int wrong_usage(const char *message)
 {
@@ -87,13 +103,17 @@ static void say_refusal(const char *path, uint32_t refusal)
  */
 static bool read_input(struct input *input, size_t most)
 {
-    FILE *file = fopen(input->path, "rb");
+    bool standard = is(input->path, "-");
+    FILE *file = standard ? stdin : fopen(input->path, "rb");
+    if (standard) {
+        input->path = "standard input";
+    }
     if (file == NULL) {
         file_failed("open", input->path, errno);
         return false;
     }
     input->length = fread(input->bytes, 1, most, file);
-    int cause = ferror(file) ? errno : 0;
+    int cause = ferror(file) || fstat(fileno(file), &input->about) != 0 ? errno : 0;
     fclose(file);
     if (cause != 0) {
         file_failed("read", input->path, cause);
@@ -102,80 +122,165 @@ static bool read_input(struct input *input, size_t most)
     return true;
 }
 
-/* Writes and closes. Buffered bytes may fail as late as in fclose. */
-static bool write_and_close(FILE *file, const uint8_t *bytes, size_t length, int *cause)
+/*
+ * Tells whether what is to be written is a file that was read, by whatever name,
+ * and says so. A terminal or a pipe may be both: nothing in it can be lost.
+ */
+static bool was_read(const char *path, const struct stat *output, const struct input *const *inputs)
 {
-    bool written = fwrite(bytes, 1, length, file) == length;
-    *cause = errno;
-    if (fclose(file) != 0 && written) {
-        written = false;
-        *cause = errno;
+    for (; *inputs != NULL; inputs++) {
+        const struct stat *input = &(*inputs)->about;
+        if ((S_ISREG(input->st_mode) || S_ISBLK(input->st_mode)) &&
+            input->st_dev == output->st_dev && input->st_ino == output->st_ino) {
+            fprintf(stderr, "ctc-record: %s and %s are the same file: nothing was written\n",
+                    (*inputs)->path, path);
+            return true;
+        }
     }
-    return written;
+    return false;
+}
+
+static bool write_all(int file, const uint8_t *bytes, size_t length)
+{
+    while (length > 0) {
+        ssize_t written = write(file, bytes, length);
+        if (written < 0 && errno != EINTR) {
+            return false;
+        }
+        if (written > 0) {
+            bytes += written;
+            length -= (size_t)written;
+        }
+    }
+    return true;
 }
 
 /*
- * Writes a file whole or not at all: the bytes go to a temporary file beside it,
- * which takes its name once they are all written. What is there and is no plain
- * file (a device, a pipe, a link) is written in place, since a rename would
- * replace it.
+ * Writes the file at `place`, which messages call `path`, whole or not at all: the
+ * bytes go to a temporary file beside it, which takes its name once they are all on
+ * the disk. It has the mode and, where that is allowed, the owner of the earlier
+ * file; NULL: there is none.
  */
-static bool write_output(const char *path, const uint8_t *bytes, size_t length)
+static bool replace(const char *path, const char *place, const struct stat *earlier,
+                    const uint8_t *bytes, size_t length)
 {
-    struct stat about;
-    bool in_place = lstat(path, &about) == 0 && !S_ISREG(about.st_mode);
-    int cause = 0;
+    static char temporary[PATH_MAX];
+    const char *slash = strrchr(place, '/');
+    int folder = slash == NULL ? 0 : (int)(slash - place) + 1;
+    mode_t mask = umask(0);
+    umask(mask);
 
-    if (in_place) {
-        FILE *file = fopen(path, "wb");
-        if (file == NULL) {
-            file_failed("open", path, errno);
-            return false;
-        }
-        if (!write_and_close(file, bytes, length, &cause)) {
-            file_failed("write", path, cause);
-            return false;
-        }
-        return true;
-    }
-
-    size_t room = strlen(path) + 32;
-    char *temporary = malloc(room);
-    if (temporary == NULL) {
-        file_failed("write", path, ENOMEM);
+    snprintf(temporary, sizeof temporary, "%.*sctc-record.part.XXXXXX", folder, place);
+    int file = mkstemp(temporary);
+    if (file < 0) {
+        file_failed("make a file beside", path, errno);
         return false;
     }
-    snprintf(temporary, room, "%s.%ld.part", path, (long)getpid());
-
-    /* x: never write into a file that somebody else made */
-    FILE *file = fopen(temporary, "wbx");
-    bool done = false;
-    if (file == NULL) {
-        file_failed("write", path, errno);
-    } else if (!write_and_close(file, bytes, length, &cause)) {
-        file_failed("write", path, cause);
-        remove(temporary);
-    } else if (rename(temporary, path) != 0) {
-        file_failed("write", path, errno);
-        remove(temporary);
-    } else {
-        done = true;
+    if (earlier != NULL && fchown(file, earlier->st_uid, earlier->st_gid) != 0 &&
+        fchown(file, (uid_t)-1, earlier->st_gid) != 0) {
+        /* root alone can give files away, and a group only its members */
     }
-    free(temporary);
+    bool done = fchmod(file, earlier != NULL ? earlier->st_mode & 0777 : 0666 & ~mask) == 0 &&
+                write_all(file, bytes, length) && fsync(file) == 0;
+    int cause = errno;
+    if (close(file) != 0 && done) {
+        done = false;
+        cause = errno;
+    }
+    if (done && rename(temporary, place) != 0) {
+        done = false;
+        cause = errno;
+    }
+    if (!done) {
+        unlink(temporary);
+        file_failed("write", path, cause);
+    }
+    return done;
+}
+
+/*
+ * Writes an output that is none of the inputs, a list that ends with NULL. A plain
+ * file is replaced, the one that a link leads to in place of the link; what is no
+ * plain file (a device, a pipe, standard output) is written in place.
+ */
+static bool write_output(const char *path, const uint8_t *bytes, size_t length,
+                         const struct input *const *inputs)
+{
+    bool standard = is(path, "-") || is(path, "/dev/stdout");
+    bool made = false;
+    struct stat earlier;
+
+    /* opened, but not emptied: this tells whether it may be written */
+    int file = standard ? STDOUT_FILENO : open(path, O_WRONLY | O_NOCTTY);
+    if (file < 0 && errno == ENOENT) {
+        if (lstat(path, &earlier) != 0) {
+            return replace(path, path, NULL, bytes, length);
+        }
+        /* a link to a file that is not there yet */
+        file = open(path, O_WRONLY | O_CREAT | O_NOCTTY, 0666);
+        made = true;
+    }
+    if (standard) {
+        path = "standard output";
+    }
+    if (file < 0 || fstat(file, &earlier) != 0) {
+        file_failed("write", path, errno);
+        return false;
+    }
+    if (was_read(path, &earlier, inputs)) {
+        return false;
+    }
+    if (standard || !S_ISREG(earlier.st_mode)) {
+        bool done = write_all(file, bytes, length) && close(file) == 0;
+        if (!done) {
+            file_failed("write", path, errno);
+        }
+        return done;
+    }
+    close(file);
+    char *place = realpath(path, NULL);
+    if (place == NULL) {
+        file_failed("write", path, errno);
+        return false;
+    }
+    bool done = replace(path, place, &earlier, bytes, length);
+    if (made && !done) {
+        unlink(place);
+    }
+    free(place);
     return done;
 }
 
 static bool read_density(const char *word, uint8_t *density)
 {
-    if (strcmp(word, "mfm") == 0) {
+    if (is(word, "mfm")) {
         *density = CTC_DENSITY_MFM;
         return true;
     }
-    if (strcmp(word, "gcr") == 0) {
+    if (is(word, "gcr")) {
         *density = CTC_DENSITY_GCR;
         return true;
     }
     return false;
+}
+
+static const char *density_name(uint8_t density)
+{
+    return density == CTC_DENSITY_MFM ? "MFM" : "GCR";
+}
+
+/*
+ * Reads the marks of a record of `count` bytes; the word good stands for marks that
+ * are all good.
+ */
+static bool read_marks(struct input *marks, size_t most, size_t count)
+{
+    if (!is(marks->path, "good")) {
+        return read_input(marks, most);
+    }
+    marks->length = ctc_mark_count(count, CTC_DENSITY_GCR);
+    memset(marks->bytes, CTC_MARK_GOOD, marks->length);
+    return true;
 }
 
 /*
@@ -201,9 +306,14 @@ static bool lengths_fit(const struct input *image, const struct input *marks, ui
     if (image->length != image_length) {
         say_refusal(image->path, CTC_REFUSED_LENGTH);
         fprintf(stderr, ": its count %zu asks for an image of %zu bytes in %s, and it has %s%zu\n",
-                count, image_length, density == CTC_DENSITY_MFM ? "MFM" : "GCR",
+                count, image_length, density_name(density),
                 image->length > CTC_IMAGE_MOST ? "more than " : "",
                 image->length > CTC_IMAGE_MOST ? (size_t)CTC_IMAGE_MOST : image->length);
+        uint8_t other = density == CTC_DENSITY_MFM ? CTC_DENSITY_GCR : CTC_DENSITY_MFM;
+        if (image->length == ctc_image_length(count, other)) {
+            fprintf(stderr, "ctc-record: %s is a whole %s image%s\n", image->path, density_name(other),
+                    other == CTC_DENSITY_MFM ? ", whose bytes 'ctc-record bytes mfm' writes" : "");
+        }
         return false;
     }
     if (marks != NULL && marks->length != mark_count) {
@@ -231,22 +341,18 @@ static bool marks_legal(const struct input *marks)
     return true;
 }
 
-static int build(const char *density_word, const char *bytes_path, const char *image_path)
+static int build(uint8_t density, const char *bytes_path, const char *image_path)
 {
     static uint8_t bytes[CTC_COUNT_LIMIT + 1];
     static uint8_t image[CTC_IMAGE_MOST];
-    struct input record = {bytes_path, bytes, 0};
-    uint8_t density;
+    struct input record = {.path = bytes_path, .bytes = bytes};
 
-    if (!read_density(density_word, &density)) {
-        return wrong_usage("DENSITY is mfm or gcr");
-    }
     if (!read_input(&record, sizeof bytes)) {
         return STATUS_FAILED;
     }
     uint32_t refusal = ctc_build(record.bytes, record.length, density, image, sizeof image);
     if (refusal != CTC_DONE) {
-        say_refusal(bytes_path, refusal);
+        say_refusal(record.path, refusal);
         if (refusal == CTC_REFUSED_LENGTH) {
             fprintf(stderr, ": a record has at most %d bytes", CTC_COUNT_LIMIT);
         }
@@ -254,41 +360,57 @@ static int build(const char *density_word, const char *bytes_path, const char *i
         return STATUS_FAILED;
     }
     size_t length = ctc_image_length(record.length, density);
-    return write_output(image_path, image, length) ? STATUS_DONE : STATUS_FAILED;
+    const struct input *inputs[] = {&record, NULL};
+    return write_output(image_path, image, length, inputs) ? STATUS_DONE : STATUS_FAILED;
 }
 
-static int restore(const char *image_path, const char *marks_path, const char *out_path)
+static int restore(const char *image_path, const char *marks_path, const char *bytes_path)
 {
     static uint8_t image_bytes[CTC_IMAGE_MOST + 1];
     static uint8_t mark_bytes[CTC_MARKS_MOST + 1];
-    static uint8_t out[CTC_COUNT_LIMIT];
-    struct input image = {image_path, image_bytes, 0};
-    struct input marks = {marks_path, mark_bytes, 0};
+    static uint8_t bytes[CTC_COUNT_LIMIT];
+    struct input image = {.path = image_path, .bytes = image_bytes};
+    struct input marks = {.path = marks_path, .bytes = mark_bytes};
 
     if (!read_input(&image, sizeof image_bytes)) {
         return STATUS_FAILED;
     }
     size_t count = ctc_image_count(image.bytes, image.length);
-    if (strcmp(marks_path, "-") == 0) {
-        marks.length = ctc_mark_count(count, CTC_DENSITY_GCR);
-        memset(mark_bytes, CTC_MARK_GOOD, marks.length);
-    } else if (!read_input(&marks, sizeof mark_bytes)) {
+    if (!read_marks(&marks, sizeof mark_bytes, count)) {
         return STATUS_FAILED;
     }
 
     uint32_t refusal =
-        ctc_restore(image.bytes, image.length, marks.bytes, marks.length, out, sizeof out);
+        ctc_restore(image.bytes, image.length, marks.bytes, marks.length, bytes, sizeof bytes);
     if (refusal == CTC_DONE) {
-        return write_output(out_path, out, count) ? STATUS_DONE : STATUS_FAILED;
+        const struct input *inputs[] = {&image, &marks, NULL};
+        return write_output(bytes_path, bytes, count, inputs) ? STATUS_DONE : STATUS_FAILED;
     }
     /* these two say more, where they find what the library refused */
     bool said = (refusal == CTC_REFUSED_LENGTH && !lengths_fit(&image, &marks, CTC_DENSITY_GCR)) ||
                 (refusal == CTC_REFUSED_MARK && !marks_legal(&marks));
     if (!said) {
-        say_refusal(image_path, refusal);
+        say_refusal(image.path, refusal);
         fputc('\n', stderr);
     }
     return STATUS_FAILED;
+}
+
+/* The library restores GCR alone: in MFM the record's bytes stand behind the count as they are. */
+static int bytes_of(uint8_t density, const char *image_path, const char *bytes_path)
+{
+    static uint8_t image_bytes[CTC_IMAGE_MOST + 1];
+    struct input image = {.path = image_path, .bytes = image_bytes};
+
+    if (density != CTC_DENSITY_MFM) {
+        return restore(image_path, "good", bytes_path);
+    }
+    if (!read_input(&image, sizeof image_bytes) || !lengths_fit(&image, NULL, CTC_DENSITY_MFM)) {
+        return STATUS_FAILED;
+    }
+    const struct input *inputs[] = {&image, NULL};
+    return write_output(bytes_path, image.bytes + 2, image.length - 2, inputs) ? STATUS_DONE
+                                                                             : STATUS_FAILED;
 }
 
 static void show_entry(const char *name, const uint8_t *entry)
@@ -302,32 +424,32 @@ static void show_entry(const char *name, const uint8_t *entry)
     }
 }
 
-static int show(const char *image_path, const char *density_word, const char *marks_path)
+static int show(const char *image_path, uint8_t density, const char *marks_path)
 {
     static uint8_t image_bytes[CTC_IMAGE_MOST + 1];
     static uint8_t mark_bytes[CTC_MARKS_MOST + 1];
-    struct input image = {image_path, image_bytes, 0};
-    struct input marks = {marks_path, mark_bytes, 0};
-    uint8_t density;
+    struct input image = {.path = image_path, .bytes = image_bytes};
+    struct input marks = {.path = marks_path, .bytes = mark_bytes};
+    const struct input *inputs[] = {&image, &marks, NULL};
 
-    if (!read_density(density_word, &density)) {
-        return wrong_usage("DENSITY is mfm or gcr");
-    }
     if (!read_input(&image, sizeof image_bytes)) {
         return STATUS_FAILED;
     }
-    if (marks_path != NULL && !read_input(&marks, sizeof mark_bytes)) {
+    size_t count = ctc_image_count(image.bytes, image.length);
+    if (marks_path != NULL && !read_marks(&marks, sizeof mark_bytes, count)) {
         return STATUS_FAILED;
     }
     if (!lengths_fit(&image, marks_path == NULL ? NULL : &marks, density) || !marks_legal(&marks)) {
         return STATUS_FAILED;
     }
+    struct stat output;
+    if (fstat(STDOUT_FILENO, &output) == 0 && was_read("standard output", &output, inputs)) {
+        return STATUS_FAILED;
+    }
 
-    size_t count = ctc_image_count(image.bytes, image.length);
     size_t blockettes = ctc_mark_count(count, density);
     printf("%-13s %zu\n", "count", count);
-    printf("%-13s %zu bytes, %s\n", "image", image.length,
-           density == CTC_DENSITY_MFM ? "MFM" : "GCR");
+    printf("%-13s %zu bytes, %s\n", "image", image.length, density_name(density));
     if (blockettes == 0) {
         printf("%-13s none\n", "blockettes");
     } else {
@@ -337,7 +459,7 @@ static int show(const char *image_path, const char *density_word, const char *ma
         uint8_t report[CTC_REPORT_LENGTH];
         uint32_t refusal = ctc_scan(marks.bytes, marks.length, report, sizeof report);
         if (refusal != CTC_DONE) {
-            say_refusal(marks_path, refusal);
+            say_refusal(marks.path, refusal);
             fputc('\n', stderr);
             return STATUS_FAILED;
         }
@@ -352,28 +474,52 @@ static int show(const char *image_path, const char *density_word, const char *ma
     return STATUS_DONE;
 }
 
+/* Answers by the words alone where they are wrong; the root script has the same rules. */
 static int run(int count, char **words)
 {
-    if (count >= 2 && strcmp(words[1], "--help") == 0) {
+    const char *verb = count > 1 ? words[1] : "";
+    uint8_t density;
+
+    if (is(verb, "--help") || is(verb, "-h")) {
         printf("%s%s", usage, help);
         return STATUS_DONE;
     }
-    if (count < 2) {
-        return wrong_usage("say what to do");
+    if (is(verb, "--version")) {
+        printf("ctc-record %s\n", CTC_VERSION);
+        return STATUS_DONE;
     }
-    if (strcmp(words[1], "build") == 0) {
-        return count == 5 ? build(words[2], words[3], words[4])
-                          : wrong_usage("build takes three words");
+    if (is(verb, "build") || is(verb, "bytes")) {
+        if (count != 5) {
+            return wrong_usage("build and bytes take three words");
+        }
+        if (!read_density(words[2], &density)) {
+            return wrong_usage("DENSITY is mfm or gcr");
+        }
+        return is(verb, "build") ? build(density, words[3], words[4])
+                                 : bytes_of(density, words[3], words[4]);
     }
-    if (strcmp(words[1], "restore") == 0) {
-        return count == 5 ? restore(words[2], words[3], words[4])
-                          : wrong_usage("restore takes three words");
+    if (is(verb, "restore")) {
+        if (count != 5) {
+            return wrong_usage("restore takes three words");
+        }
+        if (is(words[2], "-") && is(words[3], "-")) {
+            return wrong_usage("image and marks cannot both be standard input");
+        }
+        return restore(words[2], words[3], words[4]);
     }
-    if (strcmp(words[1], "show") == 0) {
-        return count == 4 || count == 5 ? show(words[2], words[3], count == 5 ? words[4] : NULL)
-                                        : wrong_usage("show takes two or three words");
+    if (is(verb, "show")) {
+        if (count != 4 && count != 5) {
+            return wrong_usage("show takes two or three words");
+        }
+        if (!read_density(words[3], &density)) {
+            return wrong_usage("DENSITY is mfm or gcr");
+        }
+        if (count == 5 && is(words[2], "-") && is(words[4], "-")) {
+            return wrong_usage("image and marks cannot both be standard input");
+        }
+        return show(words[2], density, count == 5 ? words[4] : NULL);
     }
-    return wrong_usage("the first word is build, restore, show or --help");
+    return wrong_usage("the first word is build, bytes, restore, show, --help or --version");
 }
 
 int main(int count, char **words)

@@ -46,6 +46,9 @@
 #include <stddef.h>
 #include <stdint.h>
 
+/* The version of this header and of the library, as the file VERSION has it. */
+#define CTC_VERSION "1.0.0"
+
 /* The most bytes that a record may have. */
 #define CTC_COUNT_LIMIT 16384
 

@@ -65,7 +65,7 @@ absent() {
     done
 }
 
-no_temporary_files() { ! compgen -G '*.part' >/dev/null; }
+no_temporary_files() { ! compgen -G '*.part.*' >/dev/null; }
 
 # Bytes that differ from one blockette to the next.
 make_bytes() { # COUNT
@@ -79,7 +79,18 @@ spoil() { # FILE PLACE: the blockette at this place in tape order
 
 hexadecimal() { od -An -tx1 -v "$1" | tr -d ' \n'; }
 
+# Permissions do not stop root, and a faulty tool that root runs could put a plain file in the place of a device of this machine:
+# where the machine's own devices are written, and where permissions are tried, root runs the tool as nobody.
+mkdir open_folder
+cp "$tool" open_folder/tool
+chmod 711 .
+chmod 777 open_folder
+chmod 755 open_folder/tool
+unprivileged=(open_folder/tool)
+[ "$(id -u)" -ne 0 ] || unprivileged=(setpriv --reuid=65534 --regid=65534 --clear-groups open_folder/tool)
+
 make_bytes 600 >record
+chmod a+r record
 make_bytes 16384 >limit
 make_bytes 16385 >above
 : >empty
@@ -92,6 +103,9 @@ help_shown() { ended 0 && grep -q '^usage: ctc-record build' said && grep -q 'MA
 check "--help" help_shown
 
 usage_refused() { ended 2 'usage: ctc-record build' && [ ! -s said ]; }
+run "$tool" --version
+version_shown() { ended 0 && [ "$(cat said)" = "ctc-record $(cat "$root/VERSION")" ]; }
+check "--version is what VERSION has" version_shown
 run "$tool"
 check "no words" usage_refused
 run "$tool" burn gcr record image
@@ -107,6 +121,11 @@ check "show with a word missing" usage_refused
 run "$tool" build GCR record unwanted
 unknown_density() { ended 2 'mfm or gcr' && absent unwanted; }
 check "an unknown density" unknown_density
+run "$tool" restore - - unwanted
+two_standard() { ended 2 'cannot both be standard input' && absent unwanted; }
+check "image and marks both standard input" two_standard
+run "$tool" show - gcr -
+check "image and marks both standard input, shown" two_standard
 
 # ---- build ----
 
@@ -165,14 +184,23 @@ check "build replaces an earlier file" replaced
 restored() { # RECORD OUT
     ended 0 && cmp -s "$1" "$2" && no_temporary_files
 }
-run "$tool" restore image - out
+run "$tool" restore image good out
 check "restore with all good" restored record out
-run "$tool" restore image.limit - out.limit
+run "$tool" restore image.limit good out.limit
 check "restore the longest record" restored limit out.limit
-run "$tool" restore image.empty - out.empty
+run "$tool" restore image.empty good out.empty
 check "restore no bytes" restored empty out.empty
 run "$tool" restore image.empty empty out.empty
 check "restore no bytes with an empty marks file" restored empty out.empty
+
+printf '\017\003\017\017\017' >good
+cp image spoiled.1
+spoil spoiled.1 1
+run "$tool" restore spoiled.1 good out
+word_not_file() { ended 0 && ! cmp -s record out; }
+check "good is the word, also beside a file of that name" word_not_file
+run "$tool" restore spoiled.1 ./good out
+check "a marks file of the name good" restored record out
 
 # 2, 1, 0, check 1, check 0 on tape: every odd one with every even one
 spoiled_round_trip() {
@@ -227,24 +255,45 @@ marks_endless() { ended 1 '/dev/zero: refusal 9' 'more than 66' && absent unwant
 check "marks without end" marks_endless
 
 head -c 1281 image >image.short
-run "$tool" restore image.short - unwanted
+run "$tool" restore image.short good unwanted
 image_short() { ended 1 'image.short: refusal 9' '1282' '1281' && absent unwanted; }
 check "a byte of the image missing" image_short
-run "$tool" restore one - unwanted
+run "$tool" restore one good unwanted
 image_without_count() { ended 1 'one: refusal 9' 'at least 2 bytes' && absent unwanted; }
 check "an image of one byte" image_without_count
-run "$tool" restore /dev/zero - unwanted
+run "$tool" restore /dev/zero good unwanted
 image_endless() { ended 1 '/dev/zero: refusal 9' 'more than 16898' && absent unwanted; }
 check "an image without end" image_endless
 { printf '\240\000'; tail -c +3 image.limit; } >image.count # says 16,385
-run "$tool" restore image.count - unwanted
+run "$tool" restore image.count good unwanted
 count_above() { ended 1 'image.count: refusal 9' '16385' && absent unwanted; }
 check "a count above the limit" count_above
-run "$tool" restore image.mfm - unwanted
-mfm_refused() { ended 1 'image.mfm: refusal 9' && absent unwanted; }
-check "an MFM image" mfm_refused
+run "$tool" restore image.mfm good unwanted
+mfm_refused() { ended 1 'image.mfm: refusal 9' 'is a whole MFM image' 'ctc-record bytes mfm' && absent unwanted; }
+check "an MFM image is told as one" mfm_refused
+run "$tool" restore image.short good unwanted
+not_mfm() { ended 1 'refusal 9' && ! grep -q 'MFM image' errors; }
+check "a short GCR image is not" not_mfm
 run "$tool" restore image marks.12 kept
 check "a refused restore leaves an earlier file" kept_unchanged
+
+# ---- bytes ----
+
+run "$tool" bytes mfm image.mfm out.mfm
+check "the bytes of an MFM image" restored record out.mfm
+run "$tool" bytes gcr image out.gcr
+check "the bytes of a GCR image" restored record out.gcr
+run "$tool" bytes mfm image.empty out.empty
+check "the bytes of an empty MFM record" restored empty out.empty
+run "$tool" bytes mfm image unwanted
+gcr_refused() { ended 1 'image: refusal 9' 'is a whole GCR image' && absent unwanted; }
+check "a GCR image is told as one" gcr_refused
+head -c 601 image.mfm >image.short
+run "$tool" bytes mfm image.short unwanted
+mfm_short() { ended 1 'image.short: refusal 9' 602 601 && absent unwanted; }
+check "a byte of the MFM image missing" mfm_short
+run "$tool" bytes mfm one unwanted
+check "an MFM image of one byte" image_without_count
 
 # ---- show ----
 
@@ -277,12 +326,156 @@ run "$tool" show image gcr marks.10
 shown_mark() { ended 1 'marks.10: refusal 10' && [ ! -s said ]; }
 check "show a mark that is none" shown_mark
 
+run "$tool" show image gcr good
+shown_good() { ended 0 && grep -q '^odd error  *none$' said && grep -q '^restorable  *yes$' said; }
+check "show with all good" shown_good
+
+# ---- standard input and output ----
+
+# piped WORDS...: the tool with standard input from the file `from`, its output in `said`
+piped() {
+    "$tool" "$@" <from >said 2>errors
+    status=$?
+}
+said() { ended 0 && cmp -s said "$1"; }
+cp record from
+piped build gcr - out.piped
+check "build from standard input" restored image out.piped
+piped build gcr - -
+check "build from standard input to standard output" said image
+cp image.mfm from
+piped bytes mfm - -
+check "bytes from standard input to standard output" said record
+cp image from
+piped restore - good -
+check "restore from standard input to standard output" said record
+piped show - gcr
+check "show from standard input" shown
+cp ./good from
+piped restore spoiled.1 - -
+check "restore with the marks on standard input" said record
+piped show image gcr -
+shown_marks() { ended 0 && grep -q '^odd error  *data blockette 1, mark 3$' said; }
+check "show with the marks on standard input" shown_marks
+: >from
+piped restore - good unwanted
+standard_named() { ended 1 'standard input: refusal 9' && absent unwanted; }
+check "a message names standard input" standard_named
+"$tool" build gcr record - 2>errors >/dev/full
+status=$?
+standard_full() { ended 1 'cannot write standard output'; }
+check "build to a full standard output" standard_full
+"$tool" build gcr record - 2>errors >&-
+status=$?
+check "build to a closed standard output" standard_full
+"$tool" build gcr - unwanted 2>errors <&-
+status=$?
+standard_closed() { ended 1 'cannot read standard input' && absent unwanted; }
+check "build from a closed standard input" standard_closed
+
+# ---- an output that is also read ----
+
+# refused_same KEPT...: the last command said that two are one file, and the files are as they were
+refused_same() {
+    local path
+    ended 1 'are the same file' || return
+    for path in "$@"; do
+        cmp -s "$path" "$path.before" || return
+    done
+    no_temporary_files
+}
+cp image same
+cp image same.before
+printf '\017\017\017\017\017' | tee same.marks >same.marks.before
+ln -s same same.link
+ln same same.hard
+run "$tool" restore same good same
+check "the image as output" refused_same same
+run "$tool" restore same good ./same
+check "the image as output, by another path" refused_same same
+run "$tool" restore same good same.link
+check "the image as output, by a link" refused_same same
+run "$tool" restore same.link good same
+check "the image by a link, its file as output" refused_same same
+run "$tool" restore same good same.hard
+check "the image as output, by a hard link" refused_same same
+run "$tool" restore same same.marks same.marks
+check "the marks as output" refused_same same same.marks
+run "$tool" build gcr same same.link
+check "the record as output" refused_same same
+run "$tool" bytes gcr same same
+check "bytes: the image as output" refused_same same
+cp image.mfm mfm
+cp image.mfm mfm.before
+run "$tool" bytes mfm mfm mfm
+check "bytes: the MFM image as output" refused_same mfm
+cp same from
+cp from from.before
+piped restore - good from
+check "standard input as output" refused_same from
+piped restore /dev/stdin good ./from
+check "standard input as output, by its name" refused_same from
+# shellcheck disable=SC2094 # one file as both is what is tried
+{
+    "$tool" build gcr same - <same 2>errors 1<>same
+    status=$?
+    check "the record as standard output" refused_same same
+    "$tool" show same gcr 2>errors >>same
+    status=$?
+    check "show: the image as standard output" refused_same same
+    "$tool" build gcr same /dev/stdout 2>errors >>same
+    status=$?
+    check "the record as standard output, by its name" refused_same same
+}
+run "${unprivileged[@]}" build gcr /dev/null /dev/null
+check "/dev/null as both, which loses nothing" ended 0
+
+# ---- an earlier output ----
+
+mode_of() { stat -c %a "$1"; }
+mode_kept() { # MODE: an earlier file has it, and has it still
+    cp record earlier
+    chmod "$1" earlier
+    run "$tool" build mfm record earlier
+    ended 0 && cmp -s earlier image.mfm && [ "$(mode_of earlier)" = "$1" ]
+}
+check "an earlier file keeps mode 600" mode_kept 600
+check "an earlier file keeps mode 666, whatever the umask" mode_kept 666
+new_mode() { # UMASK MODE
+    rm -f new
+    (umask "$1" && "$tool" build mfm record new) >said 2>errors
+    status=$?
+    ended 0 && [ "$(mode_of new)" = "$2" ]
+}
+check "a new file has the mode of the umask 022" new_mode 022 644
+check "a new file has the mode of the umask 077" new_mode 077 600
+# root alone can make a file of another owner; elsewhere the owner is the same before and after
+owner_kept() {
+    [ "$(id -u)" -ne 0 ] || chown 65534:65534 earlier
+    local before
+    before=$(stat -c %u:%g:%a earlier)
+    run "$tool" build mfm record earlier
+    ended 0 && [ "$(stat -c %u:%g:%a earlier)" = "$before" ]
+}
+check "an earlier file keeps its owner" owner_kept
+protected_kept() {
+    echo 'old contents' >open_folder/protected
+    chmod 444 open_folder/protected
+    run "${unprivileged[@]}" build mfm record open_folder/protected
+    ended 1 'cannot write open_folder/protected' && [ "$(cat open_folder/protected)" = 'old contents' ] &&
+        [ "$(mode_of open_folder/protected)" = 444 ]
+}
+check "an earlier file that may not be written stays" protected_kept
+long=$(printf 'n%.0s' {1..255})
+run "$tool" build mfm record "$long"
+check "the longest name of a file" restored image.mfm "$long"
+
 # ---- files ----
 
 run "$tool" build gcr nowhere unwanted
 missing() { ended 1 'cannot open nowhere' && absent unwanted; }
 check "a missing bytes file" missing
-run "$tool" restore nowhere - unwanted
+run "$tool" restore nowhere good unwanted
 check "a missing image" missing
 run "$tool" restore image nowhere unwanted
 check "a missing marks file" missing
@@ -297,7 +490,7 @@ run "$tool" build gcr record nowhere/image
 no_folder() { ended 1 'nowhere/image' && absent nowhere; }
 check "an image in a folder that is not there" no_folder
 
-run "$tool" build gcr record /dev/full
+run "${unprivileged[@]}" build gcr record /dev/full
 device_full() { ended 1 'cannot write /dev/full' && [ -c /dev/full ]; }
 check "a full device" device_full
 
@@ -315,6 +508,18 @@ disk_full_kept() {
     ended 1 'cannot write kept' && [ "$(cat kept)" = 'old contents' ] && no_temporary_files
 }
 check "a full disk leaves an earlier file" disk_full_kept
+ln -s kept kept.link
+chmod 600 kept
+run no_room "$tool" build gcr limit kept.link
+disk_full_link() {
+    ended 1 'cannot write kept.link' && [ -L kept.link ] && [ "$(cat kept)" = 'old contents' ] &&
+        [ "$(mode_of kept)" = 600 ] && no_temporary_files
+}
+check "a full disk leaves what a link leads to" disk_full_link
+ln -s unwanted nowhere.link
+run no_room "$tool" build gcr limit nowhere.link
+disk_full_nowhere() { ended 1 'cannot write nowhere.link' && [ -L nowhere.link ] && absent unwanted; }
+check "a full disk leaves a link to nothing" disk_full_nowhere
 
 printed_to_full() { [ "$status" -eq 1 ] && grep -q 'standard output' errors; }
 "$tool" show image gcr >/dev/full 2>errors
@@ -324,19 +529,47 @@ check "show to a full device" printed_to_full
 "$tool" build gcr record /dev/stdout 2>errors | cmp -s - image
 status=$?
 check "build into a pipe" ended 0
+{ echo head && "$tool" build mfm record /dev/stdout && echo tail; } >joined 2>errors
+status=$?
+joined() { ended 0 && { echo head && cat image.mfm && echo tail; } | cmp -s - joined; }
+check "/dev/stdout is standard output, with what else goes there" joined
 ln -s target.of.link link
 : >target.of.link
 run "$tool" build mfm record link
-link_kept() { ended 0 && [ -L link ] && cmp -s target.of.link image.mfm; }
+link_kept() { ended 0 && [ -L link ] && cmp -s target.of.link image.mfm && no_temporary_files; }
 check "a link is written through" link_kept
+rm target.of.link
+run "$tool" build mfm record link
+check "a link to a file that is not there yet" link_kept
+mkdir other_folder
+ln -sf other_folder/target link
+run "$tool" build mfm record link
+link_elsewhere() { ended 0 && [ -L link ] && cmp -s other_folder/target image.mfm && [ "$(ls other_folder)" = target ]; }
+check "a link into another folder" link_elsewhere
+run "${unprivileged[@]}" build mfm record /dev/null
+device_kept() { ended 0 && [ -c /dev/null ]; }
+check "a device is written and stays" device_kept
+mkfifo fifo
+timeout 10 cat fifo >from.fifo &
+run timeout 10 "$tool" build mfm record fifo
+wait $!
+fifo_written() { ended 0 && [ -p fifo ] && cmp -s from.fifo image.mfm; }
+check "a pipe with a name is written and stays" fifo_written
+timeout 10 cat record >fifo &
+run timeout 10 "$tool" build mfm fifo from.fifo
+wait $!
+check "a pipe with a name is read" restored image.mfm from.fifo
 
 # ---- the root script, in a copy of the tree ----
 
 mkdir -p tree/target/staticlib tree/crates/records
-cp -r "$root/ctc-record" "$root/examples" "$root/include" "$root/tools" tree/
+cp -r "$root/ctc-record" "$root/VERSION" "$root/examples" "$root/include" "$root/tools" tree/
 touch tree/crates.txt tree/crates/records/lib.rt
 sleep 0.1
 cp "$archive" tree/target/staticlib/librecords.a
+# as if the kit that is here had built it
+kit=$(rt version 2>/dev/null) || kit="no kit"
+echo "$kit" >tree/target/staticlib/librecords.a.kit
 
 # the commands that the script may use, without rt and cc
 mkdir bare
@@ -347,6 +580,7 @@ done
 mkdir with_rt
 cat >with_rt/rt <<END
 #!/bin/sh
+if [ "\$1" = version ]; then echo '$kit' && exit; fi
 echo "\$PWD: \$*" >>'$folder/rt.calls'
 [ ! -e '$folder/rt.fails' ] || exit 1
 mkdir -p target/staticlib && cp '$archive' target/staticlib/librecords.a
@@ -382,7 +616,7 @@ check "script: builds nothing twice" shown
 
 sleep 0.1
 touch tree/crates/records/lib.rt
-run env PATH="$folder/bare" tree/ctc-record --help
+run env PATH="$folder/bare" tree/ctc-record show image gcr
 without_rt() { ended 1 'rt is not in PATH'; }
 check "script: no rt" without_rt
 run env PATH="$folder/with_rt:$PATH" tree/ctc-record show image gcr

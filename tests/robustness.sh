@@ -267,16 +267,22 @@ failing_files() {
 
 # ---- the root script, in a copy of the tree ----
 
-refused() { # MESSAGE-PART COMMAND...
-    local part=$1
-    shift
-    if timeout 10 "$@" >said 2>errors </dev/null; then no "status 0"; return; fi
+refused() { # STATUS MESSAGE-PART COMMAND...
+    local expected=$1 part=$2 status=0
+    shift 2
+    timeout 10 "$@" >said 2>errors </dev/null || status=$?
+    [ "$status" -eq "$expected" ] || no "status $status" || return
     [ ! -s said ] || no "it said $(head -c 100 said)" || return
     grep -qF -- "$part" errors || no "its message: $(cat errors)"
 }
 
 script_plays() { # ARGUMENT...
     timeout 10 tree/session "$@" | cmp - "$sessions/story-read.answers"
+}
+
+script_plays_fifo() {
+    timeout 10 cat "$sessions/story-read.session" >fifo &
+    script_plays fifo
 }
 
 # The script has a status: not 0 where the program could not read or write.
@@ -288,16 +294,23 @@ script_fails() { # COMMAND...
 
 root_script() {
     mkdir -p tree/target/bin tree/crates
-    cp -r "$root/session" "$root/tools" "$root/sessions" tree/
+    cp -r "$root/session" "$root/VERSION" "$root/tools" "$root/sessions" tree/
     touch tree/crates.txt
     sleep 0.05
     cp "$program" tree/target/bin/session
+    # as if the kit that is here had built it
+    rt version >tree/target/bin/session.kit 2>/dev/null
+    mkfifo fifo
     check "script: a file" script_plays "$sessions/story-read.session"
     check "script: standard input" script_plays - <"$sessions/story-read.session"
     check "script: a pipe" script_plays < <(cat "$sessions/story-read.session")
-    check "script: a folder" refused "is not a file that can be read" tree/session "$folder"
-    check "script: no such file" refused "is not a file that can be read" tree/session missing
-    check "script: two files" refused "one file at a time" tree/session text text
+    check "script: a pipe as its file" script_plays <(cat "$sessions/story-read.session")
+    check "script: a pipe with a name" script_plays_fifo
+    check "script: a folder" refused 1 "is a folder" tree/session "$folder"
+    check "script: no such file" refused 1 "missing is not there" tree/session missing
+    check "script: no name" refused 1 "is not there" tree/session ''
+    check "script: two files" refused 2 "one file at a time" tree/session text text
+    check "script: an unknown word" refused 2 "--wrong" tree/session --wrong
     # shellcheck disable=SC2016 # the inner shell has it as $0
     {
         check "script: a full disk" script_fails bash -c 'tree/session "$0" >/dev/full' "$sessions/story-read.session"
