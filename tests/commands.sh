@@ -17,32 +17,8 @@ archive=$(readlink -f "$2")
 program=$(readlink -f "$3")
 root=$(dirname "$(dirname "$(readlink -f "${BASH_SOURCE[0]}")")")
 CC=${CC:-cc}
-folder=$(mktemp -d) || exit 2
-trap 'rm -rf -- "$folder"' EXIT
-cd "$folder" || exit 2
-export LC_ALL=C
-
-passed=0
-failed=0
-
-# check NAME COMMAND...: one test, which passes where the command succeeds; where it fails, what it says is shown.
-check() {
-    local name=$1 reason
-    shift
-    if reason=$("$@" 2>&1); then
-        passed=$((passed + 1))
-        echo "ok $name"
-    else
-        failed=$((failed + 1))
-        echo "FAILED $name"
-        printf '%s\n' "${reason:-no reason given}" | head -n 8 | cut -c 1-200 | sed 's/^/  /'
-    fi
-}
-
-no() { # REASON
-    echo "$1"
-    return 1
-}
+# shellcheck source=tests/check
+. "$root/tests/check"
 
 # run COMMAND...: its status goes to $status, what it says to said and errors.
 status=0

@@ -15,7 +15,7 @@ use Rattle.blockettes.proofs.Others.{others-by-all, others-length}
 -- ---- one blockette
 
 -- a blockette that is there has 256 bytes
-blockette-length : (bytes : List ℕ) (place : ℕ) → 256 * place + 256 ≤ length bytes → length (blocketteAt bytes place) ≡ 256
+pub blockette-length : (bytes : List ℕ) (place : ℕ) → 256 * place + 256 ≤ length bytes → length (blocketteAt bytes place) ≡ 256
 unfolding blocketteAt
 blockette-length bytes place h = simp (length-take, length-drop) (omega arith)
 

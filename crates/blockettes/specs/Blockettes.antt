@@ -1,4 +1,4 @@
--- Blockettes of 256 bytes and their check (document 01, Records). Bytes stand in tape order; a blockette's place counts from 0
+-- Blockettes and their check (document 01, Records). Bytes stand in tape order; a blockette's place counts from 0
 -- in that order, its number from the other end.
 -- Assumes nothing.
 use Prim.Native.Nat.{ℕ, _+_, _-_, _*_, _/_, _%_}
@@ -8,9 +8,17 @@ use lib.ListN.{take, drop, replicate}
 use Rattle.common.specs.Pick.{pick}
 use Rattle.blockettes.specs.Xor.{xorAll}
 
+-- the bytes of a blockette: "c/256 rounded up blockettes"
+abbrev pub blocketteLength : ℕ
+blocketteLength = 256
+
+-- the bytes of both check blockettes: "check store (512 bytes ..)"
+abbrev pub checksLength : ℕ
+checksLength = 512
+
 -- The blockette at a place. The last may be short; zeros stand for the rest of it.
 unfoldable pub blocketteAt : List ℕ → ℕ → List ℕ
-blocketteAt bytes place = take 256 (drop (256 * place) bytes)
+blocketteAt bytes place = take blocketteLength (drop (blocketteLength * place) bytes)
 
 -- "numbered n-1 down to 0": of n blockettes, the one with this number
 unfoldable pub numbered : List ℕ → ℕ → ℕ → List ℕ
@@ -26,11 +34,11 @@ foldParity start bytes n parity = xorAll start (λ t. numbered bytes n (2 * t + 
 
 -- "check blockette 1, the XOR of the odd ones, and 0, of the even ones"
 unfoldable pub checkOf : List ℕ → ℕ → ℕ → List ℕ
-checkOf bytes n parity = foldParity (replicate 256 0) bytes n parity
+checkOf bytes n parity = foldParity (replicate blocketteLength 0) bytes n parity
 
 -- What restores the blockette at a place: the XOR of all others of its parity, of n blockettes in all.
 unfoldable pub othersOf : List ℕ → ℕ → ℕ → List ℕ
 othersOf bytes n place =
-    xorAll (replicate 256 0)
+    xorAll (replicate blocketteLength 0)
     (λ t. pick (eqb t ((n - 1 - place) / 2)) [] (numbered bytes n (2 * t + (n - 1 - place) % 2)))
     (ofParity n ((n - 1 - place) % 2))

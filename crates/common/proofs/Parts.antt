@@ -12,7 +12,8 @@ use borrow.Rule.Slice.PartMut.{putMid}
 
 module _ {A : Type 0} where
   -- k elements from a start, or as many as there are
-  pub part-least : (l : List A) (start k end : ℕ) → end ≡ min (length l) (start + k) → start ≤ length l → take (end - start) (drop start l) ≡ take k (drop start l)
+  pub part-least : (l : List A) (start k end : ℕ) → end ≡ min (length l) (start + k) → start ≤ length l
+      → take (end - start) (drop start l) ≡ take k (drop start l)
   part-least l start k end e h =
       elim (decLe (start + k) (length l)) [
         | yes fits ↦ let all : end - start ≡ k = omega arith in ap (λ (n : ℕ). take n (drop start l)) all
@@ -22,7 +23,8 @@ module _ {A : Type 0} where
       ]
 
   -- the same where the start may lie past the end too
-  pub part-within : (l : List A) (start k from end : ℕ) → from ≡ min (length l) start → end ≡ min (length l) (from + k) → take (end - from) (drop from l) ≡ take k (drop start l)
+  pub part-within : (l : List A) (start k from end : ℕ) → from ≡ min (length l) start → end ≡ min (length l) (from + k)
+      → take (end - from) (drop from l) ≡ take k (drop start l)
   part-within l start k from end f e =
       elim (decLe start (length l)) [
         | yes inside ↦ let same : from ≡ start = omega arith in part-least l from k end e (omega arith) ∙ ap (λ (n : ℕ). take k (drop n l)) same
@@ -34,7 +36,8 @@ module _ {A : Type 0} where
       ]
 
   -- a space whose first a elements were filled and then the others
-  pub two-parts : (space first last : List A) (a : ℕ) → length first ≡ a → putMid a (length (first ++ drop a space) - a) (first ++ drop a space) last ≡ first ++ last
+  pub two-parts : (space first last : List A) (a : ℕ) → length first ≡ a
+      → putMid a (length (first ++ drop a space) - a) (first ++ drop a space) last ≡ first ++ last
   two-parts space first last a e =
       let whole = first ++ drop a space in
       simp (take-at first (drop a space) a e, drop-of-length-le (drop a whole) (le-of-eq (length-drop a whole)), append-nil)

@@ -10,7 +10,8 @@ use lib.Seq.{take-suc, drop-cons, set-at, append-snoc, length-take-le, getD-at}
 
 module _ {A : Type 0} where
   -- one turn more, which writes the next element of `t`
-  pub written-more : (s t : List A) (i : ℕ) (d v : A) → getD t i d ≡ v → i < length t → i < length s → set (take i t ++ drop i s) i v ≡ take (i + 1) t ++ drop (i + 1) s
+  pub written-more : (s t : List A) (i : ℕ) (d v : A) → getD t i d ≡ v → i < length t → i < length s
+      → set (take i t ++ drop i s) i v ≡ take (i + 1) t ++ drop (i + 1) s
   written-more s t i d v e ht hs =
       rw (drop-cons s i d, ← e)
       (set-at (take i t) (getD s i d) (drop (suc i) s) (getD t i d) i (length-take-le i t (le-of-lt ht))

@@ -1,2 +1,3 @@
 pub mod Pick
 pub mod Given
+pub mod Refusals

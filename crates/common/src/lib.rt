@@ -1,4 +1,6 @@
-// What the other crates have in common: the lesser of two numbers, and the plain work on lent space.
+// What the other crates have in common: the lesser of two numbers, the plain work on lent space, and the refusals.
+pub mod refusals;
+
 ghost use mathlib.Core.Path.{_≡_};
 ghost use Prim.Native.Nat.{_≤_, min};
 ghost use lib.ListN.{length, replicate};
@@ -33,7 +35,7 @@ pub fn give(bytes: &[u8], space: &mut [u8])
 }
 
 // Gives bytes and fills the rest of the space with zeros.
-pub fn give_filled(bytes: &[u8], space: &mut [u8])
+pub fn put_filled(bytes: &[u8], space: &mut [u8])
     requires { ⌜ length (now bytes) ≤ length (now space) ⌝ }
     ensures { λ _. ⌜ now (space .exit) ≡ filled (now (bytes .entry)) (length (now (space .entry))) ⌝ }
 {

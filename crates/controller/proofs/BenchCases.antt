@@ -10,32 +10,35 @@ use Rattle.common.specs.Given.{given, filled}
 use Rattle.blockettes.specs.Xor.{_⊕_, xorAll}
 use Rattle.blockettes.specs.Blockettes.{blocketteAt, numbered, ofParity, foldParity, checkOf}
 use Rattle.marks.specs.Marks.{legalMark, legalMarks, isError}
-use Rattle.marks.specs.Scan.{scanFrom, scanOf, kindOf, numberOf, defectAt}
+use Rattle.marks.specs.Scan.{scanFrom, scanMarks, kindOf, numberOf, defectAt, isFound, findingsOf}
 use Rattle.records.specs.Count.{limit, rotated, countBytes, unrotated, countOf}
 use Rattle.records.specs.Image.{blocketteCount, hasBlockettes, blockettesOf, bodyOf, imageOf, imageLength, markCount}
-use Rattle.records.specs.Whole.{wholeRefusal, countRefusal, emptyRefusal, imageRefusal}
+use Rattle.records.specs.Whole.{wholeRefusal}
+use Rattle.transfers.specs.Expected.{wholeCode, expectedWhole, expectedOf, countRefusal, emptyRefusal, imageRefusal}
+use Rattle.operations.specs.Operation.{movesTape, isSearch, takesMark}
 use Rattle.operations.specs.Decode.{controlOf, readOf, writeOf, decodeOf}
-use Rattle.operations.specs.Test as test
+use Rattle.operations.specs.Test.{mayMove}
 use Rattle.operations.specs.Answers.{forwardCodes, reverseCodes, endCodes, listedCodes, isIn, answerOf}
 use Rattle.operations.specs.After.{losesTape, motionOf, gapOf, gapAfter, retryOf}
-use Rattle.status.specs.Drives.{reports, driveOf, withDrive, reported, differs, reviewedAll, freshDrives, resetDrives}
-use Rattle.status.specs.Words.{bit, noOutcome, anyBit, primaryOf, secondaryWord, digits, tertiaryOf, quintaryOf, reportsWord}
+use Rattle.status.specs.Drives.{reports, withTrack, driveOf, withDrive, withReport, anyDiffers, copyReports, freshDrives, resetDrives}
+use Rattle.status.specs.Words.{bitOf, noOutcome, anyBit, primaryOf, secondaryWord, digitsOf, tertiaryOf, quintaryOf, reportsWord}
 use Rattle.status.specs.Strings.{stringOf, orderOf}
 use Rattle.link.specs.declared.state.Body.{Body}
 use Rattle.controller.specs.declared.controller.Controller.{Controller}
 use Rattle.link.specs.declared.state.Action.the-variants.{Nothing, Byte}
-use Rattle.link.specs.State.{startBody, resetOf, review, idle}
-use Rattle.link.specs.Completion.{primaryNow, sent, interrupts, completed, coded}
-use Rattle.operations.specs.Store.{asksInterrupt, namesDrive, named, asked, thrownAway, heldCount}
-use Rattle.link.specs.Link.{wholeLength, appended, loadXor, checks, firstByte, lastByte, nextByte, accepted, givenUp, saidNo, goRefused, goTaken, collectedByte, sendAnswered, goAnswered, tickWith, idleTick}
-use Rattle.link.specs.Loads.{loadWord, loaded}
+use Rattle.link.specs.State.{storeOf, startBody, resetState, review, idle}
+use Rattle.link.specs.Completion.{primaryNow, sendWord, sendInterrupt, complete}
+use Rattle.operations.specs.Store.{asksInterrupt, namesDrive, namedDrive, namesUnknown, selectedBy, askedFor, thrownAway, heldCount}
+use Rattle.operations.specs.Course.{testOf, courseBy, courseOf}
+use Rattle.link.specs.Link.{wholeLength, appendByte, loadXor, isGoodString, firstByte, lastByte, nextByte, yesToSend, giveUp, noToSend, noToGo, yesToGo, collectByte, answerToSend, answerToGo, tickAfterReview, idleTick}
+use Rattle.link.specs.Loads.{loadWord, carryOutLoad}
 use Rattle.controller.specs.Controller.{fresh}
-use Rattle.controller.specs.Stores.{storeOf, endedBy, settled, tracked, withDensity, motionOrder, pastTest, ordered, begun, operated, decoded, cleared, namesUnknown, selectedBy, carriedOut}
-use Rattle.transfers.specs.Data.{isGcr, checkBytes, recordBytes, runsShort, withUnderflow, dataRefusal}
-use Rattle.transfers.specs.Results.{takesMark, isSearch, markAgainst, wholeCode, expectedWhole, expectedOf, resultRefusal, movesTape, isGone, usesImage, scanCode, finalCode, readsGcr, resultTertiary, resultQuintary, resultCheck, readBytes, delivered, fitting, wroteWell, resultSecondary, resultBits, withRetry, withGap, resultDrive}
-use Rattle.controller.specs.Records.{Answer, zeroedWords, dataDone, resultBody, ending, resultGiven, resultDone}
-use Rattle.link.specs.Damaged.{soundDrive, soundDrives, soundBody, soundLead, soundPart, soundString, soundCount, soundHeld, soundPhase, sound}
-use Rattle.controller.specs.Machine.{byteIn, brokenIn, tickIn, byteCall, brokenCall, tickCall, takenBody, takenIn, takenCall, reportNoted, reportCall, resetCall, dataFor, resultFor, dataIn, dataCall, resultIn, resultCall, Call, step}
+use Rattle.controller.specs.Stores.{endWith, settle, endOperation, motionOrder, pastTest, orderMove, begin, follow, clearOutcome, carryOutOn, carryOut}
+use Rattle.transfers.specs.Data.{checkBytes, recordBytes, runsShort, dataRefusal, dataWords, settleData}
+use Rattle.transfers.specs.Results.{markAgainst, resultRefusal, isGone, finalCode, readsGcr, usedCount, verdictOf, readCount, readBytes, deliveredBytes, fitting, resultCheck, resultTertiary, resultQuintary, wroteWell, resultSecondary, resultBits, withRetry, resultWords, resultGap, settleResult}
+use Rattle.controller.specs.Records.{Answer, dataDone, resultDone}
+use Rattle.link.specs.Damaged.{soundDrive, soundDrives, soundBody, soundLead, soundPart, soundString, soundCount, soundHeld, soundPhase, isSound}
+use Rattle.controller.specs.Machine.{byteIn, brokenIn, tickIn, byteCall, brokenCall, tickCall, carryOutString, takenIn, takenCall, reportNoted, reportCall, resetCall, dataFor, resultFor, dataIn, dataCall, resultIn, resultCall, Call, step}
 use Rattle.controller.specs.Machine.Call.{byte, taken, report, hostData, result}
 
 -- the last answer of a list of calls from a state, and the body that it leaves
@@ -60,8 +63,8 @@ readStore check = byte 0x64 ∷ byte 0x49 ∷ byte 0x00 ∷ byte 0x00 ∷ byte 0
 
 -- "Report #22 on drive 1, that read, .."
 abbrev readOn : ℕ → List ℕ → Bool → List Call
-readOn reported image mark =
-    report 1 reported ∷ store 0x49 0x00 0x00 0x00 0x00 0x2D
+readOn bits image mark =
+    report 1 bits ∷ store 0x49 0x00 0x00 0x00 0x00 0x2D
     ++ result (record { code = 0; mark = mark; late = 0; image = image; marks = [] }) (replicate 5 0) (replicate 512 0) ∷ byte 0x06 ∷ []
 
 -- a GCR read on drive 1 with a result
@@ -103,7 +106,20 @@ pub record BenchCases : Type 0 where
   pub check-257 : getD (played (gcrWrite 0x5A) .check) 256 0 ≡ 0x5A
 
 pub bench-cases : BenchCases
-unfolding pick given filled _⊕_ xorAll blocketteAt numbered ofParity foldParity checkOf legalMark legalMarks isError scanFrom scanOf kindOf numberOf defectAt limit rotated countBytes unrotated countOf blocketteCount hasBlockettes blockettesOf bodyOf imageOf imageLength markCount wholeRefusal countRefusal emptyRefusal imageRefusal controlOf readOf writeOf decodeOf test.ready test.placed test.aheadFree test.behindFree test.writable test.mayMove forwardCodes reverseCodes endCodes listedCodes isIn answerOf losesTape motionOf gapOf gapAfter retryOf reports driveOf withDrive reported differs reviewedAll freshDrives resetDrives bit noOutcome anyBit primaryOf secondaryWord digits tertiaryOf quintaryOf reportsWord stringOf orderOf startBody fresh resetOf review idle primaryNow sent interrupts completed coded wholeLength appended loadXor checks firstByte lastByte nextByte accepted givenUp saidNo asksInterrupt goRefused goTaken collectedByte sendAnswered goAnswered tickWith idleTick loadWord loaded storeOf namesDrive named asked endedBy settled tracked withDensity motionOrder pastTest ordered begun operated decoded cleared namesUnknown selectedBy carriedOut isGcr checkBytes thrownAway heldCount recordBytes runsShort withUnderflow zeroedWords dataRefusal dataDone dataFor resultFor resultGiven takesMark isSearch markAgainst wholeCode expectedWhole expectedOf resultRefusal movesTape isGone usesImage scanCode finalCode readsGcr resultTertiary resultQuintary resultCheck readBytes delivered fitting wroteWell resultSecondary resultBits withRetry withGap resultDrive resultBody ending resultDone soundDrive soundDrives soundBody soundLead soundPart soundString soundCount soundHeld soundPhase sound byteIn brokenIn tickIn byteCall brokenCall tickCall takenBody takenIn takenCall reportNoted reportCall resetCall dataIn dataCall resultIn resultCall step
+unfolding pick given filled _⊕_ xorAll blocketteAt numbered ofParity foldParity checkOf legalMark legalMarks isError scanFrom scanMarks kindOf
+    numberOf defectAt limit rotated countBytes unrotated countOf blocketteCount hasBlockettes blockettesOf bodyOf imageOf imageLength markCount
+    wholeRefusal countRefusal emptyRefusal imageRefusal controlOf readOf writeOf decodeOf mayMove forwardCodes reverseCodes endCodes listedCodes isIn
+    answerOf losesTape motionOf gapOf gapAfter retryOf reports driveOf withDrive withReport anyDiffers copyReports freshDrives resetDrives bitOf
+    noOutcome anyBit primaryOf secondaryWord digitsOf tertiaryOf quintaryOf reportsWord stringOf orderOf startBody fresh resetState review idle
+    primaryNow sendWord sendInterrupt complete wholeLength appendByte loadXor isGoodString firstByte lastByte nextByte yesToSend giveUp noToSend
+    asksInterrupt noToGo yesToGo collectByte answerToSend answerToGo tickAfterReview idleTick loadWord carryOutLoad storeOf namesDrive namedDrive
+    askedFor endWith settle withTrack motionOrder pastTest orderMove begin clearOutcome namesUnknown selectedBy testOf courseBy courseOf follow
+    carryOutOn carryOut checkBytes thrownAway heldCount recordBytes runsShort dataRefusal dataDone dataFor resultFor takesMark isSearch markAgainst
+    wholeCode expectedWhole expectedOf resultRefusal movesTape isGone finalCode readsGcr resultTertiary resultQuintary resultCheck readBytes fitting
+    wroteWell resultSecondary resultBits withRetry endOperation resultDone isFound findingsOf dataWords settleData usedCount verdictOf readCount
+    deliveredBytes resultWords resultGap settleResult soundDrive soundDrives soundBody soundLead soundPart soundString soundCount soundHeld soundPhase
+    isSound byteIn brokenIn tickIn byteCall brokenCall tickCall carryOutString takenIn takenCall reportCall resetCall dataIn dataCall resultIn
+    resultCall step
 bench-cases =
     record {
       ack = refl;

@@ -6,13 +6,14 @@ use Prim.Native.Nat.{ℕ}
 use native.Mathlib.Omega.{arith}
 use mathlib.Core.Bool.{Bool, true, false, not, _&&_, _||_, false≢true, and-false}
 use mathlib.Core.List.{List, [], _∷_}
-use lib.Dec.{ltb, eqb}
+use lib.Dec.{eqb}
 use lib.ListN.{length}
 use borrow.Author.Tests.{eqb-true, not-true, not-false}
 use Rattle.common.specs.Pick.{pick}
-use Rattle.common.proofs.PickLaws.{by-test, both-hold, pick-by, pick-yes, pick-no, not-refused}
-use Rattle.marks.specs.Scan.{scanOf}
+use Rattle.common.proofs.PickLaws.{by-test, both-hold, pick-by, pick-yes, pick-no}
+use Rattle.marks.specs.Scan.{findingsOf}
 use Rattle.status.specs.declared.drives.Drive.{Drive}
+use Rattle.status.specs.Drives.{withTrack, withDensity}
 use Rattle.status.specs.Words.{noOutcome}
 use Rattle.operations.specs.declared.operation.Operation.{Operation}
 use Rattle.operations.specs.declared.operation.Operation.the-variants.{Read, CheckBytes, Write, Erase, Rewind, FastForward, SkipForward, SkipReverse, SearchForward, SearchReverse, WriteMark}
@@ -20,27 +21,31 @@ use Rattle.operations.specs.declared.decode.Decoded.{Decoded}
 use Rattle.operations.specs.declared.decode.Decoded.the-variants.{Reset, Code, Track, Enable, Density, Operate}
 use Rattle.operations.specs.declared.store.Store.{Store}
 use Rattle.operations.specs.Operation.{moveOf, sameOperation}
-use Rattle.operations.specs.Store.{asked, heldCount}
-use Rattle.operations.specs.Test.{mayMove}
+use Rattle.operations.specs.Codes.{illegalDrive, illegalMotion}
+use Rattle.operations.specs.Store.{namesUnknown, askedFor, heldCount}
+use Rattle.operations.specs.Course.{courseBy, courseOf}
 use Rattle.link.specs.declared.state.Phase.{Phase}
 use Rattle.link.specs.declared.state.Phase.the-variants.{Collecting, AckOffered, Sending, GoOffered, DataAwaited, ResultAwaited, EndOffered}
 use Rattle.link.specs.declared.state.Body.{Body}
 use Rattle.link.specs.declared.state.Action.{Action}
 use Rattle.link.specs.declared.state.Action.the-variants.{Nothing, Byte, Text, Order}
 use Rattle.link.specs.declared.state.Turn.{Turn}
-use Rattle.link.specs.State.{startBody, setFlags, setOutcome, setCurrent, current, resetOf}
-use Rattle.link.specs.Link.{goTaken}
-use Rattle.transfers.specs.Data.{isGcr, runsShort, withUnderflow}
-use Rattle.transfers.specs.Results.{Result, isGone, usesImage, scanCode, finalCode, wroteWell, resultSecondary, resultBits, withRetry}
+use Rattle.link.specs.State.{storeOf, offered, startBody, withFlags, withCurrentDrive, currentDrive, resetState}
+use Rattle.link.specs.Link.{yesToGo}
+use Rattle.transfers.specs.declared.verdict.Verdict.{Verdict}
+use Rattle.transfers.specs.Data.{dataWords, settleData}
+use Rattle.transfers.specs.Results.{Result, isGone, usedCount, verdictOf, wroteWell, resultSecondary, resultBits, withRetry, resultWords, settleResult}
+use Rattle.transfers.proofs.ResultLaws.{final-zero}
 use Rattle.controller.specs.declared.controller.Controller.{Controller}
 use Rattle.controller.specs.Controller.{fresh, carried}
-use Rattle.controller.specs.Stores.{storeOf, tracked, withDensity, pastTest, ordered, begun, operated, decoded, cleared, namesUnknown, carriedOut}
-use Rattle.controller.specs.Records.{zeroedWords, dataDone, resultBody, resultGiven, resultDone}
+use Rattle.controller.specs.Stores.{pastTest, orderMove, begin, follow, clearOutcome, carryOutOn, carryOut}
+use Rattle.controller.specs.Records.{wordsOf, withAfter, dataDone, resultDone}
 use Rattle.controller.specs.Machine.{unchanged, reportNoted, dataIn, resultIn, Call, Exchange, plain, step, run}
 use Rattle.controller.specs.Machine.Call.{byte, taken, broken, report, hostData, result, tick, reset}
-use Rattle.controller.specs.Lists.{notRefused, isTaken, holdsStore, carriesOut, lastStore, noStore, asksFor}
+use Rattle.controller.specs.Lists.{notRefused, isTaken, holdsStore, carriesOut, lastStore, heldStore, noStore, asksFor}
 use Rattle.controller.specs.Counts.{OwnRecord, passedBy, recordAfter, ownRecord, Sends, ValidFrom, CountsAreOwn}
 use Rattle.controller.specs.Counts.OwnRecord.{noRecord, recordOf}
+use Rattle.controller.proofs.Courses.{decoded, by-test-of}
 use Rattle.controller.proofs.Steps.Resting.{by-free, Free, Rests, ended-rests, settled-rests, go-refused-rests, ending-rests}
 use Rattle.controller.proofs.Steps.Strings.{marked, HeldUpToDate, SentUpToDate, StringsUpToDate, ended-strings, settled-strings, go-refused-strings, ending-strings}
 use Rattle.controller.proofs.Steps.{stated, exchanged, turnOf, LinkCall, SaysNo, OfRefusals, OfLink, OfStores, OfNo, OfData, OfResults, Kinds, data-for, result-for, by-step}
@@ -50,12 +55,12 @@ use Rattle.controller.proofs.Steps.{stated, exchanged, turnOf, LinkCall
 -- what is in hand is the last store's, and that has marked no count yet
 record Unmarked (last : Store) (counted : Bool) (operation : Operation) (store : Store) : Type 0 where
   pub same : store ≡ last
-  pub asks : asked last ≡ Operate operation
+  pub asks : askedFor last ≡ Operate operation
   pub none : counted ≡ false
 
 unfoldable InHand : Store → Bool → Phase → Type 0
-InHand last counted Collecting = Unit
-InHand last counted AckOffered = Unit
+InHand last counted (Collecting s) = Unit
+InHand last counted (AckOffered s) = Unit
 InHand last counted (Sending s) = Unit
 InHand last counted (EndOffered interrupt) = Unit
 InHand last counted (GoOffered store) = Unmarked last counted Write store
@@ -64,7 +69,7 @@ InHand last counted (ResultAwaited operation store) = Unmarked last counted oper
 
 free-hand : (last : Store) (counted : Bool) (phase : Phase) → Free phase → InHand last counted phase
 unfolding InHand
-free-hand last counted = by-free (InHand last counted) tt tt (λ s. tt) (λ interrupt. tt)
+free-hand last counted = by-free (InHand last counted) (λ s. tt) (λ s. tt) (λ s. tt) (λ interrupt. tt)
 
 record Kept (last : Store) (own : OwnRecord) (b : Body) (phase : Phase) : Type 0 where
   pub hand : InHand last (b .outcome .counted) phase
@@ -110,15 +115,15 @@ as-before :
     → Goes (lastStore last c x) (ownRecord (lastStore last c x) own c x) t
 unfolding lastStore
 as-before c x last own t none same goes =
-    subst (λ (store : Store). Goes store (ownRecord store own c x) t) (sym (pick-no (storeOf (c .body .collected)) last none))
+    subst (λ (store : Store). Goes store (ownRecord store own c x) t) (sym (pick-no (heldStore c) last none))
     (subst (λ (later : OwnRecord). Goes last later t) (sym same) goes)
 
 refusals-case : OfRefusals Keeps
 unfolding carriesOut notRefused ownRecord SentUpToDate
-refusals-case c call number space check some last own before =
+refusals-case c call number space check some at-space at-check last own before =
     as-before c (exchanged call (unchanged number c space check)) last own _
     (ap (λ (t : Bool). isTaken call && (t && holdsStore c)) some ∙ and-false (isTaken call)) (pick-no (recordAfter last own c call) own some)
-    (record { kept = before; says = tt })
+    (record { kept = record { hand = before .hand; valid = before .valid; holds = before .holds }; says = tt })
 
 link-case : OfLink Keeps
 unfolding LinkCall lastStore carriesOut isTaken notRefused holdsStore ownRecord recordAfter pick
@@ -158,9 +163,9 @@ module _ (store : Store) where
   begun-opens :
       (b : Body) (operation : Operation)
       → b .outcome .counted ≡ false
-      → asked store ≡ Operate operation
-      → Goes store noRecord (begun (pastTest b operation) operation store)
-  unfolding begun ordered pastTest pick InHand HeldUpToDate SentUpToDate
+      → askedFor store ≡ Operate operation
+      → Goes store noRecord (begin b operation store)
+  unfolding begin orderMove pastTest pick InHand HeldUpToDate SentUpToDate
   begun-opens b Read none asks = record { kept = record { hand = record { same = refl; asks = asks; none = none }; valid = none-valid _ _ none; holds = tt }; says = tt }
   begun-opens b CheckBytes none asks = record { kept = record { hand = record { same = refl; asks = asks; none = none }; valid = none-valid _ _ none; holds = tt }; says = tt }
   begun-opens b Write none asks = record { kept = record { hand = record { same = refl; asks = asks; none = none }; valid = none-valid _ _ none; holds = tt }; says = tt }
@@ -176,31 +181,31 @@ module _ (store : Store) where
   decoded-opens :
       (b : Body) (decode : Decoded)
       → b .outcome .counted ≡ false
-      → asked store ≡ decode
+      → askedFor store ≡ decode
       → Goes store noRecord (decoded b store decode)
-  unfolding decoded operated resetOf startBody noOutcome InHand HeldUpToDate SentUpToDate
+  unfolding follow courseBy resetState startBody noOutcome InHand HeldUpToDate SentUpToDate
   decoded-opens b Reset none asks = record { kept = record { hand = tt; valid = none-valid false _ refl; holds = tt }; says = tt }
   decoded-opens b (Code code) none asks = rests-open b _ none (ended-rests b store code) (ended-strings b store code)
   decoded-opens b (Track track) none asks =
-      rests-open (setCurrent b (tracked (current b) track)) _ none (settled-rests _ store) (settled-strings _ store)
-  decoded-opens b (Enable enable) none asks = rests-open (setFlags b (b .changed) enable) _ none (settled-rests _ store) (settled-strings _ store)
+      rests-open (withCurrentDrive b (withTrack (currentDrive b) track)) _ none (settled-rests _ store) (settled-strings _ store)
+  decoded-opens b (Enable enable) none asks = rests-open (withFlags b (b .changed) enable) _ none (settled-rests _ store) (settled-strings _ store)
   decoded-opens b (Density density) none asks =
-      rests-open (setCurrent b (withDensity (current b) density)) _ none (settled-rests _ store) (settled-strings _ store)
+      rests-open (withCurrentDrive b (withDensity (currentDrive b) density)) _ none (settled-rests _ store) (settled-strings _ store)
   decoded-opens b (Operate operation) none asks =
-      pick-by (Goes store noRecord) (mayMove (moveOf operation) (current b .report)) (λ may. begun-opens b operation none asks)
-      (λ not. rests-open b _ none (ended-rests b store 0x04) (ended-strings b store 0x04))
+      by-test-of (Goes store noRecord) b store operation (begun-opens b operation none asks)
+      (rests-open b _ none (ended-rests b store illegalMotion) (ended-strings b store illegalMotion))
 
-  carried-opens : (b : Body) → Goes store noRecord (carriedOut b store)
-  unfolding carriedOut cleared noOutcome
+  carried-opens : (b : Body) → Goes store noRecord (carryOut b store)
+  unfolding carryOut carryOutOn courseOf clearOutcome noOutcome
   carried-opens b =
-      pick-by (Goes store noRecord) (namesUnknown store) (λ unknown. rests-open _ _ refl (ended-rests _ store 0x01) (ended-strings _ store 0x01))
-      (λ drive. decoded-opens _ (asked store) refl refl)
+      pick-by (Goes store noRecord) (namesUnknown store) (λ unknown. rests-open _ _ refl (ended-rests _ store illegalDrive) (ended-strings _ store illegalDrive))
+      (λ drive. decoded-opens _ (askedFor store) refl refl)
 
 stores-case : OfStores Keeps
-unfolding lastStore carriesOut isTaken notRefused holdsStore ownRecord recordAfter pick
-stores-case b lead last own before =
-    let store = storeOf (b .collected) in
-    let t = carriedOut b store in
+unfolding lastStore carriesOut isTaken notRefused holdsStore offered ownRecord recordAfter pick
+stores-case b s lead last own before =
+    let store = storeOf s in
+    let t = carryOut b store in
     subst₂ (λ (next : Store) (later : OwnRecord). Goes next later t) (sym (pick-yes store last (ap not lead)))
     (sym (pick-yes noRecord own (ap not lead))) (carried-opens store b)
 
@@ -210,79 +215,66 @@ stores-case b lead last own before =
 written :
     (b : Body) (held : Store) (drive : Drive) (host space check : List ℕ)
     → Keeps (stated b (DataAwaited held)) (exchanged (hostData host space check) (dataDone b drive held host space check))
-unfolding dataDone ordered withUnderflow zeroedWords lastStore carriesOut isTaken notRefused ownRecord recordAfter InHand HeldUpToDate SentUpToDate pick
-written b held drive host space check last own before = zeroed (isGcr drive)
-  where
-    later : Body
-    later = setOutcome b (withUnderflow (b .outcome) (runsShort held host))
-
-    zeroed : (zeroes : Bool) → Goes last own (ordered (zeroedWords later zeroes) Write held)
-    zeroed true = record { kept = record { hand = before .hand; valid = before .valid; holds = tt }; says = tt }
-    zeroed false = record { kept = record { hand = before .hand; valid = before .valid; holds = tt }; says = tt }
+unfolding dataDone settleData dataWords orderMove lastStore carriesOut isTaken notRefused ownRecord recordAfter InHand HeldUpToDate SentUpToDate pick
+written b held drive host space check last own before =
+    record { kept = record { hand = before .hand; valid = before .valid; holds = tt }; says = tt }
 
 writes-case : OfData Keeps
 unfolding dataIn
 writes-case b held host space check = data-for Keeps refusals-case b held _ host space check (written b held _ host space check)
 
--- a result's code is 0 in the end only if the tape was there and the code was 0 at first
-final-zero :
-    (drive : Drive) (operation : Operation) (r : Result)
-    → finalCode drive operation r ≡ 0
-    → (isGone drive operation ≡ false) × (r .code ≡ 0)
-unfolding finalCode scanCode
-final-zero drive operation r e =
-    let (there, scanned) = not-refused (isGone drive operation) 0x07 (scanCode (r .marks) (r .code)) (λ e. omega arith) e in
-    let (whole, mended) = not-refused (ltb (scanOf (r .marks) .stop) (length (r .marks))) 0x16 _ (λ e. omega arith) scanned in
-    (there, not-refused (ltb (scanOf (r .marks) .odd) (length (r .marks)) || ltb (scanOf (r .marks) .even) (length (r .marks))) 0x15 (r .code) (λ e. omega arith) mended .1)
+module _ (drive : Drive) (operation : Operation) (last store : Store) (r : Result) (before : ℕ) (same : store ≡ last) (asks : askedFor last ≡ Operate operation) where
+  abbrev verdict : Verdict
+  verdict = verdictOf drive operation r
 
-module _ (drive : Drive) (operation : Operation) (last store : Store) (r : Result) (before : ℕ) (same : store ≡ last) (asks : asked last ≡ Operate operation) where
   abbrev told : Type 0
-  told = passedBy last r ≡ recordOf (resultSecondary drive operation store r before)
+  told = passedBy last r ≡ recordOf (resultSecondary verdict operation store before)
 
   -- an image that counts is the result's own
-  image-told : usesImage drive operation r ≡ true → told
-  unfolding passedBy resultSecondary usesImage
+  image-told : verdict .used ≡ true → told
+  unfolding passedBy resultSecondary verdictOf usedCount
   image-told uses =
       let (there, some) = both-hold (not (isGone drive operation)) (not (eqb (length (r .image)) 0)) uses in
-      pick-no _ _ (not-true (eqb (length (r .image)) 0) some) ∙ sym (ap recordOf (pick-yes _ _ uses))
+      pick-no _ _ (not-true (eqb (length (r .image)) 0) some) ∙ sym (ap recordOf (pick-yes _ _ uses ∙ pick-yes _ _ uses))
 
   -- a write well done is the store's own
-  write-told : usesImage drive operation r ≡ false → wroteWell operation (finalCode drive operation r) ≡ true → told
-  unfolding passedBy resultSecondary usesImage wroteWell asksFor
+  write-told : verdict .used ≡ false → wroteWell operation (verdict .code) ≡ true → told
+  unfolding passedBy resultSecondary verdictOf wroteWell asksFor
   write-told unused well =
-      let (writes, zero) = both-hold (sameOperation operation Write) (eqb (finalCode drive operation r) 0) well in
-      let (there, code) = final-zero drive operation r (eqb-true (finalCode drive operation r) 0 zero) in
+      let (writes, zero) = both-hold (sameOperation operation Write) (eqb (verdict .code) 0) well in
+      let (there, code) = final-zero (isGone drive operation) (r .code) (findingsOf (r .marks)) (eqb-true (verdict .code) 0 zero) in
       let empty : eqb (length (r .image)) 0 ≡ true = not-false (eqb (length (r .image)) 0) (sym (ap (λ (t : Bool). not t && not (eqb (length (r .image)) 0)) there) ∙ unused) in
       pick-yes _ _ empty
       ∙ pick-yes _ _ (ap₂ (λ (decode : Decoded) (n : ℕ). asksFor Write decode && eqb n 0) asks code ∙ ap (λ (t : Bool). t && true) writes)
       ∙ ap (λ (s : Store). recordOf (heldCount s)) (sym same)
       ∙ sym (ap recordOf (pick-no _ _ unused ∙ pick-yes _ _ well))
 
-  either-told : (usesImage drive operation r || wroteWell operation (finalCode drive operation r)) ≡ true → told
+  either-told : (verdict .used || wroteWell operation (verdict .code)) ≡ true → told
   either-told set =
-      by-test (usesImage drive operation r) image-told
-      (λ unused. write-told unused (sym (ap (λ (t : Bool). t || wroteWell operation (finalCode drive operation r)) unused) ∙ set))
+      by-test (verdict .used) image-told
+      (λ unused. write-told unused (sym (ap (λ (t : Bool). t || wroteWell operation (verdict .code)) unused) ∙ set))
 
--- whatever drive moved, and whatever bytes are delivered
+-- whatever drive moved
 ended :
-    (b : Body) (operation : Operation) (held : Store) (drive : Drive) (r : Result) (bytes space check : List ℕ)
-    → Keeps (stated b (ResultAwaited operation held)) (exchanged (result r space check) (resultGiven b drive operation held r bytes space check))
-unfolding resultGiven resultBody resultBits withRetry lastStore carriesOut isTaken notRefused ownRecord recordAfter InHand pick
-ended b operation held drive r bytes space check last own before =
+    (b : Body) (operation : Operation) (held : Store) (drive : Drive) (r : Result) (space check : List ℕ)
+    → Keeps (stated b (ResultAwaited operation held)) (exchanged (result r space check) (resultDone b drive operation held r space check))
+unfolding resultDone settleResult resultWords resultBits withRetry lastStore carriesOut isTaken notRefused ownRecord recordAfter InHand pick
+ended b operation held drive r space check last own before =
     let mine = before .hand in
-    let body = resultBody b drive operation held r (length bytes) (length space) in
+    let verdict = verdictOf drive operation r in
+    let body = withAfter b (settleResult (wordsOf b) drive operation held r (length space) check) in
     rests-keep last (passedBy last r) body _ (ending-rests body operation held) (ending-strings body operation held)
     (λ set. either-told drive operation last held r (b .secondary) (mine .same) (mine .asks)
-    (sym (ap (λ (t : Bool). t || (usesImage drive operation r || wroteWell operation (finalCode drive operation r))) (mine .none)) ∙ set))
+    (sym (ap (λ (t : Bool). t || (verdict .used || wroteWell operation (verdict .code))) (mine .none)) ∙ set))
 
 results-case : OfResults Keeps
-unfolding resultIn resultDone
-results-case b operation held r space check = result-for Keeps refusals-case b held _ operation r space check (ended b operation held _ r _ space check)
+unfolding resultIn
+results-case b operation held r space check = result-for Keeps refusals-case b held _ operation r space check (ended b operation held _ r space check)
 
 -- ---- every call, and every list
 
 keeps : Kinds Keeps
-unfolding goTaken reportNoted resetOf startBody noOutcome lastStore carriesOut isTaken notRefused ownRecord recordAfter InHand HeldUpToDate SentUpToDate pick
+unfolding yesToGo resetState startBody noOutcome lastStore carriesOut isTaken notRefused ownRecord recordAfter InHand HeldUpToDate SentUpToDate pick
 keeps =
     record {
       refusals = refusals-case;

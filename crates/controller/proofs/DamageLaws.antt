@@ -3,12 +3,12 @@
 use mathlib.Core.Path.{_≡_, sym, _∙_}
 use mathlib.Core.Bool.{Bool, true, false, not}
 use borrow.Author.Tests.{not-true, not-false}
-use Rattle.link.specs.Damaged.{sound}
+use Rattle.link.specs.Damaged.{isSound}
 use Rattle.controller.specs.declared.controller.Controller.{Controller}
 
-module _ (c : Controller) {test : Bool} (is : test ≡ not (sound (c .body) (c .phase))) where
-  pub damaged : test ≡ true → sound (c .body) (c .phase) ≡ false
+module _ (c : Controller) {test : Bool} (is : test ≡ not (isSound (c .body) (c .phase))) where
+  pub damaged : test ≡ true → isSound (c .body) (c .phase) ≡ false
   damaged h = not-true _ (sym is ∙ h)
 
-  pub undamaged : test ≡ false → sound (c .body) (c .phase) ≡ true
+  pub undamaged : test ≡ false → isSound (c .body) (c .phase) ≡ true
   undamaged h = not-false _ (sym is ∙ h)

@@ -1,4 +1,4 @@
--- The three demands, of the calls themselves. 1: `calls-meet-their-contracts`. 2: `calls-run-the-machine`: a list of exchanges from a fresh
+-- The three demands, of the calls themselves. 1: `calls-meet-their-contracts` and `refused-calls-change-nothing`. 2: `calls-run-the-machine`: a list of exchanges from a fresh
 -- controller in which every answer is one that the contract of its call's own function allows is the machine's run. 3:
 -- `calls-keep-drives-separate`: the drives are separate in any two such lists. And of every such list: `calls-count-their-own-record`, and
 -- `calls-order-what-was-asked`.
@@ -10,9 +10,11 @@ use Rattle.controller.specs.declared.controller.Controller.{Controller}
 use Rattle.controller.specs.Controller.{fresh}
 use Rattle.controller.specs.Records.{Answer}
 use Rattle.controller.specs.Machine.{Call, Exchange, step, run}
+use Rattle.controller.specs.Refused.{RefusedUnchanged}
 use Rattle.controller.specs.Separation.{Separate}
 use Rattle.controller.specs.Counts.{CountsAreOwn}
 use Rattle.controller.specs.Orders.{OrdersAreAsked}
+use Rattle.controller.proofs.RefusedCalls.{steps-refused-unchanged}
 use Rattle.controller.proofs.DrivesAreSeparate.{drives-are-separate}
 use Rattle.controller.proofs.CountsAreOwn.{counts-are-own}
 use Rattle.controller.proofs.OrdersAreAsked.{orders-are-asked}
@@ -25,6 +27,12 @@ use Rattle.controller.proofs.Demands.Contracts.{Allows, Meet, all-met, 
 -- nothing undefined, whatever it is handed.
 pub calls-meet-their-contracts : {M : Type 1} → Meet M
 calls-meet-their-contracts = all-met
+
+-- A refused call changes nothing: whatever state it is handed, damaged ones included, the state comes back as it was, nothing is to be done, no
+-- byte is given, and the lent space and the check store are as they were lent.
+pub refused-calls-change-nothing : (c : Controller) (call : Call) (answer : Answer) → Allows c call answer → RefusedUnchanged c call answer
+refused-calls-change-nothing c call answer allowed =
+    subst (RefusedUnchanged c call) (sym (answers-are-steps c call answer allowed)) (steps-refused-unchanged c call)
 
 -- ---- lists of calls, and demand 2
 

@@ -1,7 +1,8 @@
 pub mod DamageLaws
-pub mod TransferLaws
 pub mod BenchCases
+pub mod Courses
 pub mod Steps
+pub mod RefusedCalls
 pub mod DrivesAreSeparate
 pub mod CountsAreOwn
 pub mod OrdersAreAsked

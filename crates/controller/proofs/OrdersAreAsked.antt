@@ -15,33 +15,37 @@ use Rattle.common.proofs.PickLaws.{pick-by, pick-yes, pick-no}
 use Rattle.status.specs.declared.drives.Drive.{Drive}
 use Rattle.status.specs.declared.drives.Drives.{Drives}
 use Rattle.status.specs.declared.strings.Six.{Six}
-use Rattle.status.specs.Drives.{driveOf, reported, copied, freshWith, freshDrives, resetDrives}
+use Rattle.status.specs.Drives.{positionUnknown, driveOf, withGap, withReport, withTrack, withDensity, copyReport, freshWith, freshDrives, resetDrives}
 use Rattle.status.proofs.DriveLaws.{by-four}
 use Rattle.operations.specs.declared.operation.Operation.{Operation}
 use Rattle.operations.specs.declared.operation.Operation.the-variants.{Read, CheckBytes, Write, Erase, Rewind, FastForward, SkipForward, SkipReverse, SearchForward, SearchReverse, WriteMark}
+use Rattle.operations.specs.declared.course.Course.the-variants.{End, Begin}
 use Rattle.operations.specs.declared.decode.Decoded.{Decoded}
 use Rattle.operations.specs.declared.decode.Decoded.the-variants.{Reset, Code, Track, Enable, Density, Operate}
 use Rattle.operations.specs.declared.store.Store.{Store}
-use Rattle.operations.specs.Operation.{moveOf}
-use Rattle.operations.specs.Store.{namesDrive, named, asked}
+use Rattle.operations.specs.Operation.{moveOf, movesTape}
+use Rattle.operations.specs.Codes.{illegalDrive, illegalMotion}
+use Rattle.operations.specs.Store.{namesDrive, namedDrive, namesUnknown, selectedBy, askedFor}
+use Rattle.operations.specs.Course.{testOf, courseBy, courseOf}
 use Rattle.operations.specs.Test.{mayMove}
 use Rattle.link.specs.declared.state.Phase.{Phase}
 use Rattle.link.specs.declared.state.Phase.the-variants.{Collecting, AckOffered, Sending, GoOffered, DataAwaited, ResultAwaited, EndOffered}
 use Rattle.link.specs.declared.state.Body.{Body}
 use Rattle.link.specs.declared.state.Action.the-variants.{Nothing}
 use Rattle.link.specs.declared.state.Turn.{Turn}
-use Rattle.link.specs.State.{startBody, setSelected, setFlags, setOutcome, setCurrent, current, resetOf}
-use Rattle.link.specs.Link.{goTaken}
-use Rattle.transfers.specs.Data.{isGcr, runsShort, withUnderflow}
-use Rattle.transfers.specs.Results.{Result, movesTape, withGap, resultDrive}
+use Rattle.link.specs.State.{storeOf, offered, startBody, withSelected, withFlags, withCurrentDrive, currentDrive, resetState}
+use Rattle.link.specs.Link.{yesToGo}
+use Rattle.transfers.specs.Data.{settleData}
+use Rattle.transfers.specs.Results.{Result, settleResult}
 use Rattle.controller.specs.declared.controller.Controller.{Controller}
 use Rattle.controller.specs.Controller.{fresh, carried}
-use Rattle.controller.specs.Stores.{storeOf, endedBy, tracked, withDensity, pastTest, ordered, begun, operated, decoded, cleared, namesUnknown, selectedBy, carriedOut}
-use Rattle.controller.specs.Records.{zeroedWords, dataDone, resultBody, resultGiven, resultDone}
+use Rattle.controller.specs.Stores.{endWith, pastTest, orderMove, begin, follow, clearOutcome, carryOutOn, carryOut}
+use Rattle.controller.specs.Records.{wordsOf, withStatus, withAfter, dataDone, resultDone}
 use Rattle.controller.specs.Machine.{unchanged, reportNoted, dataIn, resultIn, Call, Exchange, plain, step, run}
 use Rattle.controller.specs.Machine.Call.{byte, taken, broken, report, hostData, result, tick, reset}
-use Rattle.controller.specs.Lists.{notRefused, holdsStore}
+use Rattle.controller.specs.Lists.{notRefused, holdsStore, heldStore}
 use Rattle.controller.specs.Orders.{Settings, resetSettings, freshSettings, withPending, entered, orderAsked, askedNoted, storeNoted, callNoted, noted, Asked, issued, AskedFrom, OrdersAreAsked}
+use Rattle.controller.proofs.Courses.{decoded}
 use Rattle.controller.proofs.Steps.Resting.{NoOrder, ended-rests, settled-rests, go-refused-rests, ending-rests}
 use Rattle.controller.proofs.Steps.{stated, exchanged, LinkCall, SaysNo, OfRefusals, OfLink, OfStores, OfReports, OfNo, OfData, OfResults, Kinds, data-for, result-for, by-step}
 use Rattle.controller.proofs.OrdersAreAsked.Agreement.{Agreeing, Kept, Matches, Pending, Complying, Complies, orderBy, entered-other, entered-own, put-agrees, quiet-complies, rests-comply, same-order}
@@ -54,8 +58,8 @@ as-before c x a t same = subst (λ (later : Settings). Complies later t) (sym sa
 
 refusals-case : OfRefusals Complying
 unfolding noted notRefused NoOrder
-refusals-case c call number space check some a before =
-    as-before c (exchanged call (unchanged number c space check)) a _ (pick-no (callNoted a c call) a some) (quiet-complies a (c .body) (c .phase) Nothing tt before)
+refusals-case c call number space check some at-space at-check a before =
+    as-before c (exchanged call (unchanged number c space check)) a _ (pick-no (callNoted a c call) a some) (quiet-complies a _ _ _ tt (record { agrees = before .agrees; pending = before .pending }))
 
 link-case : OfLink Complying
 unfolding LinkCall noted notRefused callNoted holdsStore pick
@@ -63,7 +67,7 @@ link-case c (byte value) t free rests strings a before = rests-comply a (c .body
 link-case c broken t free rests strings a before = rests-comply a (c .body) t rests (before .agrees)
 link-case c tick t free rests strings a before = rests-comply a (c .body) t rests (before .agrees)
 link-case c taken t (free, load) rests strings a before =
-    as-before c (exchanged taken (plain (carried t))) a t (pick-no (storeNoted a (storeOf (c .body .collected))) a (ap not load))
+    as-before c (exchanged taken (plain (carried t))) a t (pick-no (storeNoted a (heldStore c)) a (ap not load))
     (rests-comply a (c .body) t rests (before .agrees))
 link-case c (report drive r) t links rests strings a before = absurd links
 link-case c (hostData host space check) t links rests strings a before = absurd links
@@ -84,14 +88,14 @@ no-case b held reset refuses a before = absurd refuses
 -- ---- a report
 
 reports-case : OfReports Complying
-unfolding noted notRefused callNoted reportNoted NoOrder reported Pending pick
+unfolding noted notRefused callNoted NoOrder withReport Pending pick
 reports-case c n r within a before =
     let later = callNoted a c (report n r) in
     let was = before .agrees .drive n within in
     quiet-complies later _ (c .phase) Nothing tt
     (record {
       agrees =
-          put-agrees a later (c .body) n (reported (driveOf (c .body .drives) n) r) within refl (before .agrees)
+          put-agrees a later (c .body) n (withReport (driveOf (c .body .drives) n) r) within refl (before .agrees)
           (record { report = sym (entered-own (a .report) n r n refl); track = was .track; density = was .density })
           (λ d other matches. record { report = matches .report ∙ sym (entered-other (a .report) n r d other); track = matches .track; density = matches .density });
       pending = told (c .phase) (before .pending);
@@ -99,8 +103,8 @@ reports-case c n r within a before =
   where
     -- a report is in no order
     told : (phase : Phase) → Pending a phase → Pending (callNoted a c (report n r)) phase
-    told Collecting pending = tt
-    told AckOffered pending = tt
+    told (Collecting s) pending = tt
+    told (AckOffered s) pending = tt
     told (Sending s) pending = tt
     told (EndOffered interrupt) pending = tt
     told (GoOffered store) pending = pending
@@ -113,8 +117,8 @@ reset-drive : (drives : Drives) (n : ℕ) → n ≤ 3 → driveOf (resetDrives d
 unfolding driveOf resetDrives pick
 reset-drive drives = by-four (λ n. driveOf (resetDrives drives) n ≡ freshWith (driveOf drives n .report)) refl refl refl refl
 
-reset-complies : (a : Settings) (b : Body) → Agreeing a b → Complies (resetSettings (a .report)) (resetOf b)
-unfolding resetOf startBody Asked issued Pending
+reset-complies : (a : Settings) (b : Body) → Agreeing a b → Complies (resetSettings (a .report)) (resetState b)
+unfolding resetState startBody Asked issued Pending
 reset-complies a b agrees =
     record {
       asked = tt;
@@ -125,7 +129,7 @@ reset-complies a b agrees =
                   selected = refl;
                   low = omega arith;
                   drive =
-                      λ d low. subst (λ (x : Drive). Matches (a .report d) 0 0 (copied x)) (sym (reset-drive (b .drives) d low))
+                      λ d low. subst (λ (x : Drive). Matches (a .report d) 0 0 (copyReport x)) (sym (reset-drive (b .drives) d low))
                       (record { report = agrees .drive d low .report; track = refl; density = refl });
                 };
             pending = tt;
@@ -136,8 +140,8 @@ ordered-complies :
     (a : Settings) (b : Body) (operation : Operation) (store : Store)
     → a .pending ≡ orderBy a operation store ∷ []
     → Agreeing a b
-    → Complies a (ordered b operation store)
-unfolding ordered Asked issued Pending
+    → Complies a (orderMove b operation store)
+unfolding orderMove Asked issued Pending
 ordered-complies a b operation store pending agrees =
     record { asked = pending ∙ ap (λ (o : Six). o ∷ []) (same-order a b operation store agrees); kept = record { agrees = agrees; pending = tt } }
 
@@ -149,8 +153,8 @@ module _ (a : Settings) (b : Body) (store : Store) (agrees : Agreeing (withPendi
   abbrev pendingOrder : Operation → Settings
   pendingOrder operation = pendingIf (movesTape (moveOf operation)) operation
 
-  begun-complies : (operation : Operation) → Complies (pendingOrder operation) (begun (pastTest b operation) operation store)
-  unfolding begun pastTest movesTape pick Asked issued Pending
+  begun-complies : (operation : Operation) → Complies (pendingOrder operation) (begin b operation store)
+  unfolding begin pastTest movesTape pick Asked issued Pending
   begun-complies Write = record { asked = tt; kept = record { agrees = agrees; pending = refl } }
   begun-complies CheckBytes = record { asked = tt; kept = record { agrees = agrees; pending = tt } }
   begun-complies Read = ordered-complies (pendingOrder Read) (pastTest b Read) Read store refl agrees
@@ -165,85 +169,85 @@ module _ (a : Settings) (b : Body) (store : Store) (agrees : Agreeing (withPendi
 
   -- the test is that of the report in the settings
   operated-complies :
-      (operation : Operation) → Complies (withPending a (b .selected) (orderAsked a (b .selected) operation store)) (operated b operation store)
-  unfolding operated orderAsked pick
+      (operation : Operation) → Complies (withPending a (b .selected) (orderAsked a (b .selected) operation store)) (decoded b store (Operate operation))
+  unfolding follow courseBy testOf orderAsked pick
   operated-complies operation =
       subst
-      (λ (report : ℕ). Complies (pendingIf (movesTape (moveOf operation) && mayMove (moveOf operation) report) operation) (operated b operation store))
+      (λ (report : ℕ). Complies (pendingIf (movesTape (moveOf operation) && mayMove (moveOf operation) report) operation) (decoded b store (Operate operation)))
       (agrees .drive (b .selected) (agrees .low) .report)
-      (by-may (mayMove (moveOf operation) (current b .report)))
+      (by-may (mayMove (moveOf operation) (currentDrive b .report)))
     where
       by-may :
           (may : Bool)
           → Complies (pendingIf (movesTape (moveOf operation) && may) operation)
-          (pick may (begun (pastTest b operation) operation store) (endedBy b store 0x04))
+          (follow b store (pick may (Begin operation) (End illegalMotion)))
       by-may true =
-          subst (λ (moves : Bool). Complies (pendingIf moves operation) (begun (pastTest b operation) operation store))
+          subst (λ (moves : Bool). Complies (pendingIf moves operation) (begin b operation store))
           (sym (and-true (movesTape (moveOf operation)))) (begun-complies operation)
-      by-may false = rests-comply _ b _ (ended-rests b store 0x04) agrees
+      by-may false = rests-comply _ b _ (ended-rests b store illegalMotion) agrees
 
   -- a track and a density are chosen for the selected drive
   tracked-complies : (track : ℕ) → Complies (askedNoted a (b .selected) store (Track track)) (decoded b store (Track track))
-  unfolding decoded askedNoted tracked
+  unfolding follow courseBy askedNoted withTrack
   tracked-complies track =
       let later = askedNoted a (b .selected) store (Track track) in
       let was = agrees .drive (b .selected) (agrees .low) in
-      rests-comply later (setCurrent b (tracked (current b) track)) _ (settled-rests _ store)
-      (put-agrees (withPending a (b .selected) []) later b (b .selected) (tracked (current b) track) (agrees .low) refl agrees
+      rests-comply later (withCurrentDrive b (withTrack (currentDrive b) track)) _ (settled-rests _ store)
+      (put-agrees (withPending a (b .selected) []) later b (b .selected) (withTrack (currentDrive b) track) (agrees .low) refl agrees
       (pick-by (Matches (a .report (b .selected)) (entered (a .track) (b .selected) track (b .selected)) (a .density (b .selected)))
-      (eqb (current b .track) track)
+      (eqb (currentDrive b .track) track)
       (λ same. record { report = was .report; track = eqb-true _ track same ∙ sym (entered-own (a .track) (b .selected) track (b .selected) refl); density = was .density })
       (λ new. record { report = was .report; track = sym (entered-own (a .track) (b .selected) track (b .selected) refl); density = was .density }))
       (λ d other matches. record { report = matches .report; track = matches .track ∙ sym (entered-other (a .track) (b .selected) track d other); density = matches .density }))
 
   dense-complies : (density : ℕ) → Complies (askedNoted a (b .selected) store (Density density)) (decoded b store (Density density))
-  unfolding decoded askedNoted withDensity
+  unfolding follow courseBy askedNoted
   dense-complies density =
       let later = askedNoted a (b .selected) store (Density density) in
       let was = agrees .drive (b .selected) (agrees .low) in
-      rests-comply later (setCurrent b (withDensity (current b) density)) _ (settled-rests _ store)
-      (put-agrees (withPending a (b .selected) []) later b (b .selected) (withDensity (current b) density) (agrees .low) refl agrees
+      rests-comply later (withCurrentDrive b (withDensity (currentDrive b) density)) _ (settled-rests _ store)
+      (put-agrees (withPending a (b .selected) []) later b (b .selected) (withDensity (currentDrive b) density) (agrees .low) refl agrees
       (record { report = was .report; track = was .track; density = sym (entered-own (a .density) (b .selected) density (b .selected) refl) })
       (λ d other matches. record { report = matches .report; track = matches .track; density = matches .density ∙ sym (entered-other (a .density) (b .selected) density d other) }))
 
   decoded-complies : (decode : Decoded) → Complies (askedNoted a (b .selected) store decode) (decoded b store decode)
-  unfolding decoded askedNoted
+  unfolding follow courseBy askedNoted
   decoded-complies Reset = reset-complies (withPending a (b .selected) []) b agrees
   decoded-complies (Code code) = rests-comply _ b _ (ended-rests b store code) agrees
   decoded-complies (Track track) = tracked-complies track
-  decoded-complies (Enable enable) = rests-comply _ (setFlags b (b .changed) enable) _ (settled-rests _ store) agrees
+  decoded-complies (Enable enable) = rests-comply _ (withFlags b (b .changed) enable) _ (settled-rests _ store) agrees
   decoded-complies (Density density) = dense-complies density
   decoded-complies (Operate operation) = operated-complies operation
 
 -- the settings and the controller select the same drive
 choose :
     (a : Settings) (store : Store) (names above : Bool) (ended turned : Turn)
-    → leb 4 (named store) ≡ above
+    → leb 4 (namedDrive store) ≡ above
     → Complies (withPending a (a .selected) []) ended
-    → (pick names (named store) (a .selected) ≤ 3 → Complies (askedNoted a (pick names (named store) (a .selected)) store (asked store)) turned)
+    → (pick names (namedDrive store) (a .selected) ≤ 3 → Complies (askedNoted a (pick names (namedDrive store) (a .selected)) store (askedFor store)) turned)
     → a .selected ≤ 3
-    → Complies (pick (names && above) (withPending a (a .selected) []) (askedNoted a (pick names (named store) (a .selected)) store (asked store))) (pick (names && above) ended turned)
+    → Complies (pick (names && above) (withPending a (a .selected) []) (askedNoted a (pick names (namedDrive store) (a .selected)) store (askedFor store))) (pick (names && above) ended turned)
 unfolding pick
 choose a store true true ended turned e ends turns low = ends
-choose a store true false ended turned e ends turns low = let below = leb-false 4 (named store) e in turns (omega arith)
+choose a store true false ended turned e ends turns low = let below = leb-false 4 (namedDrive store) e in turns (omega arith)
 choose a store false above ended turned e ends turns low = turns low
 
-carried-complies : (a : Settings) (b : Body) (store : Store) → Agreeing a b → Complies (storeNoted a store) (carriedOut b store)
-unfolding carriedOut storeNoted namesUnknown selectedBy cleared
+carried-complies : (a : Settings) (b : Body) (store : Store) → Agreeing a b → Complies (storeNoted a store) (carryOut b store)
+unfolding carryOut carryOutOn courseOf storeNoted namesUnknown selectedBy clearOutcome
 carried-complies a b store agrees =
     let within = subst (λ (n : ℕ). n ≤ 3) (agrees .selected) (agrees .low) in
-    choose a store (namesDrive store) (leb 4 (named store)) _ _ refl (rests-comply _ _ _ (ended-rests _ store 0x01) agrees)
+    choose a store (namesDrive store) (leb 4 (namedDrive store)) _ _ refl (rests-comply _ _ _ (ended-rests _ store illegalDrive) agrees)
     (λ low.
-    subst (λ (n : ℕ). Complies (askedNoted a (pick (namesDrive store) (named store) (a .selected)) store (asked store)) (decoded (setSelected (cleared b) (pick (namesDrive store) (named store) n)) store (asked store)))
+    subst (λ (n : ℕ). Complies (askedNoted a (pick (namesDrive store) (namedDrive store) (a .selected)) store (askedFor store)) (decoded (withSelected (clearOutcome b) (pick (namesDrive store) (namedDrive store) n)) store (askedFor store)))
     (sym (agrees .selected))
-    (decoded-complies a (setSelected (cleared b) (pick (namesDrive store) (named store) (a .selected))) store (record { selected = refl; low = low; drive = agrees .drive }) (asked store)))
+    (decoded-complies a (withSelected (clearOutcome b) (pick (namesDrive store) (namedDrive store) (a .selected))) store (record { selected = refl; low = low; drive = agrees .drive }) (askedFor store)))
     within
 
 stores-case : OfStores Complying
-unfolding noted notRefused callNoted holdsStore pick
-stores-case b lead a before =
-    let store = storeOf (b .collected) in
-    subst (λ (later : Settings). Complies later (carriedOut b store)) (sym (pick-yes (storeNoted a store) a (ap not lead))) (carried-complies a b store (before .agrees))
+unfolding noted notRefused callNoted holdsStore offered pick
+stores-case b s lead a before =
+    let store = storeOf s in
+    subst (λ (later : Settings). Complies later (carryOut b store)) (sym (pick-yes (storeNoted a store) a (ap not lead))) (carried-complies a b store (before .agrees))
 
 -- ---- the calls of a store
 
@@ -251,40 +255,35 @@ stores-case b lead a before =
 written :
     (b : Body) (held : Store) (drive : Drive) (host space check : List ℕ)
     → Complying (stated b (DataAwaited held)) (exchanged (hostData host space check) (dataDone b drive held host space check))
-unfolding dataDone zeroedWords noted notRefused callNoted Pending pick
-written b held drive host space check a before = zeroed (isGcr drive)
-  where
-    later : Body
-    later = setOutcome b (withUnderflow (b .outcome) (runsShort held host))
-
-    zeroed : (zeroes : Bool) → Complies a (ordered (zeroedWords later zeroes) Write held)
-    zeroed true = ordered-complies a (zeroedWords later true) Write held (before .pending) (before .agrees)
-    zeroed false = ordered-complies a later Write held (before .pending) (before .agrees)
+unfolding dataDone noted notRefused callNoted Pending pick
+written b held drive host space check a before =
+    ordered-complies a (withStatus b (settleData (wordsOf b) drive held host .words)) Write held (before .pending) (before .agrees)
 
 writes-case : OfData Complying
 unfolding dataIn
 writes-case b held host space check = data-for Complying refusals-case b held _ host space check (written b held _ host space check)
 
--- whatever bytes are delivered
+-- whatever drive moved
 ended :
-    (b : Body) (operation : Operation) (held : Store) (r : Result) (bytes space check : List ℕ)
-    → Complying (stated b (ResultAwaited operation held)) (exchanged (result r space check) (resultGiven b (current b) operation held r bytes space check))
-unfolding resultGiven resultBody resultDrive withGap noted notRefused callNoted pick
-ended b operation held r bytes space check a before =
+    (b : Body) (operation : Operation) (held : Store) (drive : Drive) (r : Result) (space check : List ℕ)
+    → Complying (stated b (ResultAwaited operation held)) (exchanged (result r space check) (resultDone b drive operation held r space check))
+unfolding resultDone noted notRefused callNoted pick
+ended b operation held drive r space check a before =
+    let after = settleResult (wordsOf b) drive operation held r (length space) check in
     let agrees = before .agrees in
     let was = agrees .drive (b .selected) (agrees .low) in
-    rests-comply a _ _ (ending-rests (resultBody b (current b) operation held r (length bytes) (length space)) operation held)
-    (put-agrees a a b (b .selected) (resultDrive (current b) operation r) (agrees .low) refl agrees
+    rests-comply a _ _ (ending-rests (withAfter b after) operation held)
+    (put-agrees a a b (b .selected) (withGap (currentDrive b) (after .gap)) (agrees .low) refl agrees
     (record { report = was .report; track = was .track; density = was .density }) (λ d other matches. matches))
 
 results-case : OfResults Complying
-unfolding resultIn resultDone
-results-case b operation held r space check = result-for Complying refusals-case b held _ operation r space check (ended b operation held r _ space check)
+unfolding resultIn
+results-case b operation held r space check = result-for Complying refusals-case b held _ operation r space check (ended b operation held _ r space check)
 
 -- ---- every call, and every list
 
 complying : Kinds Complying
-unfolding goTaken noted notRefused callNoted NoOrder Pending pick
+unfolding yesToGo noted notRefused callNoted NoOrder Pending pick
 complying =
     record {
       refusals = refusals-case;
@@ -304,9 +303,9 @@ asked-from [] a c before = tt
 asked-from (call ∷ calls) a c before =
     let complies = by-step Complying complying c call a before in (complies .asked, asked-from calls _ (step c call .reply .controller) (complies .kept))
 
-fresh-drive : (n : ℕ) → n ≤ 3 → driveOf freshDrives n ≡ freshWith 4
+fresh-drive : (n : ℕ) → n ≤ 3 → driveOf freshDrives n ≡ freshWith positionUnknown
 unfolding driveOf freshDrives pick
-fresh-drive = by-four (λ n. driveOf freshDrives n ≡ freshWith 4) refl refl refl refl
+fresh-drive = by-four (λ n. driveOf freshDrives n ≡ freshWith positionUnknown) refl refl refl refl
 
 pub orders-are-asked : (calls : List Call) → OrdersAreAsked (run fresh calls)
 unfolding fresh startBody Pending
@@ -317,7 +316,7 @@ orders-are-asked calls =
           record {
             selected = refl;
             low = omega arith;
-            drive = λ d low. subst (λ (x : Drive). Matches 4 0 0 (copied x)) (sym (fresh-drive d low)) (record { report = refl; track = refl; density = refl });
+            drive = λ d low. subst (λ (x : Drive). Matches 4 0 0 (copyReport x)) (sym (fresh-drive d low)) (record { report = refl; track = refl; density = refl });
           };
       pending = tt;
     })

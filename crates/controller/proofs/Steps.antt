@@ -15,22 +15,25 @@ use Rattle.common.proofs.PickLaws.{pick-by}
 use Rattle.status.specs.declared.drives.Drive.{Drive}
 use Rattle.operations.specs.declared.operation.Operation.{Operation}
 use Rattle.operations.specs.declared.store.Store.{Store}
+use Rattle.link.specs.declared.state.Collected.{Collected}
 use Rattle.link.specs.declared.state.Phase.{Phase}
 use Rattle.link.specs.declared.state.Phase.the-variants.{Collecting, AckOffered, Sending, GoOffered, DataAwaited, ResultAwaited, EndOffered}
 use Rattle.link.specs.declared.state.Body.{Body}
 use Rattle.link.specs.declared.state.Action.the-variants.{Nothing}
 use Rattle.link.specs.declared.state.Turn.{Turn}
-use Rattle.link.specs.State.{resetOf}
-use Rattle.link.specs.Link.{goAnswered, goTaken, goRefused}
-use Rattle.link.specs.Damaged.{sound}
+use Rattle.link.specs.Bytes.{ack, loadLead}
+use Rattle.link.specs.State.{storeOf, offered, resetState}
+use Rattle.link.specs.Link.{answerToGo, yesToGo, noToGo}
+use Rattle.link.specs.Damaged.{isSound}
 use Rattle.transfers.specs.Data.{dataRefusal}
 use Rattle.transfers.specs.Results.{Result, resultRefusal}
 use Rattle.controller.specs.declared.controller.Controller.{Controller}
 use Rattle.controller.specs.declared.controller.Reply.{Reply}
 use Rattle.controller.specs.Controller.{carried, refused}
-use Rattle.controller.specs.Stores.{storeOf, carriedOut}
+use Rattle.controller.specs.Stores.{carryOut}
 use Rattle.controller.specs.Records.{Answer, dataDone, resultDone}
-use Rattle.controller.specs.Machine.{unchanged, byteIn, brokenIn, tickIn, byteCall, brokenCall, tickCall, takenBody, takenIn, takenCall, reportNoted, reportCall, resetCall, dataFor, dataIn, dataCall, resultFor, resultIn, resultCall, Call, Exchange, plain, step}
+use Rattle.controller.specs.Machine.{unchanged, byteIn, brokenIn, tickIn, byteCall, brokenCall, tickCall, carryOutString, takenIn, takenCall, reportNoted, reportCall, resetCall, dataFor, dataIn, dataCall, resultFor, resultIn, resultCall, Call, Exchange, plain, step}
+use Rattle.controller.specs.Refused.{lentSpace, lentCheck}
 use Rattle.controller.specs.Machine.Call.{byte, taken, broken, report, hostData, result, tick, reset}
 use Rattle.controller.proofs.Steps.Resting.{Free, NoOrder, Rests, idle-rests, given-up-rests, byte-rests, send-rests, completed-rests, tick-rests, loaded-rests}
 use Rattle.controller.proofs.Steps.Strings.{HeldUpToDate, SentUpToDate, StringsUpToDate, idle-strings, given-up-strings, byte-strings, send-strings, completed-strings, tick-strings, loaded-strings}
@@ -48,7 +51,7 @@ unfoldable pub LinkCall : Controller → Call → Type 0
 LinkCall c (byte b) = Free (c .phase)
 LinkCall c broken = Free (c .phase)
 LinkCall c tick = Free (c .phase)
-LinkCall c taken = Free (c .phase) × (eqb (c .body .collected .c0) 0x62 ≡ true)
+LinkCall c taken = Free (c .phase) × (eqb (offered (c .phase) .c0) loadLead ≡ true)
 LinkCall c (report drive r) = ⊥
 LinkCall c (hostData host space check) = ⊥
 LinkCall c (result r space check) = ⊥
@@ -56,7 +59,7 @@ LinkCall c reset = ⊥
 
 -- an answer to GO that is a no
 unfoldable pub SaysNo : Call → Type 0
-SaysNo (byte b) = eqb b 0x06 ≡ false
+SaysNo (byte b) = eqb b ack ≡ false
 SaysNo broken = Unit
 SaysNo taken = ⊥
 SaysNo (report drive r) = ⊥
@@ -76,7 +79,11 @@ Claim = Controller → Exchange → Type 0
 -- a refused call
 abbrev pub OfRefusals : Claim → Type 0
 OfRefusals P =
-    (c : Controller) (call : Call) (number : ℕ) (space check : List ℕ) → eqb number 0 ≡ false → P c (exchanged call (unchanged number c space check))
+    (c : Controller) (call : Call) (number : ℕ) (space check : List ℕ)
+    → eqb number 0 ≡ false
+    → space ≡ lentSpace call
+    → check ≡ lentCheck call
+    → P c (exchanged call (unchanged number c space check))
 
 -- a call that concerns the link alone
 abbrev pub OfLink : Claim → Type 0
@@ -90,9 +97,9 @@ OfLink P =
 -- a store is carried out
 abbrev pub OfStores : Claim → Type 0
 OfStores P =
-    (b : Body)
-    → eqb (b .collected .c0) 0x62 ≡ false
-    → P (stated b AckOffered) (exchanged taken (plain (carried (carriedOut b (storeOf (b .collected))))))
+    (b : Body) (s : Collected)
+    → eqb (s .c0) loadLead ≡ false
+    → P (stated b (AckOffered s)) (exchanged taken (plain (carried (carryOut b (storeOf s)))))
 
 abbrev pub OfReports : Claim → Type 0
 OfReports P = (c : Controller) (n r : ℕ) → n ≤ 3 → P c (exchanged (report n r) (plain (carried (reportNoted c n r))))
@@ -101,12 +108,12 @@ OfReports P = (c : Controller) (n r : ℕ) → n ≤ 3 → P c (exchanged (repor
 abbrev pub OfYes : Claim → Type 0
 OfYes P =
     (b : Body) (held : Store) (value : ℕ)
-    → eqb value 0x06 ≡ true
-    → P (stated b (GoOffered held)) (exchanged (byte value) (plain (carried (goTaken b held))))
+    → eqb value ack ≡ true
+    → P (stated b (GoOffered held)) (exchanged (byte value) (plain (carried (yesToGo b held))))
 
 abbrev pub OfNo : Claim → Type 0
 OfNo P =
-    (b : Body) (held : Store) (call : Call) → SaysNo call → P (stated b (GoOffered held)) (exchanged call (plain (carried (goRefused b held))))
+    (b : Body) (held : Store) (call : Call) → SaysNo call → P (stated b (GoOffered held)) (exchanged call (plain (carried (noToGo b held))))
 
 -- a data call or a result comes where it is awaited
 abbrev pub OfData : Claim → Type 0
@@ -120,7 +127,7 @@ OfResults P =
     → let c = stated b (ResultAwaited operation held) in P c (exchanged (result r space check) (resultIn c b r space check (ResultAwaited operation held)))
 
 abbrev pub OfResets : Claim → Type 0
-OfResets P = (c : Controller) → P c (exchanged reset (plain (carried (resetOf (c .body)))))
+OfResets P = (c : Controller) → P c (exchanged reset (plain (carried (resetState (c .body)))))
 
 pub record Kinds (P : Claim) : Type 0 where
   pub refusals : OfRefusals P
@@ -142,10 +149,10 @@ module _ (P : Claim) (refusals : OfRefusals P) (b : Body) (held : Store) (drive 
     pub data-for :
         written (dataDone b drive held host space check)
         → written (dataFor (stated b (DataAwaited held)) b drive held host space check)
-    unfolding dataFor
+    unfolding lentSpace lentCheck dataFor
     data-for done =
         pick-by written (eqb (dataRefusal drive held (length space) (length check)) 0) (λ good. done)
-        (λ some. refusals (stated b (DataAwaited held)) _ _ space check some)
+        (λ some. refusals (stated b (DataAwaited held)) _ _ space check some refl refl)
 
   module _ (operation : Operation) (r : Result) (space check : List ℕ) where
     abbrev ended : Answer → Type 0
@@ -154,112 +161,121 @@ module _ (P : Claim) (refusals : OfRefusals P) (b : Body) (held : Store) (drive 
     pub result-for :
         ended (resultDone b drive operation held r space check)
         → ended (resultFor (stated b (ResultAwaited operation held)) b drive operation held r space check)
-    unfolding resultFor
+    unfolding lentSpace lentCheck resultFor
     result-for done =
         pick-by ended (eqb (resultRefusal drive operation r (length check)) 0) (λ good. done)
-        (λ some. refusals (stated b (ResultAwaited operation held)) _ _ space check some)
+        (λ some. refusals (stated b (ResultAwaited operation held)) _ _ space check some refl refl)
 
 -- ---- each call is of these kinds
 
 module _ (P : Claim) (kinds : Kinds P) where
-  refuses : (c : Controller) (call : Call) (number : ℕ) → eqb number 0 ≡ false → P c (exchanged call (plain (refused number c)))
+  refuses :
+      (c : Controller) (call : Call) (number : ℕ)
+      → eqb number 0 ≡ false
+      → [] ≡ lentSpace call
+      → [] ≡ lentCheck call
+      → P c (exchanged call (plain (refused number c)))
   refuses c call number some = kinds .refusals c call number [] [] some
 
   module _ (b : Body) where
     byte-in : (value : ℕ) (phase : Phase) → P (stated b phase) (exchanged (byte value) (plain (byteIn (stated b phase) b value phase)))
-    unfolding byteIn goAnswered LinkCall SaysNo Free NoOrder HeldUpToDate SentUpToDate
-    byte-in value Collecting = kinds .link (stated b Collecting) _ _ tt (byte-rests b value) (λ held. byte-strings b value)
-    byte-in value AckOffered = kinds .link (stated b AckOffered) _ _ tt (idle-rests b Nothing tt) (λ held. idle-strings b Nothing tt)
+    unfolding lentSpace lentCheck byteIn answerToGo LinkCall SaysNo Free NoOrder HeldUpToDate SentUpToDate
+    byte-in value (Collecting s) = kinds .link (stated b (Collecting s)) _ _ tt (byte-rests b s value) (λ held. byte-strings b s value)
+    byte-in value (AckOffered s) = kinds .link (stated b (AckOffered s)) _ _ tt (idle-rests b Nothing tt) (λ held. idle-strings b Nothing tt)
     byte-in value (Sending s) = kinds .link (stated b (Sending s)) _ _ tt (send-rests b value s) (send-strings b value s)
     byte-in value (GoOffered held) =
-        pick-by (λ (t : Turn). P (stated b (GoOffered held)) (exchanged (byte value) (plain (carried t)))) (eqb value 0x06) (λ yes. kinds .yes b held value yes)
+        pick-by (λ (t : Turn). P (stated b (GoOffered held)) (exchanged (byte value) (plain (carried t)))) (eqb value ack) (λ yes. kinds .yes b held value yes)
         (λ no. kinds .no b held (byte value) no)
-    byte-in value (DataAwaited held) = refuses (stated b (DataAwaited held)) _ 2 refl
-    byte-in value (ResultAwaited operation held) = refuses (stated b (ResultAwaited operation held)) _ 2 refl
+    byte-in value (DataAwaited held) = refuses (stated b (DataAwaited held)) _ 2 refl refl refl
+    byte-in value (ResultAwaited operation held) = refuses (stated b (ResultAwaited operation held)) _ 2 refl refl refl
     byte-in value (EndOffered interrupt) = kinds .link (stated b (EndOffered interrupt)) _ _ tt (completed-rests b interrupt) (λ held. completed-strings b interrupt)
 
     broken-in : (phase : Phase) → P (stated b phase) (exchanged broken (plain (brokenIn (stated b phase) b phase)))
-    unfolding brokenIn LinkCall SaysNo Free NoOrder SentUpToDate
-    broken-in Collecting = kinds .link (stated b Collecting) _ _ tt (idle-rests b Nothing tt) (λ held. idle-strings b Nothing tt)
-    broken-in AckOffered = kinds .link (stated b AckOffered) _ _ tt (idle-rests b Nothing tt) (λ held. idle-strings b Nothing tt)
+    unfolding lentSpace lentCheck brokenIn LinkCall SaysNo Free NoOrder SentUpToDate
+    broken-in (Collecting s) = kinds .link (stated b (Collecting s)) _ _ tt (idle-rests b Nothing tt) (λ held. idle-strings b Nothing tt)
+    broken-in (AckOffered s) = kinds .link (stated b (AckOffered s)) _ _ tt (idle-rests b Nothing tt) (λ held. idle-strings b Nothing tt)
     broken-in (Sending s) = kinds .link (stated b (Sending s)) _ _ tt (given-up-rests b (s .kind)) (λ held. given-up-strings b (s .kind))
     broken-in (GoOffered held) = kinds .no b held broken tt
-    broken-in (DataAwaited held) = refuses (stated b (DataAwaited held)) _ 2 refl
-    broken-in (ResultAwaited operation held) = refuses (stated b (ResultAwaited operation held)) _ 2 refl
+    broken-in (DataAwaited held) = refuses (stated b (DataAwaited held)) _ 2 refl refl refl
+    broken-in (ResultAwaited operation held) = refuses (stated b (ResultAwaited operation held)) _ 2 refl refl refl
     broken-in (EndOffered interrupt) = kinds .link (stated b (EndOffered interrupt)) _ _ tt (completed-rests b interrupt) (λ held. completed-strings b interrupt)
 
     tick-in : (phase : Phase) → P (stated b phase) (exchanged tick (plain (tickIn (stated b phase) b phase)))
-    unfolding tickIn LinkCall Free
-    tick-in Collecting =
-        pick-by (λ (r : Reply). P (stated b Collecting) (exchanged tick (plain r))) (eqb (b .collected .length) 0)
-        (λ idle. kinds .link (stated b Collecting) _ _ tt (tick-rests b) (λ held. tick-strings b)) (λ part. refuses (stated b Collecting) _ 4 refl)
-    tick-in AckOffered = refuses (stated b AckOffered) _ 4 refl
-    tick-in (Sending s) = refuses (stated b (Sending s)) _ 4 refl
-    tick-in (GoOffered held) = refuses (stated b (GoOffered held)) _ 4 refl
-    tick-in (DataAwaited held) = refuses (stated b (DataAwaited held)) _ 4 refl
-    tick-in (ResultAwaited operation held) = refuses (stated b (ResultAwaited operation held)) _ 4 refl
-    tick-in (EndOffered interrupt) = refuses (stated b (EndOffered interrupt)) _ 4 refl
+    unfolding lentSpace lentCheck tickIn LinkCall Free
+    tick-in (Collecting s) =
+        pick-by (λ (r : Reply). P (stated b (Collecting s)) (exchanged tick (plain r))) (eqb (s .length) 0)
+        (λ idle. kinds .link (stated b (Collecting s)) _ _ tt (tick-rests b s) (λ held. tick-strings b s)) (λ part. refuses (stated b (Collecting s)) _ 4 refl refl refl)
+    tick-in (AckOffered s) = refuses (stated b (AckOffered s)) _ 4 refl refl refl
+    tick-in (Sending s) = refuses (stated b (Sending s)) _ 4 refl refl refl
+    tick-in (GoOffered held) = refuses (stated b (GoOffered held)) _ 4 refl refl refl
+    tick-in (DataAwaited held) = refuses (stated b (DataAwaited held)) _ 4 refl refl refl
+    tick-in (ResultAwaited operation held) = refuses (stated b (ResultAwaited operation held)) _ 4 refl refl refl
+    tick-in (EndOffered interrupt) = refuses (stated b (EndOffered interrupt)) _ 4 refl refl refl
 
     taken-in : (phase : Phase) → P (stated b phase) (exchanged taken (plain (takenIn (stated b phase) b phase)))
-    unfolding takenIn takenBody LinkCall Free
-    taken-in AckOffered =
-        pick-by (λ (t : Turn). P (stated b AckOffered) (exchanged taken (plain (carried t)))) (eqb (b .collected .c0) 0x62)
-        (λ load. kinds .link (stated b AckOffered) _ _ (tt, load) (loaded-rests b (b .collected .c1)) (λ held. loaded-strings b (b .collected .c1))) (λ other. kinds .stores b other)
-    taken-in Collecting = refuses (stated b Collecting) _ 2 refl
-    taken-in (Sending s) = refuses (stated b (Sending s)) _ 2 refl
-    taken-in (GoOffered held) = refuses (stated b (GoOffered held)) _ 2 refl
-    taken-in (DataAwaited held) = refuses (stated b (DataAwaited held)) _ 2 refl
-    taken-in (ResultAwaited operation held) = refuses (stated b (ResultAwaited operation held)) _ 2 refl
-    taken-in (EndOffered interrupt) = refuses (stated b (EndOffered interrupt)) _ 2 refl
+    unfolding lentSpace lentCheck takenIn carryOutString offered LinkCall Free
+    taken-in (AckOffered s) =
+        pick-by (λ (t : Turn). P (stated b (AckOffered s)) (exchanged taken (plain (carried t)))) (eqb (s .c0) loadLead)
+        (λ load. kinds .link (stated b (AckOffered s)) _ _ (tt, load) (loaded-rests b (s .c1)) (λ held. loaded-strings b (s .c1))) (λ other. kinds .stores b s other)
+    taken-in (Collecting s) = refuses (stated b (Collecting s)) _ 2 refl refl refl
+    taken-in (Sending s) = refuses (stated b (Sending s)) _ 2 refl refl refl
+    taken-in (GoOffered held) = refuses (stated b (GoOffered held)) _ 2 refl refl refl
+    taken-in (DataAwaited held) = refuses (stated b (DataAwaited held)) _ 2 refl refl refl
+    taken-in (ResultAwaited operation held) = refuses (stated b (ResultAwaited operation held)) _ 2 refl refl refl
+    taken-in (EndOffered interrupt) = refuses (stated b (EndOffered interrupt)) _ 2 refl refl refl
 
     module _ (host space check : List ℕ) where
       data-in :
           (phase : Phase)
           → P (stated b phase) (exchanged (hostData host space check) (dataIn (stated b phase) b host space check phase))
-      unfolding dataIn
+      unfolding lentSpace lentCheck dataIn
       data-in (DataAwaited held) = kinds .writes b held host space check
-      data-in Collecting = kinds .refusals (stated b Collecting) _ 3 space check refl
-      data-in AckOffered = kinds .refusals (stated b AckOffered) _ 3 space check refl
-      data-in (Sending s) = kinds .refusals (stated b (Sending s)) _ 3 space check refl
-      data-in (GoOffered held) = kinds .refusals (stated b (GoOffered held)) _ 3 space check refl
-      data-in (ResultAwaited operation held) = kinds .refusals (stated b (ResultAwaited operation held)) _ 3 space check refl
-      data-in (EndOffered interrupt) = kinds .refusals (stated b (EndOffered interrupt)) _ 3 space check refl
+      data-in (Collecting s) = kinds .refusals (stated b (Collecting s)) _ 3 space check refl refl refl
+      data-in (AckOffered s) = kinds .refusals (stated b (AckOffered s)) _ 3 space check refl refl refl
+      data-in (Sending s) = kinds .refusals (stated b (Sending s)) _ 3 space check refl refl refl
+      data-in (GoOffered held) = kinds .refusals (stated b (GoOffered held)) _ 3 space check refl refl refl
+      data-in (ResultAwaited operation held) = kinds .refusals (stated b (ResultAwaited operation held)) _ 3 space check refl refl refl
+      data-in (EndOffered interrupt) = kinds .refusals (stated b (EndOffered interrupt)) _ 3 space check refl refl refl
 
     module _ (r : Result) (space check : List ℕ) where
       result-in : (phase : Phase) → P (stated b phase) (exchanged (result r space check) (resultIn (stated b phase) b r space check phase))
-      unfolding resultIn
+      unfolding lentSpace lentCheck resultIn
       result-in (ResultAwaited operation held) = kinds .results b operation held r space check
-      result-in Collecting = kinds .refusals (stated b Collecting) _ 3 space check refl
-      result-in AckOffered = kinds .refusals (stated b AckOffered) _ 3 space check refl
-      result-in (Sending s) = kinds .refusals (stated b (Sending s)) _ 3 space check refl
-      result-in (GoOffered held) = kinds .refusals (stated b (GoOffered held)) _ 3 space check refl
-      result-in (DataAwaited held) = kinds .refusals (stated b (DataAwaited held)) _ 3 space check refl
-      result-in (EndOffered interrupt) = kinds .refusals (stated b (EndOffered interrupt)) _ 3 space check refl
+      result-in (Collecting s) = kinds .refusals (stated b (Collecting s)) _ 3 space check refl refl refl
+      result-in (AckOffered s) = kinds .refusals (stated b (AckOffered s)) _ 3 space check refl refl refl
+      result-in (Sending s) = kinds .refusals (stated b (Sending s)) _ 3 space check refl refl refl
+      result-in (GoOffered held) = kinds .refusals (stated b (GoOffered held)) _ 3 space check refl refl refl
+      result-in (DataAwaited held) = kinds .refusals (stated b (DataAwaited held)) _ 3 space check refl refl refl
+      result-in (EndOffered interrupt) = kinds .refusals (stated b (EndOffered interrupt)) _ 3 space check refl refl refl
 
   module _ (c : Controller) where
     abbrev by-soundness :
         (call : Call) (r : Reply)
+        → [] ≡ lentSpace call
+        → [] ≡ lentCheck call
         → P c (exchanged call (plain r))
-        → P c (exchanged call (plain (pick (sound (c .body) (c .phase)) r (refused 1 c))))
-    by-soundness call r shown =
-        pick-by (λ (r : Reply). P c (exchanged call (plain r))) (sound (c .body) (c .phase)) (λ sane. shown) (λ hurt. refuses c call 1 refl)
+        → P c (exchanged call (plain (pick (isSound (c .body) (c .phase)) r (refused 1 c))))
+    by-soundness call r no-space no-check shown =
+        pick-by (λ (r : Reply). P c (exchanged call (plain r))) (isSound (c .body) (c .phase)) (λ sane. shown)
+        (λ hurt. refuses c call 1 refl no-space no-check)
 
     reported-at : (n r : ℕ) → P c (exchanged (report n r) (plain (pick (leb 4 n) (refused 5 c) (carried (reportNoted c n r)))))
+    unfolding lentSpace lentCheck
     reported-at n r =
-        pick-by (λ (reply : Reply). P c (exchanged (report n r) (plain reply))) (leb 4 n) (λ high. refuses c _ 5 refl)
+        pick-by (λ (reply : Reply). P c (exchanged (report n r) (plain reply))) (leb 4 n) (λ high. refuses c _ 5 refl refl refl)
         (λ few. let below = leb-false 4 n few in kinds .reports c n r (omega arith))
 
     pub by-step : (call : Call) → P c (exchanged call (step c call))
-    unfolding step byteCall brokenCall tickCall takenCall reportCall resetCall dataCall resultCall
-    by-step (byte value) = by-soundness (byte value) _ (byte-in (c .body) value (c .phase))
-    by-step broken = by-soundness broken _ (broken-in (c .body) (c .phase))
-    by-step tick = by-soundness tick _ (tick-in (c .body) (c .phase))
-    by-step taken = by-soundness taken _ (taken-in (c .body) (c .phase))
-    by-step (report n r) = by-soundness (report n r) _ (reported-at n r)
-    by-step reset = by-soundness reset _ (kinds .resets c)
+    unfolding lentSpace lentCheck step byteCall brokenCall tickCall takenCall reportCall resetCall dataCall resultCall
+    by-step (byte value) = by-soundness (byte value) _ refl refl (byte-in (c .body) value (c .phase))
+    by-step broken = by-soundness broken _ refl refl (broken-in (c .body) (c .phase))
+    by-step tick = by-soundness tick _ refl refl (tick-in (c .body) (c .phase))
+    by-step taken = by-soundness taken _ refl refl (taken-in (c .body) (c .phase))
+    by-step (report n r) = by-soundness (report n r) _ refl refl (reported-at n r)
+    by-step reset = by-soundness reset _ refl refl (kinds .resets c)
     by-step (hostData host space check) =
-        pick-by (λ (a : Answer). P c (exchanged (hostData host space check) a)) (sound (c .body) (c .phase))
-        (λ sane. data-in (c .body) host space check (c .phase)) (λ hurt. kinds .refusals c _ 1 space check refl)
+        pick-by (λ (a : Answer). P c (exchanged (hostData host space check) a)) (isSound (c .body) (c .phase))
+        (λ sane. data-in (c .body) host space check (c .phase)) (λ hurt. kinds .refusals c _ 1 space check refl refl refl)
     by-step (result r space check) =
-        pick-by (λ (a : Answer). P c (exchanged (result r space check) a)) (sound (c .body) (c .phase))
-        (λ sane. result-in (c .body) r space check (c .phase)) (λ hurt. kinds .refusals c _ 1 space check refl)
+        pick-by (λ (a : Answer). P c (exchanged (result r space check) a)) (isSound (c .body) (c .phase))
+        (λ sane. result-in (c .body) r space check (c .phase)) (λ hurt. kinds .refusals c _ 1 space check refl refl refl)

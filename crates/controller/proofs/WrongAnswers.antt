@@ -11,21 +11,24 @@ use lib.ListN.{length, length-take}
 use borrow.Author.Tests.{eqb-false, eqb-true, not-false, le-leb, leb-false}
 use Rattle.common.specs.Pick.{pick}
 use Rattle.common.proofs.PickLaws.{pick-by, not-refused}
-use Rattle.marks.specs.Scan.{scanOf}
-use Rattle.records.specs.declared.whole.Expected.{Expected}
-use Rattle.records.specs.declared.whole.Expected.the-variants.{Nothing as NoImage}
-use Rattle.records.specs.Whole.{emptyRefusal, imageRefusal}
+use Rattle.marks.specs.Scan.{scanMarks}
+use Rattle.marks.proofs.FindingLaws.{stop-found}
+use Rattle.transfers.specs.declared.expected.Expected.{Expected}
+use Rattle.transfers.specs.declared.expected.Expected.the-variants.{Nothing as NoImage}
+use Rattle.transfers.specs.Expected.{wholeCode, expectedWhole, expectedOf, emptyRefusal, imageRefusal}
 use Rattle.status.specs.declared.drives.Drive.{Drive}
 use Rattle.status.specs.declared.strings.Six.{Six}
 use Rattle.status.specs.Drives.{reports, driveOf, freshDrives, resetDrives}
 use Rattle.status.proofs.DriveLaws.{put-other, by-four}
 use Rattle.operations.specs.declared.operation.Operation.the-variants.{Read}
 use Rattle.operations.specs.declared.store.Store.{Store}
-use Rattle.operations.specs.Store.{asksInterrupt, namesDrive, named, heldCount}
+use Rattle.operations.specs.Codes.{illegalDrive, unrecoverable}
+use Rattle.operations.specs.Store.{asksInterrupt, namesDrive, namedDrive, namesUnknown, heldCount}
 use Rattle.records.proofs.ImageLaws.{image-length, image-holds}
 use Rattle.common.proofs.GivenLaws.{filled-length}
-use Rattle.transfers.specs.Data.{recordBytes, dataRefusal}
-use Rattle.transfers.specs.Results.{resultOf, wholeCode, expectedWhole, expectedOf, resultRefusal, isGone, usesImage, scanCode, finalCode, wroteWell, resultBits, withRetry}
+use Rattle.transfers.specs.Data.{recordBytes, dataRefusal, settleData}
+use Rattle.transfers.specs.Results.{resultOf, resultRefusal, isGone, finalCode, verdictOf, wroteWell, resultBits, withRetry, resultWords, settleResult}
+use Rattle.link.specs.declared.state.Collected.{Collected}
 use Rattle.link.specs.declared.state.Kind.{Kind}
 use Rattle.link.specs.declared.state.Kind.the-variants.{Load, Secondary, Completion, Change}
 use Rattle.link.specs.declared.state.Send.{Send}
@@ -35,16 +38,17 @@ use Rattle.link.specs.declared.state.Body.{Body}
 use Rattle.link.specs.declared.state.Action.{Action}
 use Rattle.link.specs.declared.state.Action.the-variants.{Nothing, Byte, Text, Order}
 use Rattle.link.specs.declared.state.Turn.{Turn}
-use Rattle.link.specs.State.{current, startBody, resetOf, review, idle}
-use Rattle.link.specs.Completion.{sent, interrupts, completed, coded}
-use Rattle.link.specs.Link.{wholeLength, appended, checks, firstByte, lastByte, nextByte, givenUp, collectedByte, tickWith, idleTick}
-use Rattle.link.specs.Damaged.{sound}
+use Rattle.link.specs.State.{storeOf, startBody, resetState, review, idle}
+use Rattle.link.specs.Bytes.{ack, nack, loadLead, storeLead}
+use Rattle.link.specs.Completion.{sendWord, sendInterrupt, complete}
+use Rattle.link.specs.Link.{wholeLength, appendByte, isGoodString, firstByte, lastByte, nextByte, giveUp, collectByte, tickAfterReview, idleTick}
+use Rattle.link.specs.Damaged.{isSound}
 use Rattle.controller.specs.declared.controller.Controller.{Controller}
 use Rattle.controller.specs.declared.controller.Reply.{Reply}
 use Rattle.controller.specs.Controller.{fresh}
-use Rattle.controller.specs.Stores.{storeOf, endedBy, namesUnknown, carriedOut}
-use Rattle.controller.specs.Records.{Answer, dataDone, resultBody, ending, resultGiven, resultDone}
-use Rattle.controller.specs.Machine.{byteIn, brokenIn, tickIn, byteCall, brokenCall, tickCall, takenBody, takenIn, takenCall, reportNoted, reportCall, resetCall, dataFor, dataIn, dataCall, resultFor, resultIn, resultCall, Call, step}
+use Rattle.controller.specs.Stores.{endWith, endOperation, carryOut}
+use Rattle.controller.specs.Records.{Answer, dataDone, resultDone}
+use Rattle.controller.specs.Machine.{byteIn, brokenIn, tickIn, byteCall, brokenCall, tickCall, carryOutString, takenIn, takenCall, reportNoted, reportCall, resetCall, dataFor, dataIn, dataCall, resultFor, resultIn, resultCall, Call, step}
 use Rattle.controller.specs.Machine.Call.{byte, taken, broken, report, hostData, result, tick, reset}
 use Rattle.controller.proofs.controller.fresh_controller.Reads as fresh-reads
 use Rattle.controller.proofs.Demands.Contracts.{Allows, answers-are-steps}
@@ -79,38 +83,40 @@ nonzero n unlike = eqb-false n 0 unlike
 -- ---- byte
 
 -- the lead of a load is answered by NACK, though nothing was collected
-pub byte-nack-to-a-load : (b : Body) → b .collected .length ≡ 0 → Excludes (at b Collecting) (byte 0x62) (λ a. a .reply .action ≡ Byte 0x15)
-unfolding step byteCall byteIn collectedByte firstByte pick
-byte-nack-to-a-load b empty =
+pub byte-nack-to-a-load : (b : Body) (s : Collected) → s .length ≡ 0 → Excludes (at b (Collecting s)) (byte loadLead) (λ a. a .reply .action ≡ Byte nack)
+unfolding step byteCall byteIn collectByte firstByte pick
+byte-nack-to-a-load b s empty =
     excluded _ _ _
-    (pick-by (λ (r : Reply). r .action ≡ Byte 0x15 → ⊥) (sound b Collecting)
-    (λ sane. subst (λ (n : ℕ). pick (eqb n 0) (firstByte b 0x62) (nextByte b 0x62) .action ≡ Byte 0x15 → ⊥) (sym empty) (another refl))
+    (pick-by (λ (r : Reply). r .action ≡ Byte nack → ⊥) (isSound b (Collecting s))
+    (λ sane. subst (λ (n : ℕ). pick (eqb n 0) (firstByte b s loadLead) (nextByte b s loadLead) .action ≡ Byte nack → ⊥) (sym empty) (another refl))
     (λ hurt. another refl))
 
 -- ACK is offered for a string that does not check
 pub byte-ack-to-a-bad-string :
-    (b : Body) (value : ℕ) → checks (appended (b .collected) value) ≡ false → Excludes (at b Collecting) (byte value) (λ a. a .reply .action ≡ Byte 0x06)
-unfolding step byteCall byteIn collectedByte firstByte nextByte lastByte idle
-byte-ack-to-a-bad-string b value bad =
+    (b : Body) (s : Collected) (value : ℕ)
+    → isGoodString (appendByte s value) ≡ false
+    → Excludes (at b (Collecting s)) (byte value) (λ a. a .reply .action ≡ Byte ack)
+unfolding step byteCall byteIn collectByte firstByte nextByte lastByte idle
+byte-ack-to-a-bad-string b s value bad =
     excluded _ _ _
-    (pick-by (λ (r : Reply). r .action ≡ Byte 0x06 → ⊥) (sound b Collecting)
-    (λ sane. pick-by none (eqb (b .collected .length) 0)
-    (λ first. pick-by none (eqb value 0x62 || eqb value 0x64) (λ lead. another refl)
-    (λ other. pick-by none (eqb value 0x15) (λ nack. another refl) (λ any. another refl)))
-    (λ further. pick-by none (eqb (b .collected .length + 1) (wholeLength (b .collected .c0)))
-    (λ last. pick-by none (checks (appended (b .collected) value)) (λ good. absurd (false≢true (sym bad ∙ good))) (λ wrong. another refl))
+    (pick-by (λ (r : Reply). r .action ≡ Byte ack → ⊥) (isSound b (Collecting s))
+    (λ sane. pick-by none (eqb (s .length) 0)
+    (λ first. pick-by none (eqb value loadLead || eqb value storeLead) (λ lead. another refl)
+    (λ other. pick-by none (eqb value nack) (λ ignored. another refl) (λ any. another refl)))
+    (λ further. pick-by none (eqb (s .length + 1) (wholeLength (s .c0)))
+    (λ last. pick-by none (isGoodString (appendByte s value)) (λ good. absurd (false≢true (sym bad ∙ good))) (λ wrong. another refl))
     (λ part. another refl)))
     (λ hurt. another refl))
   where
     none : Turn → Type 0
-    none t = t .action ≡ Byte 0x06 → ⊥
+    none t = t .action ≡ Byte ack → ⊥
 
 -- ---- taken
 
 -- the one phase in which taken is carried out
 abbrev offersAck : Phase → Bool
-offersAck AckOffered = true
-offersAck Collecting = false
+offersAck (AckOffered s) = true
+offersAck (Collecting s) = false
 offersAck (Sending s) = false
 offersAck (GoOffered store) = false
 offersAck (DataAwaited store) = false
@@ -120,8 +126,8 @@ offersAck (EndOffered interrupt) = false
 -- it is refused in the others
 taken-in-refuses : (c : Controller) (b : Body) (phase : Phase) → offersAck phase ≡ false → takenIn c b phase .refusal ≡ 0 → ⊥
 unfolding takenIn
-taken-in-refuses c b AckOffered ack = absurd (true≢false ack)
-taken-in-refuses c b Collecting ack = nonzero 2 refl
+taken-in-refuses c b (AckOffered s) ack = absurd (true≢false ack)
+taken-in-refuses c b (Collecting s) ack = nonzero 2 refl
 taken-in-refuses c b (Sending s) ack = nonzero 2 refl
 taken-in-refuses c b (GoOffered store) ack = nonzero 2 refl
 taken-in-refuses c b (DataAwaited store) ack = nonzero 2 refl
@@ -133,29 +139,33 @@ pub taken-with-no-ack : (b : Body) (phase : Phase) → offersAck phase ≡ false
 unfolding step takenCall
 taken-with-no-ack b phase ack =
     excluded _ _ _
-    (pick-by (λ (r : Reply). r .refusal ≡ 0 → ⊥) (sound b phase) (λ sane. taken-in-refuses (at b phase) b phase ack) (λ hurt. nonzero 1 refl))
+    (pick-by (λ (r : Reply). r .refusal ≡ 0 → ⊥) (isSound b phase) (λ sane. taken-in-refuses (at b phase) b phase ack) (λ hurt. nonzero 1 refl))
 
 -- such a store ends with code 01
-ended-coded : (b : Body) (store : Store) → endedBy b store 0x01 .body .outcome .code ≡ 0 → ⊥
-unfolding endedBy completed interrupts sent idle review coded pick
+ended-coded : (b : Body) (store : Store) → endWith b store illegalDrive .body .outcome .code ≡ 0 → ⊥
+unfolding endWith complete sendInterrupt sendWord idle review pick
 ended-coded b store =
     pick-by (λ (t : Turn). t .body .outcome .code ≡ 0 → ⊥) (asksInterrupt store)
     (λ asked. pick-by (λ (t : Turn). t .body .outcome .code ≡ 0 → ⊥) (b .outcome .counted) (λ counted. nonzero 1 refl) (λ none. nonzero 1 refl))
     (λ quiet. nonzero 1 refl)
 
-named-above : (b : Body) (store : Store) → namesDrive store ≡ true → 4 ≤ named store → carriedOut b store .body .outcome .code ≡ 0 → ⊥
-unfolding carriedOut namesUnknown pick
-named-above b store names high = simp (names, le-leb 4 (named store) high) (ended-coded _ store)
+named-above : (b : Body) (store : Store) → namesDrive store ≡ true → 4 ≤ namedDrive store → carryOut b store .body .outcome .code ≡ 0 → ⊥
+unfolding carryOut namesUnknown pick
+named-above b store names high = simp (names, le-leb 4 (namedDrive store) high) (ended-coded _ store)
 
 -- a store that names a drive above 3 goes without code 01
 pub taken-drive-4-with-code-00 :
-    (b : Body) → (b .collected .c0 ≡ 0x62 → ⊥) → namesDrive (storeOf (b .collected)) ≡ true → 4 ≤ named (storeOf (b .collected)) → Excludes (at b AckOffered) taken (λ a. (a .reply .refusal ≡ 0) × (a .reply .controller .body .outcome .code ≡ 0))
-unfolding step takenCall takenIn takenBody
-taken-drive-4-with-code-00 b lead names high =
+    (b : Body) (s : Collected)
+    → (s .c0 ≡ loadLead → ⊥)
+    → namesDrive (storeOf s) ≡ true
+    → 4 ≤ namedDrive (storeOf s)
+    → Excludes (at b (AckOffered s)) taken (λ a. (a .reply .refusal ≡ 0) × (a .reply .controller .body .outcome .code ≡ 0))
+unfolding step takenCall takenIn carryOutString
+taken-drive-4-with-code-00 b s lead names high =
     excluded _ _ _
-    (pick-by (λ (r : Reply). (r .refusal ≡ 0) × (r .controller .body .outcome .code ≡ 0) → ⊥) (sound b AckOffered)
-    (λ sane w. pick-by (λ (t : Turn). t .body .outcome .code ≡ 0 → ⊥) (eqb (b .collected .c0) 0x62) (λ load. absurd (lead (eqb-true _ _ load)))
-    (λ stored. named-above b (storeOf (b .collected)) names high) (w .1))
+    (pick-by (λ (r : Reply). (r .refusal ≡ 0) × (r .controller .body .outcome .code ≡ 0) → ⊥) (isSound b (AckOffered s))
+    (λ sane w. pick-by (λ (t : Turn). t .body .outcome .code ≡ 0 → ⊥) (eqb (s .c0) loadLead) (λ load. absurd (lead (eqb-true _ _ load)))
+    (λ stored. named-above b (storeOf s) names high) (w .1))
     (λ hurt w. nonzero 1 refl (w .0)))
 
 -- ---- broken
@@ -165,11 +175,11 @@ pub broken-while-data-is-awaited : (b : Body) (store : Store) → Excludes (at b
 unfolding step brokenCall brokenIn
 broken-while-data-is-awaited b store =
     excluded _ _ _
-    (pick-by (λ (r : Reply). r .refusal ≡ 0 → ⊥) (sound b (DataAwaited store)) (λ sane. nonzero 2 refl) (λ hurt. nonzero 1 refl))
+    (pick-by (λ (r : Reply). r .refusal ≡ 0 → ⊥) (isSound b (DataAwaited store)) (λ sane. nonzero 2 refl) (λ hurt. nonzero 1 refl))
 
 -- changed stays set, whatever was sent
-given-up-changed : (b : Body) (kind : Kind) → b .changed ≡ true → givenUp b kind .body .changed ≡ false → ⊥
-unfolding givenUp idle review
+given-up-changed : (b : Body) (kind : Kind) → b .changed ≡ true → giveUp b kind .body .changed ≡ false → ⊥
+unfolding giveUp idle review
 given-up-changed b Load changed = rw changed true≢false
 given-up-changed b Secondary changed = rw changed true≢false
 given-up-changed b Completion changed = rw changed true≢false
@@ -180,7 +190,7 @@ pub broken-clears-changed : (b : Body) (s : Send) → b .changed ≡ true → Ex
 unfolding step brokenCall brokenIn
 broken-clears-changed b s changed =
     excluded _ _ _
-    (pick-by (λ (r : Reply). r .controller .body .changed ≡ false → ⊥) (sound b (Sending s)) (λ sane. given-up-changed b (s .kind) changed)
+    (pick-by (λ (r : Reply). r .controller .body .changed ≡ false → ⊥) (isSound b (Sending s)) (λ sane. given-up-changed b (s .kind) changed)
     (λ hurt. rw changed true≢false))
 
 -- ---- report
@@ -188,11 +198,11 @@ broken-clears-changed b s changed =
 -- a report for one drive changes another
 pub report-changes-another-drive :
     (c : Controller) (n d value : ℕ) → d ≤ 3 → (n ≡ d → ⊥) → Excludes c (report n value) (λ a. driveOf (a .reply .controller .body .drives) d ≡ driveOf (c .body .drives) d → ⊥)
-unfolding step reportCall reportNoted
+unfolding step reportCall
 report-changes-another-drive c n d value low other =
     excluded _ _ _
     (λ wrong. wrong
-    (pick-by (λ (r : Reply). driveOf (r .controller .body .drives) d ≡ driveOf (c .body .drives) d) (sound (c .body) (c .phase))
+    (pick-by (λ (r : Reply). driveOf (r .controller .body .drives) d ≡ driveOf (c .body .drives) d) (isSound (c .body) (c .phase))
     (λ sane. pick-by (λ (r : Reply). driveOf (r .controller .body .drives) d ≡ driveOf (c .body .drives) d) (leb 4 n) (λ high. refl)
     (λ few. let below = leb-false 4 n few in put-other (c .body .drives) _ n d (omega arith) low other))
     (λ hurt. refl)))
@@ -202,7 +212,7 @@ pub report-of-drive-4 : (c : Controller) (n value : ℕ) → 4 ≤ n → Exclude
 unfolding step reportCall
 report-of-drive-4 c n value high =
     excluded _ _ _
-    (pick-by (λ (r : Reply). r .refusal ≡ 0 → ⊥) (sound (c .body) (c .phase))
+    (pick-by (λ (r : Reply). r .refusal ≡ 0 → ⊥) (isSound (c .body) (c .phase))
     (λ sane. pick-by (λ (r : Reply). r .refusal ≡ 0 → ⊥) (leb 4 n) (λ above. nonzero 5 refl) (λ few. absurd (false≢true (sym few ∙ le-leb 4 n high))))
     (λ hurt. nonzero 1 refl))
 
@@ -218,7 +228,7 @@ module _ (c : Controller) (b : Body) (drive : Drive) (store : Store) (host space
   short a = (a .reply .refusal ≡ 0) × (a .bytes < 2 + heldCount store) → ⊥
 
   data-for-short : short (dataFor c b drive store host space check)
-  unfolding dataFor dataDone
+  unfolding dataFor dataDone settleData
   data-for-short =
       let bytes = recordBytes store host in
       pick-by short (eqb (dataRefusal drive store (length space) (length check)) 0)
@@ -239,7 +249,7 @@ pub data-image-cut-short :
 unfolding step dataCall dataIn
 data-image-cut-short b store host space check =
     excluded _ _ _
-    (pick-by (λ (a : Answer). (a .reply .refusal ≡ 0) × (a .bytes < 2 + heldCount store) → ⊥) (sound b (DataAwaited store))
+    (pick-by (λ (a : Answer). (a .reply .refusal ≡ 0) × (a .bytes < 2 + heldCount store) → ⊥) (isSound b (DataAwaited store))
     (λ sane. data-for-short _ b _ store host space check) (λ hurt w. nonzero 1 refl (w .0)))
 
 -- the same, whatever the phase
@@ -249,8 +259,8 @@ data-in-refused :
     → dataIn c b host space check phase .space ≡ space
 unfolding dataIn
 data-in-refused c b host space check (DataAwaited store) = data-for-refused c b _ store host space check
-data-in-refused c b host space check Collecting = λ some. refl
-data-in-refused c b host space check AckOffered = λ some. refl
+data-in-refused c b host space check (Collecting s) = λ some. refl
+data-in-refused c b host space check (AckOffered s) = λ some. refl
 data-in-refused c b host space check (Sending s) = λ some. refl
 data-in-refused c b host space check (GoOffered store) = λ some. refl
 data-in-refused c b host space check (ResultAwaited operation store) = λ some. refl
@@ -263,7 +273,7 @@ unfolding step dataCall
 data-refused-but-written c host space check =
     excluded _ _ _
     (λ w. w .1
-    (pick-by (λ (a : Answer). (a .reply .refusal ≡ 0 → ⊥) → a .space ≡ space) (sound (c .body) (c .phase))
+    (pick-by (λ (a : Answer). (a .reply .refusal ≡ 0 → ⊥) → a .space ≡ space) (isSound (c .body) (c .phase))
     (λ sane. data-in-refused c (c .body) host space check (c .phase)) (λ hurt some. refl) (w .0)))
 
 -- ---- result
@@ -282,35 +292,52 @@ marked-empty drive code late image marks check good =
     let none = ap (λ (x : Expected). imageRefusal image marks x) (no-image (drive .density) code) in
     not-false _ (not-refused _ _ _ (nonzero 9 refl) (sym none ∙ eight .1) .0)
 
+module _ (c : Controller) (b : Body) (drive : Drive) (store : Store) (code late : ℕ) (image marks space check : List ℕ) where
+  abbrev counts : Answer → Type 0
+  counts a = a .reply .controller .body .outcome .counted ≡ true → ⊥
+
+  -- a mark counts nothing, whatever drive moved
+  mark-counts-nothing : c .body .outcome .counted ≡ false → b .outcome .counted ≡ false → counts (resultFor c b drive Read store (resultOf code true late image marks) space check)
+  unfolding resultFor resultDone settleResult resultWords verdictOf endOperation withRetry resultBits wroteWell pick
+  mark-counts-nothing clear before =
+      pick-by counts (eqb (resultRefusal drive Read (resultOf code true late image marks) (length check)) 0)
+      (λ good. simp (before, marked-empty drive code late image marks (length check) (eqb-true _ 0 good), and-false) false≢true)
+      (λ refused. simp clear false≢true)
+
+  module _ (mark : Bool) where
+    abbrev well : Answer → Type 0
+    well a = (a .reply .refusal ≡ 0) × (a .reply .controller .body .outcome .code ≡ 0) → ⊥
+
+    -- a scan that stops is told, whatever drive moved
+    two-bad-told : ltb (scanMarks marks .stop) (length marks) ≡ true → well (resultFor c b drive Read store (resultOf code mark late image marks) space check)
+    unfolding resultFor resultDone settleResult resultWords verdictOf endOperation withRetry resultBits finalCode pick
+    two-bad-told stopped =
+        pick-by well (eqb (resultRefusal drive Read (resultOf code mark late image marks) (length check)) 0)
+        (λ good w. pick-by (λ (n : ℕ). n ≡ 0 → ⊥) (isGone drive Read) (λ gone. nonzero 7 refl) (λ there. simp (stop-found marks, stopped) (nonzero unrecoverable refl)) (w .1))
+        (λ refused w. eqb-false _ 0 refused (w .0))
+
 -- bit 22 is set by a read that found a mark
 pub result-counts-a-mark :
-    (b : Body) (store : Store) (code late : ℕ) (image marks space check : List ℕ) → b .outcome .counted ≡ false → Excludes (at b (ResultAwaited Read store)) (result (resultOf code true late image marks) space check) (λ a. a .reply .controller .body .outcome .counted ≡ true)
-unfolding step resultCall resultIn resultFor resultDone resultGiven ending resultBody withRetry resultBits usesImage wroteWell pick
+    (b : Body) (store : Store) (code late : ℕ) (image marks space check : List ℕ)
+    → b .outcome .counted ≡ false
+    → Excludes (at b (ResultAwaited Read store)) (result (resultOf code true late image marks) space check) (λ a. a .reply .controller .body .outcome .counted ≡ true)
+unfolding step resultCall resultIn
 result-counts-a-mark b store code late image marks space check before =
     excluded _ _ _
-    (pick-by counts (sound b (ResultAwaited Read store))
-    (λ sane. pick-by counts (eqb (resultRefusal (current b) Read (resultOf code true late image marks) (length check)) 0)
-    (λ good. simp (before, marked-empty (current b) code late image marks (length check) (eqb-true _ 0 good), and-false) false≢true)
-    (λ refused. simp before false≢true))
-    (λ hurt. simp before false≢true))
-  where
-    counts : Answer → Type 0
-    counts a = a .reply .controller .body .outcome .counted ≡ true → ⊥
+    (pick-by (λ (a : Answer). a .reply .controller .body .outcome .counted ≡ true → ⊥) (isSound b (ResultAwaited Read store))
+    (λ sane. mark-counts-nothing _ b _ store code late image marks space check before before) (λ hurt. simp before false≢true))
 
 -- a record with two bad blockettes of one parity is told as good
 pub result-two-bad-told-as-good :
-    (b : Body) (store : Store) (code late : ℕ) (mark : Bool) (image marks space check : List ℕ) → ltb (scanOf marks .stop) (length marks) ≡ true → Excludes (at b (ResultAwaited Read store)) (result (resultOf code mark late image marks) space check) (λ a. (a .reply .refusal ≡ 0) × (a .reply .controller .body .outcome .code ≡ 0))
-unfolding step resultCall resultIn resultFor resultDone resultGiven ending resultBody withRetry resultBits finalCode scanCode pick
+    (b : Body) (store : Store) (code late : ℕ) (mark : Bool) (image marks space check : List ℕ)
+    → ltb (scanMarks marks .stop) (length marks) ≡ true
+    → Excludes (at b (ResultAwaited Read store)) (result (resultOf code mark late image marks) space check)
+    (λ a. (a .reply .refusal ≡ 0) × (a .reply .controller .body .outcome .code ≡ 0))
+unfolding step resultCall resultIn
 result-two-bad-told-as-good b store code late mark image marks space check stopped =
     excluded _ _ _
-    (pick-by well (sound b (ResultAwaited Read store))
-    (λ sane. pick-by well (eqb (resultRefusal (current b) Read (resultOf code mark late image marks) (length check)) 0)
-    (λ good w. pick-by (λ (n : ℕ). n ≡ 0 → ⊥) (isGone (current b) Read) (λ gone. nonzero 7 refl) (λ there. simp stopped (nonzero 0x16 refl)) (w .1))
-    (λ refused w. eqb-false _ 0 refused (w .0)))
-    (λ hurt w. nonzero 1 refl (w .0)))
-  where
-    well : Answer → Type 0
-    well a = (a .reply .refusal ≡ 0) × (a .reply .controller .body .outcome .code ≡ 0) → ⊥
+    (pick-by (λ (a : Answer). (a .reply .refusal ≡ 0) × (a .reply .controller .body .outcome .code ≡ 0) → ⊥) (isSound b (ResultAwaited Read store))
+    (λ sane. two-bad-told _ b _ store code late image marks space check mark stopped) (λ hurt w. nonzero 1 refl (w .0)))
 
 -- ---- tick
 
@@ -319,15 +346,15 @@ pub tick-during-a-send : (b : Body) (s : Send) → Excludes (at b (Sending s)) t
 unfolding step tickCall tickIn
 tick-during-a-send b s =
     excluded _ _ _
-    (pick-by (λ (r : Reply). r .refusal ≡ 0 → ⊥) (sound b (Sending s)) (λ sane. nonzero 4 refl) (λ hurt. nonzero 1 refl))
+    (pick-by (λ (r : Reply). r .refusal ≡ 0 → ⊥) (isSound b (Sending s)) (λ sane. nonzero 4 refl) (λ hurt. nonzero 1 refl))
 
 -- nothing is sent, whatever the phase
 tick-in-quiet : (c : Controller) (b : Body) (s : Six) (phase : Phase) → b .enable ≡ false → tickIn c b phase .action ≡ Text s → ⊥
-unfolding tickIn idleTick tickWith review pick
-tick-in-quiet c b s Collecting clear =
-    pick-by (λ (r : Reply). r .action ≡ Text s → ⊥) (eqb (b .collected .length) 0)
+unfolding tickIn idleTick tickAfterReview review pick
+tick-in-quiet c b s (Collecting string) clear =
+    pick-by (λ (r : Reply). r .action ≡ Text s → ⊥) (eqb (string .length) 0)
     (λ idle. simp (clear, and-false) (another refl)) (λ part. another refl)
-tick-in-quiet c b s AckOffered clear = another refl
+tick-in-quiet c b s (AckOffered string) clear = another refl
 tick-in-quiet c b s (Sending send) clear = another refl
 tick-in-quiet c b s (GoOffered store) clear = another refl
 tick-in-quiet c b s (DataAwaited store) clear = another refl
@@ -339,26 +366,26 @@ pub tick-interrupts-without-enable : (c : Controller) (s : Six) → c .body .ena
 unfolding step tickCall
 tick-interrupts-without-enable c s clear =
     excluded _ _ _
-    (pick-by (λ (r : Reply). r .action ≡ Text s → ⊥) (sound (c .body) (c .phase)) (λ sane. tick-in-quiet c (c .body) s (c .phase) clear) (λ hurt. another refl))
+    (pick-by (λ (r : Reply). r .action ≡ Text s → ⊥) (isSound (c .body) (c .phase)) (λ sane. tick-in-quiet c (c .body) s (c .phase) clear) (λ hurt. another refl))
 
 -- ---- reset
 
 -- a drive's report is lost
 pub reset-loses-a-report :
     (c : Controller) (d : ℕ) → d ≤ 3 → Excludes c reset (λ a. driveOf (a .reply .controller .body .drives) d .report ≡ driveOf (c .body .drives) d .report → ⊥)
-unfolding step resetCall resetOf startBody resetDrives driveOf pick
+unfolding step resetCall resetState startBody resetDrives driveOf pick
 reset-loses-a-report c d low =
     excluded _ _ _
     (λ wrong. wrong
-    (pick-by (λ (r : Reply). driveOf (r .controller .body .drives) d .report ≡ driveOf (c .body .drives) d .report) (sound (c .body) (c .phase))
+    (pick-by (λ (r : Reply). driveOf (r .controller .body .drives) d .report ≡ driveOf (c .body .drives) d .report) (isSound (c .body) (c .phase))
     (λ sane. by-four (λ n. driveOf (resetDrives (c .body .drives)) n .report ≡ driveOf (c .body .drives) n .report) refl refl refl refl d low) (λ hurt. refl)))
 
 -- a gap is still taken for proper
 pub reset-keeps-a-gap : (c : Controller) (d : ℕ) → d ≤ 3 → Excludes c reset (λ a. (a .reply .refusal ≡ 0) × (driveOf (a .reply .controller .body .drives) d .gap ≡ 0))
-unfolding step resetCall resetOf startBody resetDrives driveOf pick
+unfolding step resetCall resetState startBody resetDrives driveOf pick
 reset-keeps-a-gap c d low =
     excluded _ _ _
-    (pick-by (λ (r : Reply). (r .refusal ≡ 0) × (driveOf (r .controller .body .drives) d .gap ≡ 0) → ⊥) (sound (c .body) (c .phase))
+    (pick-by (λ (r : Reply). (r .refusal ≡ 0) × (driveOf (r .controller .body .drives) d .gap ≡ 0) → ⊥) (isSound (c .body) (c .phase))
     (λ sane w. by-four (λ n. driveOf (resetDrives (c .body .drives)) n .gap ≡ 0 → ⊥) (nonzero 3 refl) (nonzero 3 refl) (nonzero 3 refl) (nonzero 3 refl) d low (w .1))
     (λ hurt w. nonzero 1 refl (w .0)))
 

@@ -5,13 +5,14 @@ use Rattle.status.specs.Drives.{freshDrives}
 use Rattle.link.specs.declared.state.Phase.the-variants.{Collecting}
 use Rattle.link.specs.declared.state.Action.the-variants.{Nothing}
 use Rattle.link.specs.declared.state.Turn.{Turn}
-use Rattle.link.specs.State.{startBody}
+use Rattle.link.specs.State.{nothingCollected, startBody}
 use Rattle.controller.specs.declared.controller.Controller.{Controller}
 use Rattle.controller.specs.declared.controller.Reply.{Reply}
+use Rattle.controller.specs.declared.controller.Transfer.{Transfer}
 
 -- "Fresh: .. collecting."
 unfoldable pub fresh : Controller
-fresh = record { body = startBody freshDrives; phase = Collecting }
+fresh = record { body = startBody freshDrives; phase = Collecting nothingCollected }
 
 -- a call that is carried out
 abbrev pub carried : Turn → Reply
@@ -20,3 +21,7 @@ carried turn = record { controller = record { body = turn .body; phase = turn .p
 -- "state and buffers unchanged, no action"
 abbrev pub refused : ℕ → Controller → Reply
 refused number c = record { controller = c; action = Nothing; refusal = number }
+
+-- a refused data or result call gives no bytes
+abbrev pub refusedTransfer : ℕ → Controller → Transfer
+refusedTransfer number c = record { reply = refused number c; bytes = 0 }

@@ -11,13 +11,14 @@ use Rattle.common.specs.Pick.{pick}
 use Rattle.records.specs.Count.{countOf}
 use Rattle.operations.specs.declared.operation.Operation.the-variants.{Write}
 use Rattle.operations.specs.declared.store.Store.{Store}
-use Rattle.operations.specs.Store.{asked, heldCount}
+use Rattle.operations.specs.Store.{askedFor, heldCount}
 use Rattle.status.specs.declared.words.Word.{Word}
 use Rattle.status.specs.declared.strings.Six.{Six}
 use Rattle.status.specs.Words.{secondaryWord}
 use Rattle.status.specs.Strings.{stringOf}
 use Rattle.link.specs.declared.state.Action.{Action}
 use Rattle.link.specs.declared.state.Action.the-variants.{Nothing, Byte, Text, Order}
+use Rattle.link.specs.Bytes.{secondaryUpdate, interrupt}
 use Rattle.link.specs.Completion.{primaryNow}
 use Rattle.transfers.specs.Results.{Result}
 use Rattle.controller.specs.declared.controller.Controller.{Controller}
@@ -37,7 +38,7 @@ pub data OwnRecord : Type 0 where
 -- of a store's result: the record of its image, or, "writes with code 0", the one that it wrote
 unfoldable pub passedBy : Store → Result → OwnRecord
 passedBy store r =
-    pick (eqb (length (r .image)) 0) (pick (asksFor Write (asked store) && eqb (r .code) 0) (recordOf (heldCount store)) noRecord)
+    pick (eqb (length (r .image)) 0) (pick (asksFor Write (askedFor store) && eqb (r .code) 0) (recordOf (heldCount store)) noRecord)
     (recordOf (countOf (r .image)))
 
 -- a call not refused: a store that is carried out has no record yet, and its result may tell of one. `store` is the last store carried out,
@@ -68,8 +69,8 @@ wordIn string = record { b0 = string .b1; b1 = string .b2; b2 = string .b3; b3 =
 
 -- "if bit 22 send secondary; then primary": a secondary that is sent is this record's, and so is the count that a primary that is sent marks
 pub record Brings (own : OwnRecord) (count : ℕ) (string : Six) : Type 0 where
-  pub secondary : string .b0 ≡ 0x68 → (own ≡ recordOf count) × (string ≡ stringOf 0x68 (secondaryWord count))
-  pub primary : string .b0 ≡ 0x69 → bit22 (wordIn string) ≡ true → own ≡ recordOf count
+  pub secondary : string .b0 ≡ secondaryUpdate → (own ≡ recordOf count) × (string ≡ stringOf secondaryUpdate (secondaryWord count))
+  pub primary : string .b0 ≡ interrupt → bit22 (wordIn string) ≡ true → own ≡ recordOf count
 
 -- whatever goes out
 unfoldable pub Sends : OwnRecord → ℕ → Action → Type 0

@@ -2,6 +2,7 @@ pub mod Controller
 pub mod Stores
 pub mod Records
 pub mod Machine
+pub mod Refused
 pub mod Lists
 pub mod Separation
 pub mod Counts

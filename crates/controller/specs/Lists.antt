@@ -11,7 +11,8 @@ use Rattle.operations.specs.declared.decode.Decoded.the-variants.{Reset, Code, 
 use Rattle.operations.specs.declared.store.Store.{Store}
 use Rattle.operations.specs.Operation.{sameOperation}
 use Rattle.controller.specs.declared.controller.Controller.{Controller}
-use Rattle.controller.specs.Stores.{storeOf}
+use Rattle.link.specs.Bytes.{loadLead}
+use Rattle.link.specs.State.{storeOf, offered}
 use Rattle.controller.specs.Machine.{Call, Exchange}
 use Rattle.controller.specs.Machine.Call.{byte, taken, broken, report, hostData, result, tick, reset}
 
@@ -32,7 +33,11 @@ isTaken reset = false
 
 -- the string whose ACK is offered is a store, and not a load
 unfoldable pub holdsStore : Controller → Bool
-holdsStore c = not (eqb (c .body .collected .c0) 0x62)
+holdsStore c = not (eqb (offered (c .phase) .c0) loadLead)
+
+-- the store that it is
+abbrev pub heldStore : Controller → Store
+heldStore c = storeOf (offered (c .phase))
 
 -- "A store is carried out where a taken not refused meets its ACK"
 unfoldable pub carriesOut : Controller → Exchange → Bool
@@ -40,7 +45,7 @@ carriesOut c x = isTaken (x .call) && (notRefused x && holdsStore c)
 
 -- the last store carried out, this call's included: "GO answers, data calls and results not refused belong to the last such store"
 unfoldable pub lastStore : Store → Controller → Exchange → Store
-lastStore last c x = pick (carriesOut c x) (storeOf (c .body .collected)) last
+lastStore last c x = pick (carriesOut c x) (heldStore c) last
 
 -- before the first store: one that names no drive
 abbrev pub noStore : Store

@@ -2,14 +2,16 @@
 -- data; result; tick; reset. The state goes in and the next state comes out, with one action or none".
 -- Assumes nothing.
 use Prim.Native.Nat.{ℕ}
+use mathlib.Core.Bool.{Bool, not}
 use mathlib.Core.List.{List, [], _∷_}
 use lib.Dec.{leb, eqb}
 use lib.ListN.{length}
 use Rattle.common.specs.Pick.{pick}
+use Rattle.common.specs.Refusals.{stateDamaged, linkNotAwaited, transferNotAwaited, notIdle, noSuchDrive}
 use Rattle.operations.specs.declared.operation.Operation.{Operation}
 use Rattle.operations.specs.declared.store.Store.{Store}
 use Rattle.status.specs.declared.drives.Drive.{Drive}
-use Rattle.status.specs.Drives.{driveOf, withDrive, reported}
+use Rattle.link.specs.declared.state.Collected.{Collected}
 use Rattle.link.specs.declared.state.Phase.{Phase}
 use Rattle.link.specs.declared.state.Phase.the-variants.{Collecting, AckOffered, Sending, GoOffered, DataAwaited, ResultAwaited, EndOffered}
 use Rattle.link.specs.declared.state.Body.{Body}
@@ -17,97 +19,97 @@ use Rattle.controller.specs.declared.controller.Controller.{Controller}
 use Rattle.link.specs.declared.state.Action.the-variants.{Nothing}
 use Rattle.link.specs.declared.state.Turn.{Turn}
 use Rattle.controller.specs.declared.controller.Reply.{Reply}
-use Rattle.link.specs.State.{setDrives, current, resetOf, idle}
-use Rattle.link.specs.Completion.{completed}
-use Rattle.link.specs.Link.{collectedByte, sendAnswered, goAnswered, givenUp, goRefused, idleTick}
-use Rattle.link.specs.Loads.{loaded}
+use Rattle.link.specs.State.{storeOf, currentDrive, noteReport, resetState, idle}
+use Rattle.link.specs.Completion.{complete}
+use Rattle.link.specs.Bytes.{loadLead}
+use Rattle.link.specs.Link.{collectByte, answerToSend, answerToGo, giveUp, noToGo, idleTick}
+use Rattle.link.specs.Loads.{carryOutLoad}
 use Rattle.controller.specs.Controller.{carried, refused}
-use Rattle.controller.specs.Stores.{storeOf, carriedOut}
+use Rattle.controller.specs.Stores.{carryOut}
 use Rattle.transfers.specs.Data.{dataRefusal}
 use Rattle.transfers.specs.Results.{Result, resultRefusal}
 use Rattle.controller.specs.Records.{Answer, dataDone, resultDone}
-use Rattle.link.specs.Damaged.{sound}
+use Rattle.link.specs.Damaged.{isSound}
 
 -- ---- the eight calls
 
 -- A byte, in each phase; the answers while data or a result is awaited are refusals.
 unfoldable pub byteIn : Controller → Body → ℕ → Phase → Reply
-byteIn c b byte Collecting = carried (collectedByte b byte)
-byteIn c b byte AckOffered = carried (idle b Nothing)
-byteIn c b byte (Sending s) = carried (sendAnswered b byte s)
-byteIn c b byte (GoOffered store) = carried (goAnswered b byte store)
-byteIn c b byte (DataAwaited store) = refused 2 c
-byteIn c b byte (ResultAwaited operation store) = refused 2 c
-byteIn c b byte (EndOffered interrupt) = carried (completed b interrupt)
+byteIn c b byte (Collecting s) = carried (collectByte b s byte)
+byteIn c b byte (AckOffered s) = carried (idle b Nothing)
+byteIn c b byte (Sending s) = carried (answerToSend b byte s)
+byteIn c b byte (GoOffered store) = carried (answerToGo b byte store)
+byteIn c b byte (DataAwaited store) = refused linkNotAwaited c
+byteIn c b byte (ResultAwaited operation store) = refused linkNotAwaited c
+byteIn c b byte (EndOffered interrupt) = carried (complete b interrupt)
 
 -- "Broken while collecting drops what was collected, then review."; "broken or any byte drops it"; "on broken, the send is given up";
 -- GO and EOR: "anything but #06 is a no"
 unfoldable pub brokenIn : Controller → Body → Phase → Reply
-brokenIn c b Collecting = carried (idle b Nothing)
-brokenIn c b AckOffered = carried (idle b Nothing)
-brokenIn c b (Sending s) = carried (givenUp b (s .kind))
-brokenIn c b (GoOffered store) = carried (goRefused b store)
-brokenIn c b (DataAwaited store) = refused 2 c
-brokenIn c b (ResultAwaited operation store) = refused 2 c
-brokenIn c b (EndOffered interrupt) = carried (completed b interrupt)
+brokenIn c b (Collecting s) = carried (idle b Nothing)
+brokenIn c b (AckOffered s) = carried (idle b Nothing)
+brokenIn c b (Sending s) = carried (giveUp b (s .kind))
+brokenIn c b (GoOffered store) = carried (noToGo b store)
+brokenIn c b (DataAwaited store) = refused linkNotAwaited c
+brokenIn c b (ResultAwaited operation store) = refused linkNotAwaited c
+brokenIn c b (EndOffered interrupt) = carried (complete b interrupt)
 
 -- "4 tick when not idle"
 unfoldable pub tickIn : Controller → Body → Phase → Reply
-tickIn c b Collecting = pick (eqb (b .collected .length) 0) (carried (idleTick b)) (refused 4 c)
-tickIn c b AckOffered = refused 4 c
-tickIn c b (Sending s) = refused 4 c
-tickIn c b (GoOffered store) = refused 4 c
-tickIn c b (DataAwaited store) = refused 4 c
-tickIn c b (ResultAwaited operation store) = refused 4 c
-tickIn c b (EndOffered interrupt) = refused 4 c
+tickIn c b (Collecting s) = pick (eqb (s .length) 0) (carried (idleTick b s)) (refused notIdle c)
+tickIn c b (AckOffered s) = refused notIdle c
+tickIn c b (Sending s) = refused notIdle c
+tickIn c b (GoOffered store) = refused notIdle c
+tickIn c b (DataAwaited store) = refused notIdle c
+tickIn c b (ResultAwaited operation store) = refused notIdle c
+tickIn c b (EndOffered interrupt) = refused notIdle c
 
--- Each call first looks at the state: "1 a field out of range".
+-- "1 a field out of range"
+abbrev pub isDamaged : Controller → Bool
+isDamaged c = not (isSound (c .body) (c .phase))
+
+-- Each call first looks at the state.
 unfoldable pub byteCall : Controller → ℕ → Reply
-byteCall c byte = pick (sound (c .body) (c .phase)) (byteIn c (c .body) byte (c .phase)) (refused 1 c)
+byteCall c byte = pick (isSound (c .body) (c .phase)) (byteIn c (c .body) byte (c .phase)) (refused stateDamaged c)
 
 -- the link is broken
 unfoldable pub brokenCall : Controller → Reply
-brokenCall c = pick (sound (c .body) (c .phase)) (brokenIn c (c .body) (c .phase)) (refused 1 c)
+brokenCall c = pick (isSound (c .body) (c .phase)) (brokenIn c (c .body) (c .phase)) (refused stateDamaged c)
 
 -- a tick
 unfoldable pub tickCall : Controller → Reply
-tickCall c = pick (sound (c .body) (c .phase)) (tickIn c (c .body) (c .phase)) (refused 1 c)
+tickCall c = pick (isSound (c .body) (c .phase)) (tickIn c (c .body) (c .phase)) (refused stateDamaged c)
 
 -- "Then taken carries it out": a load or a store, by its lead
-unfoldable pub takenBody : Body → Turn
-takenBody b = pick (eqb (b .collected .c0) 0x62) (loaded b (b .collected .c1)) (carriedOut b (storeOf (b .collected)))
+unfoldable pub carryOutString : Body → Collected → Turn
+carryOutString b s = pick (eqb (s .c0) loadLead) (carryOutLoad b (s .c1)) (carryOut b (storeOf s))
 
 -- "2 .. taken with no ACK offered"
 unfoldable pub takenIn : Controller → Body → Phase → Reply
-takenIn c b AckOffered = carried (takenBody b)
-takenIn c b Collecting = refused 2 c
-takenIn c b (Sending s) = refused 2 c
-takenIn c b (GoOffered store) = refused 2 c
-takenIn c b (DataAwaited store) = refused 2 c
-takenIn c b (ResultAwaited operation store) = refused 2 c
-takenIn c b (EndOffered interrupt) = refused 2 c
+takenIn c b (AckOffered s) = carried (carryOutString b s)
+takenIn c b (Collecting s) = refused linkNotAwaited c
+takenIn c b (Sending s) = refused linkNotAwaited c
+takenIn c b (GoOffered store) = refused linkNotAwaited c
+takenIn c b (DataAwaited store) = refused linkNotAwaited c
+takenIn c b (ResultAwaited operation store) = refused linkNotAwaited c
+takenIn c b (EndOffered interrupt) = refused linkNotAwaited c
 
 -- the ACK is taken
 unfoldable pub takenCall : Controller → Reply
-takenCall c = pick (sound (c .body) (c .phase)) (takenIn c (c .body) (c .phase)) (refused 1 c)
+takenCall c = pick (isSound (c .body) (c .phase)) (takenIn c (c .body) (c .phase)) (refused stateDamaged c)
 
 -- a report is noted, in any phase
-unfoldable pub reportNoted : Controller → ℕ → ℕ → Turn
-reportNoted c drive report =
-    record {
-      body = setDrives (c .body) (withDrive (c .body .drives) drive (reported (driveOf (c .body .drives) drive) report));
-      phase = c .phase;
-      action = Nothing;
-    }
+abbrev pub reportNoted : Controller → ℕ → ℕ → Turn
+reportNoted c drive report = record { body = noteReport (c .body) drive report; phase = c .phase; action = Nothing }
 
 -- "5 drive above 3"
 unfoldable pub reportCall : Controller → ℕ → ℕ → Reply
 reportCall c drive report =
-    pick (sound (c .body) (c .phase)) (pick (leb 4 drive) (refused 5 c) (carried (reportNoted c drive report))) (refused 1 c)
+    pick (isSound (c .body) (c .phase)) (pick (leb 4 drive) (refused noSuchDrive c) (carried (reportNoted c drive report))) (refused stateDamaged c)
 
 -- "Reset, by call or store": the call
 unfoldable pub resetCall : Controller → Reply
-resetCall c = pick (sound (c .body) (c .phase)) (carried (resetOf (c .body))) (refused 1 c)
+resetCall c = pick (isSound (c .body) (c .phase)) (carried (resetState (c .body))) (refused stateDamaged c)
 
 -- a refused data or result call: "state and buffers unchanged"
 abbrev pub unchanged : ℕ → Controller → List ℕ → List ℕ → Answer
@@ -121,17 +123,17 @@ dataFor c b drive store host space check =
 
 -- "3 data or result not awaited"
 unfoldable pub dataIn : Controller → Body → List ℕ → List ℕ → List ℕ → Phase → Answer
-dataIn c b host space check (DataAwaited store) = dataFor c b (current b) store host space check
-dataIn c b host space check Collecting = unchanged 3 c space check
-dataIn c b host space check AckOffered = unchanged 3 c space check
-dataIn c b host space check (Sending s) = unchanged 3 c space check
-dataIn c b host space check (GoOffered store) = unchanged 3 c space check
-dataIn c b host space check (ResultAwaited operation store) = unchanged 3 c space check
-dataIn c b host space check (EndOffered interrupt) = unchanged 3 c space check
+dataIn c b host space check (DataAwaited store) = dataFor c b (currentDrive b) store host space check
+dataIn c b host space check (Collecting s) = unchanged transferNotAwaited c space check
+dataIn c b host space check (AckOffered s) = unchanged transferNotAwaited c space check
+dataIn c b host space check (Sending s) = unchanged transferNotAwaited c space check
+dataIn c b host space check (GoOffered store) = unchanged transferNotAwaited c space check
+dataIn c b host space check (ResultAwaited operation store) = unchanged transferNotAwaited c space check
+dataIn c b host space check (EndOffered interrupt) = unchanged transferNotAwaited c space check
 
 -- the data call, with the space it is lent and the check store
 unfoldable pub dataCall : Controller → List ℕ → List ℕ → List ℕ → Answer
-dataCall c host space check = pick (sound (c .body) (c .phase)) (dataIn c (c .body) host space check (c .phase)) (unchanged 1 c space check)
+dataCall c host space check = pick (isSound (c .body) (c .phase)) (dataIn c (c .body) host space check (c .phase)) (unchanged stateDamaged c space check)
 
 -- the result of an operation, by the drive that carried it out
 unfoldable pub resultFor : Controller → Body → Drive → Operation → Store → Result → List ℕ → List ℕ → Answer
@@ -141,17 +143,17 @@ resultFor c b drive operation store r space check =
 
 -- "3 data or result not awaited"
 unfoldable pub resultIn : Controller → Body → Result → List ℕ → List ℕ → Phase → Answer
-resultIn c b r space check (ResultAwaited operation store) = resultFor c b (current b) operation store r space check
-resultIn c b r space check Collecting = unchanged 3 c space check
-resultIn c b r space check AckOffered = unchanged 3 c space check
-resultIn c b r space check (Sending s) = unchanged 3 c space check
-resultIn c b r space check (GoOffered store) = unchanged 3 c space check
-resultIn c b r space check (DataAwaited store) = unchanged 3 c space check
-resultIn c b r space check (EndOffered interrupt) = unchanged 3 c space check
+resultIn c b r space check (ResultAwaited operation store) = resultFor c b (currentDrive b) operation store r space check
+resultIn c b r space check (Collecting s) = unchanged transferNotAwaited c space check
+resultIn c b r space check (AckOffered s) = unchanged transferNotAwaited c space check
+resultIn c b r space check (Sending s) = unchanged transferNotAwaited c space check
+resultIn c b r space check (GoOffered store) = unchanged transferNotAwaited c space check
+resultIn c b r space check (DataAwaited store) = unchanged transferNotAwaited c space check
+resultIn c b r space check (EndOffered interrupt) = unchanged transferNotAwaited c space check
 
 -- the result, with the space it is lent and the check store
 unfoldable pub resultCall : Controller → Result → List ℕ → List ℕ → Answer
-resultCall c r space check = pick (sound (c .body) (c .phase)) (resultIn c (c .body) r space check (c .phase)) (unchanged 1 c space check)
+resultCall c r space check = pick (isSound (c .body) (c .phase)) (resultIn c (c .body) r space check (c .phase)) (unchanged stateDamaged c space check)
 
 -- ---- a step and a run
 

@@ -12,20 +12,19 @@ use Rattle.operations.specs.declared.operation.Operation.{Operation}
 use Rattle.operations.specs.declared.decode.Decoded.{Decoded}
 use Rattle.operations.specs.declared.decode.Decoded.the-variants.{Reset, Code, Track, Enable, Density, Operate}
 use Rattle.operations.specs.declared.store.Store.{Store}
-use Rattle.operations.specs.Operation.{moveOf, orderByte}
-use Rattle.operations.specs.Store.{namesDrive, named, asked}
+use Rattle.operations.specs.Operation.{moveOf, orderByte, movesTape}
+use Rattle.operations.specs.Store.{namesDrive, namedDrive, askedFor}
 use Rattle.operations.specs.Test.{mayMove}
 use Rattle.status.specs.declared.strings.Six.{Six}
+use Rattle.status.specs.Drives.{positionUnknown}
 use Rattle.status.specs.Strings.{orderOf}
 use Rattle.link.specs.declared.state.Action.{Action}
 use Rattle.link.specs.declared.state.Action.the-variants.{Nothing, Byte, Text, Order}
-use Rattle.transfers.specs.Results.{movesTape}
 use Rattle.controller.specs.declared.controller.Controller.{Controller}
 use Rattle.controller.specs.Controller.{fresh}
-use Rattle.controller.specs.Stores.{storeOf}
 use Rattle.controller.specs.Machine.{Call, Exchange}
 use Rattle.controller.specs.Machine.Call.{byte, taken, broken, report, hostData, result, tick, reset}
-use Rattle.controller.specs.Lists.{notRefused, holdsStore}
+use Rattle.controller.specs.Lists.{notRefused, holdsStore, heldStore}
 
 -- ---- the settings that a list makes
 
@@ -44,7 +43,7 @@ resetSettings reports = record { selected = 0; report = reports; track = λ d. 0
 
 -- "Fresh: report 4 .. for each"
 abbrev pub freshSettings : Settings
-freshSettings = resetSettings (λ d. 4)
+freshSettings = resetSettings (λ d. positionUnknown)
 
 -- a drive selected, and an order pending
 abbrev pub withPending : Settings → ℕ → List Six → Settings
@@ -74,12 +73,12 @@ askedNoted a d store (Operate operation) = withPending a d (orderAsked a d opera
 -- "a named drive above 3 is code 01 with selection unchanged, else select it"; a store that names none is for the drive selected before
 unfoldable pub storeNoted : Settings → Store → Settings
 storeNoted a store =
-    pick (namesDrive store && leb 4 (named store)) (withPending a (a .selected) [])
-    (askedNoted a (pick (namesDrive store) (named store) (a .selected)) store (asked store))
+    pick (namesDrive store && leb 4 (namedDrive store)) (withPending a (a .selected) [])
+    (askedNoted a (pick (namesDrive store) (namedDrive store) (a .selected)) store (askedFor store))
 
 -- a call not refused
 unfoldable pub callNoted : Settings → Controller → Call → Settings
-callNoted a c taken = pick (holdsStore c) (storeNoted a (storeOf (c .body .collected))) a
+callNoted a c taken = pick (holdsStore c) (storeNoted a (heldStore c)) a
 callNoted a c (report drive r) =
     record { selected = a .selected; report = entered (a .report) drive r; track = a .track; density = a .density; pending = a .pending }
 callNoted a c reset = resetSettings (a .report)

@@ -21,19 +21,19 @@ use Rattle.link.specs.declared.state.Phase.the-variants.{Collecting, AckOffered
 use Rattle.controller.specs.declared.controller.Controller.{Controller}
 use Rattle.link.specs.declared.state.Action.{Action}
 use Rattle.link.specs.declared.state.Action.the-variants.{Nothing, Byte, Text, Order}
-use Rattle.operations.specs.Store.{namesDrive, named, asked}
+use Rattle.operations.specs.Store.{namesDrive, namedDrive, askedFor}
+use Rattle.link.specs.Bytes.{ack}
 use Rattle.controller.specs.Controller.{fresh}
-use Rattle.controller.specs.Stores.{storeOf}
 use Rattle.transfers.specs.Results.{Result}
 use Rattle.controller.specs.Machine.{Call, Exchange}
 use Rattle.controller.specs.Machine.Call.{byte, taken, broken, report, hostData, result, tick, reset}
-use Rattle.controller.specs.Lists.{notRefused, holdsStore, carriesOut, lastStore, noStore, asksFor, after}
+use Rattle.controller.specs.Lists.{notRefused, holdsStore, heldStore, carriesOut, lastStore, noStore, asksFor, after}
 
 -- ---- the history of a drive
 
 -- a store that names this drive, "bit 4 names a drive, 5-7 its number"
 unfoldable pub isOf : ℕ → Store → Bool
-isOf d store = namesDrive store && eqb (named store) d
+isOf d store = namesDrive store && eqb (namedDrive store) d
 
 -- "its history ..: its reports not refused; stores carried out that name it (operation and operand); of these each GO answer (yes or no),
 -- data call (host bytes) and result (code, mark flag, late flags, image, marks, length of host space)"
@@ -51,8 +51,8 @@ storeEvent store = storeCame (store .address / 16 % 8) (store .first) (store .se
 -- where a byte or a broken link answers GO
 unfoldable pub awaitsGo : Phase → Bool
 awaitsGo (GoOffered store) = true
-awaitsGo Collecting = false
-awaitsGo AckOffered = false
+awaitsGo (Collecting s) = false
+awaitsGo (AckOffered s) = false
 awaitsGo (Sending s) = false
 awaitsGo (DataAwaited store) = false
 awaitsGo (ResultAwaited operation store) = false
@@ -62,7 +62,7 @@ awaitsGo (EndOffered interrupt) = false
 unfoldable pub eventOf : ℕ → Store → Controller → Call → List Event
 eventOf d store c (report drive r) = pick (eqb drive d) (reportCame r ∷ []) []
 eventOf d store c taken = pick (holdsStore c && isOf d store) (storeEvent store ∷ []) []
-eventOf d store c (byte b) = pick (awaitsGo (c .phase) && isOf d store) (goAnswered (eqb b 0x06) ∷ []) []
+eventOf d store c (byte b) = pick (awaitsGo (c .phase) && isOf d store) (goAnswered (eqb b ack) ∷ []) []
 eventOf d store c broken = pick (awaitsGo (c .phase) && isOf d store) (goAnswered false ∷ []) []
 eventOf d store c (hostData host space check) = pick (isOf d store) (dataCame host ∷ []) []
 eventOf d store c (result r space check) = pick (isOf d store) (resultCame r (length space) ∷ []) []
@@ -105,7 +105,7 @@ bytesGiven x = take (x .answer .bytes) (x .answer .space)
 -- the operations that deliver, reads alone
 unfoldable pub transferOf : ℕ → Store → List ℕ → Call → List Output
 transferOf d store bytes (hostData host space check) = pick (isOf d store) (image bytes ∷ []) []
-transferOf d store bytes (result r space check) = pick (isOf d store && asksFor Read (asked store)) (delivery bytes ∷ []) []
+transferOf d store bytes (result r space check) = pick (isOf d store && asksFor Read (askedFor store)) (delivery bytes ∷ []) []
 transferOf d store bytes (byte b) = []
 transferOf d store bytes taken = []
 transferOf d store bytes broken = []
@@ -139,7 +139,7 @@ asksReset (Operate operation) = false
 
 -- of a store: it is carried out as a reset
 unfoldable pub resets : Store → Bool
-resets store = not (leb 4 (named store)) && asksReset (asked store)
+resets store = not (leb 4 (namedDrive store)) && asksReset (askedFor store)
 
 -- the call reset
 unfoldable pub isReset : Call → Bool
@@ -155,7 +155,7 @@ isReset tick = false
 -- every store carried out names its drive, and neither a store nor a call resets the controller
 unfoldable pub admits : Controller → Exchange → Bool
 admits c x =
-    pick (carriesOut c x) (namesDrive (storeOf (c .body .collected)) && not (resets (storeOf (c .body .collected))))
+    pick (carriesOut c x) (namesDrive (heldStore c) && not (resets (heldStore c)))
     (not (notRefused x && isReset (x .call)))
 
 -- of every call of a list

@@ -4,6 +4,7 @@ use link::state::Action;
 use link::state::Body;
 use link::state::Phase;
 use link::state::Turn;
+use link::state::nothing_collected;
 use status::drives::fresh_drives;
 ghost use mathlib.Core.Path.{_≡_};
 ghost use Rattle.controller.specs.Controller.{fresh, carried, refused};
@@ -31,9 +32,10 @@ pub fn fresh_controller() -> Controller
     ensures { λ r. ⌜ r ≡ fresh ⌝ }
 {
     let body = start_body(fresh_drives());
+    let string = nothing_collected();
     Controller {
         body,
-        phase: Phase::Collecting,
+        phase: Phase::Collecting(string),
     }
 }
 
@@ -52,9 +54,10 @@ pub fn carried(turn: Turn) -> Reply
 }
 
 // A call that is refused.
-pub fn refuse(number: u32, c: Controller) -> Reply
+pub fn refused(number: u32, c: Controller) -> Reply
     ensures { λ r. ⌜ r ≡ refused number c ⌝ }
 {
+    // the state goes back as it came
     Reply {
         controller: c,
         action: Action::Nothing,

@@ -1,5 +1,5 @@
 // The controller: the state, what stores ask for, and the calls.
 pub mod controller;
-pub mod lent;
-pub mod machine;
+pub mod link_calls;
 pub mod stores;
+pub mod transfer_calls;

@@ -14,6 +14,7 @@ use lib.Seq.{drop-cons, take-at}
 use Rattle.common.specs.Given.{given}
 use Rattle.common.proofs.PickLaws.{both-hold}
 use borrow.Author.Tests.{le-leb, lt-leb, eqb-true, leb-true}
+use Rattle.lines.specs.Limits.{fieldCap}
 use Rattle.lines.specs.Digits.{digitValue, isDigit, allDigits, byteValue, isByte, isBytes, bytesOf, decimalFrom, decimalOf, isDecimal}
 
 -- ---- tests
@@ -77,31 +78,31 @@ bytes-given s space = take-at (bytesOf s) (drop (length (bytesOf s)) space) (len
 -- ---- decimals
 
 -- a number that is cut at the most stays there
-cut-twice : (v digit : ℕ) → min (10 * min v 65535 + digit) 65535 ≡ min (10 * v + digit) 65535
+cut-twice : (v digit : ℕ) → min (10 * min v fieldCap + digit) fieldCap ≡ min (10 * v + digit) fieldCap
 cut-twice v digit = omega arith
 
-capped-from : (value : ℕ) (s : List ℕ) → min (decimalFrom (min value 65535) s) 65535 ≡ min (decimalFrom value s) 65535
+capped-from : (value : ℕ) (s : List ℕ) → min (decimalFrom (min value fieldCap) s) fieldCap ≡ min (decimalFrom value s) fieldCap
 unfolding decimalFrom
 capped-from value [] = omega arith
 capped-from value (d ∷ s) =
-    sym (capped-from (10 * min value 65535 + digitValue d) s)
-    ∙ ap (λ (x : ℕ). min (decimalFrom x s) 65535) (cut-twice value (digitValue d))
+    sym (capped-from (10 * min value fieldCap + digitValue d) s)
+    ∙ ap (λ (x : ℕ). min (decimalFrom x s) fieldCap) (cut-twice value (digitValue d))
     ∙ capped-from (10 * value + digitValue d) s
 
 -- one digit more
 pub decimal-next : (s : List ℕ) (at value : ℕ) → at < length s
-    → min (decimalFrom (min (10 * value + digitValue (getD s at 0)) 65535) (drop (at + 1) s)) 65535 ≡ min (decimalFrom value (drop at s)) 65535
+    → min (decimalFrom (min (10 * value + digitValue (getD s at 0)) fieldCap) (drop (at + 1) s)) fieldCap ≡ min (decimalFrom value (drop at s)) fieldCap
 unfolding decimalFrom
 decimal-next s at value below = rw (add-one, drop-cons s at 0) (capped-from (10 * value + digitValue (getD s at 0)) (drop (suc at) s))
 
 -- a limit below the most sees no cut
-pub limit-capped : (x limit : ℕ) → limit < 65535 → leb (min x 65535) limit ≡ leb x limit
+pub limit-capped : (x limit : ℕ) → limit < fieldCap → leb (min x fieldCap) limit ≡ leb x limit
 limit-capped x limit h =
     elim (decLe x limit) [
-      | yes within ↦ let fits : min x 65535 ≤ limit = omega arith in le-leb _ _ fits ∙ sym (le-leb _ _ within)
+      | yes within ↦ let fits : min x fieldCap ≤ limit = omega arith in le-leb _ _ fits ∙ sym (le-leb _ _ within)
       | no over ↦
           let past : limit < x = lt-of-not-le over in
-          let cut : limit < min x 65535 = omega arith in
+          let cut : limit < min x fieldCap = omega arith in
           lt-leb _ _ cut ∙ sym (lt-leb _ _ past)
     ]
 

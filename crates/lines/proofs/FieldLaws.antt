@@ -10,15 +10,16 @@ use lib.Dec.{eqb}
 use lib.ListN.{length, getD, take, drop, drop-of-length-le}
 use lib.Seq.{drop-cons, take-suc, append-snoc}
 use Rattle.common.specs.Pick.{pick}
-use Rattle.lines.specs.Line.{fieldOf, afterField, afterFields, resultFields, resultLine}
+use Rattle.lines.specs.Characters.{comma}
+use Rattle.lines.specs.Line.{fieldOf, fieldEnd, after, afterField, afterFields, fieldsLine, resultLine}
 
 -- a comma ends the field
-pub field-stop : (s : List ℕ) (at : ℕ) → at < length s → eqb (getD s at 0) 44 ≡ true → take at s ≡ take at s ++ fieldOf (drop at s)
+pub field-stop : (s : List ℕ) (at : ℕ) → at < length s → eqb (getD s at 0) comma ≡ true → take at s ≡ take at s ++ fieldOf (drop at s)
 unfolding fieldOf pick
 field-stop s at below comma = rw (drop-cons s at 0, comma) (sym (append-nil (take at s)))
 
 -- any other byte is a byte of the field
-pub field-pass : (s : List ℕ) (at : ℕ) → at < length s → eqb (getD s at 0) 44 ≡ false
+pub field-pass : (s : List ℕ) (at : ℕ) → at < length s → eqb (getD s at 0) comma ≡ false
     → take (at + 1) s ++ fieldOf (drop (at + 1) s) ≡ take at s ++ fieldOf (drop at s)
 unfolding fieldOf pick
 field-pass s at below other =
@@ -43,37 +44,54 @@ within b s false h = omega arith
 pub field-within : (s : List ℕ) → length (fieldOf s) ≤ length s
 unfolding fieldOf
 field-within [] = omega arith
-field-within (b ∷ s) = within b s (eqb b 44) (field-within s)
+field-within (b ∷ s) = within b s (eqb b comma) (field-within s)
+
+-- it is what stands at the start, up to its end
+front : (b : ℕ) (s : List ℕ) (ends : Bool)
+    → take (fieldEnd s) s ≡ fieldOf s
+    → take (length (pick ends [] (b ∷ fieldOf s))) (b ∷ s) ≡ pick ends [] (b ∷ fieldOf s)
+unfolding pick
+front b s true h = refl
+front b s false h = ap (λ (x : List ℕ). b ∷ x) h
+
+pub field-front : (s : List ℕ) → take (fieldEnd s) s ≡ fieldOf s
+unfolding fieldOf
+field-front [] = refl
+field-front (b ∷ s) = front b s (eqb b comma) (field-front s)
 
 pub field-fits : (s : List ℕ) {f : List ℕ} → f ≡ fieldOf s → length f ≤ length s
 field-fits s e = rw e (field-within s)
 
 -- what comes after one field, and after one field more
-pub after-is : (s f : List ℕ) {a : List ℕ} → f ≡ fieldOf s → a ≡ drop (length f + 1) s → a ≡ afterField s
+pub after-is : (s f : List ℕ) {a : List ℕ} → f ≡ fieldOf s → a ≡ after s (length f) → a ≡ afterField s
 unfolding afterField
-after-is s f e d = d ∙ ap (λ (x : List ℕ). drop (length x + 1) s) e
+after-is s f e d = d ∙ ap (λ (x : List ℕ). after s (length x)) e
 
 start : (s : List ℕ) → s ≡ afterFields 0 s
 unfolding afterFields
 start s = refl
 
-after-next : (k : ℕ) (s t f : List ℕ) {a : List ℕ} → t ≡ afterFields k s → f ≡ fieldOf t → a ≡ drop (length f + 1) t → a ≡ afterFields (suc k) s
+after-next : (k : ℕ) (s t f : List ℕ) {a : List ℕ}
+    → t ≡ afterFields k s
+    → f ≡ fieldOf t
+    → a ≡ after t (length f)
+    → a ≡ afterFields (suc k) s
 unfolding afterFields
 after-next k s t f so e d = after-is t f e d ∙ ap afterField so
 
 -- a result's fields, cut off one after the other
 pub result-cut : (s code s1 mark s2 late s3 image s4 marks space : List ℕ)
     → code ≡ fieldOf s
-    → s1 ≡ drop (length code + 1) s
+    → s1 ≡ after s (length code)
     → mark ≡ fieldOf s1
-    → s2 ≡ drop (length mark + 1) s1
+    → s2 ≡ after s1 (length mark)
     → late ≡ fieldOf s2
-    → s3 ≡ drop (length late + 1) s2
+    → s3 ≡ after s2 (length late)
     → image ≡ fieldOf s3
-    → s4 ≡ drop (length image + 1) s3
+    → s4 ≡ after s3 (length image)
     → marks ≡ fieldOf s4
-    → space ≡ drop (length marks + 1) s4
-    → resultFields code mark late image marks space ≡ resultLine s
+    → space ≡ after s4 (length marks)
+    → fieldsLine code mark late image marks space ≡ resultLine s
 unfolding resultLine
 result-cut s code s1 mark s2 late s3 image s4 marks space f1 d1 f2 d2 f3 d3 f4 d4 f5 d5 =
     let none : s ≡ afterFields 0 s = start s in

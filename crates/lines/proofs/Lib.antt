@@ -1,5 +1,5 @@
 pub mod DigitLaws
 pub mod FieldLaws
 pub mod TextLaws
-pub mod SessionLaws
+pub mod PlayLaws
 pub mod WrongAnswers

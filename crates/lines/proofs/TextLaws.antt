@@ -6,6 +6,7 @@ use native.Mathlib.Numerals.{add-one}
 use mathlib.Core.List.{List, [], _∷_, _++_, append-assoc}
 use lib.ListN.{length, getD, take, set}
 use lib.Seq.{take-suc, take-suc-set}
+use Rattle.lines.specs.Characters.{comma, lineFeed}
 use Rattle.lines.specs.Print.{byteText, bytesText}
 
 bytes-text-join : (a b : List ℕ) → bytesText (a ++ b) ≡ bytesText a ++ bytesText b
@@ -33,24 +34,18 @@ after-text c x y p q = p ∙ ap (λ (t : List ℕ). t ++ y) q ∙ append-assoc c
 -- the first three fields, each with its comma, put one after the other
 pub head-text : (number bytes : List ℕ) (letter : ℕ) {t1 t2 t3 t4 t5 t6 : List ℕ}
     → t1 ≡ number
-    → t2 ≡ t1 ++ (44 ∷ [])
+    → t2 ≡ t1 ++ (comma ∷ [])
     → t3 ≡ t2 ++ (letter ∷ [])
-    → t4 ≡ t3 ++ (44 ∷ [])
+    → t4 ≡ t3 ++ (comma ∷ [])
     → t5 ≡ t4 ++ bytes
-    → t6 ≡ t5 ++ (44 ∷ [])
-    → t6 ≡ number ++ (44 ∷ letter ∷ 44 ∷ (bytes ++ (44 ∷ [])))
+    → t6 ≡ t5 ++ (comma ∷ [])
+    → t6 ≡ number ++ (comma ∷ letter ∷ comma ∷ (bytes ++ (comma ∷ [])))
 head-text number bytes letter e1 e2 e3 e4 e5 e6 = simp (e6, e5, e4, e3, e2, e1, append-assoc)
 
 -- the last field and the line's end
-pub answer-text : (number bytes last : List ℕ) (letter : ℕ) {t1 t2 t3 : List ℕ}
-    → t1 ≡ number ++ (44 ∷ letter ∷ 44 ∷ (bytes ++ (44 ∷ [])))
+pub answer-text : (head last : List ℕ) {t1 t2 t3 : List ℕ}
+    → t1 ≡ head
     → t2 ≡ t1 ++ last
-    → t3 ≡ t2 ++ (10 ∷ [])
-    → t3 ≡ number ++ (44 ∷ letter ∷ 44 ∷ (bytes ++ (44 ∷ (last ++ (10 ∷ [])))))
-answer-text number bytes last letter e1 e2 e3 = simp (e3, e2, e1, append-assoc)
-
-pub reply-text : (number bytes : List ℕ) (letter : ℕ) {t1 t2 : List ℕ}
-    → t1 ≡ number ++ (44 ∷ letter ∷ 44 ∷ (bytes ++ (44 ∷ [])))
-    → t2 ≡ t1 ++ (10 ∷ [])
-    → t2 ≡ number ++ (44 ∷ letter ∷ 44 ∷ (bytes ++ (44 ∷ 10 ∷ [])))
-reply-text number bytes letter e1 e2 = simp (e2, e1, append-assoc)
+    → t3 ≡ t2 ++ (lineFeed ∷ [])
+    → t3 ≡ head ++ (last ++ (lineFeed ∷ []))
+answer-text head last e1 e2 e3 = simp (e3, e2, e1, append-assoc)

@@ -1,20 +1,22 @@
 -- Digits in text, and the numbers and bytes that they spell (document 01, Loads, restorer, session: "bytes and codes in hexadecimal. Each of
 -- these has two digits, letters capital. Drive, late .. mark .. and space are decimal.").
 -- Assumes nothing.
-use Prim.Native.Nat.{ℕ, _+_, _*_, _%_}
+use Prim.Native.Nat.{ℕ, _+_, _*_, _%_, min}
 use mathlib.Core.Bool.{Bool, true, not, _&&_, _||_}
 use mathlib.Core.List.{List, [], _∷_}
 use lib.Dec.{leb, ltb, eqb}
 use lib.ListN.{length, getD}
 use Rattle.common.specs.Pick.{pick}
+use Rattle.lines.specs.Limits.{fieldCap}
+use Rattle.lines.specs.Characters.{zeroDigit, nineDigit, tenDigit, fifteenDigit}
 
--- the value of a digit: 0-9 are #30-#39, A-F are #41-#46
+-- the value of a digit: 0-9 are #30-#39, A-F are #41-#46, so a letter has 9 more than its low half
 unfoldable pub digitValue : ℕ → ℕ
-digitValue d = pick (ltb d 58) (d % 16) ((d % 16 + 9) % 16)
+digitValue d = pick (leb d nineDigit) (d % 16) ((d % 16 + 9) % 16)
 
 -- a digit of a base up to 16: "letters capital"
 unfoldable pub isDigit : ℕ → ℕ → Bool
-isDigit base d = ((leb 48 d && leb d 57) || (leb 65 d && leb d 70)) && ltb (digitValue d) base
+isDigit base d = ((leb zeroDigit d && leb d nineDigit) || (leb tenDigit d && leb d fifteenDigit)) && ltb (digitValue d) base
 
 -- nothing but digits
 unfoldable pub allDigits : ℕ → List ℕ → Bool
@@ -55,6 +57,10 @@ decimalFrom value (d ∷ s) = decimalFrom (10 * value + digitValue d) s
 -- the value of a decimal
 unfoldable pub decimalOf : List ℕ → ℕ
 decimalOf s = decimalFrom 0 s
+
+-- the same, as far as the code counts
+abbrev pub cappedDecimal : List ℕ → ℕ
+cappedDecimal s = min (decimalOf s) fieldCap
 
 -- a field of one decimal
 unfoldable pub isDecimal : ℕ → List ℕ → Bool

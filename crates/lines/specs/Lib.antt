@@ -1,4 +1,6 @@
+pub mod Limits
+pub mod Characters
 pub mod Digits
 pub mod Line
 pub mod Print
-pub mod Session
+pub mod Play

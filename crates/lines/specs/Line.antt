@@ -8,9 +8,15 @@ use mathlib.Core.List.{List, [], _∷_}
 use lib.Dec.{ltb, eqb}
 use lib.ListN.{length, take, drop, getD}
 use Rattle.common.specs.Pick.{pick}
+use Rattle.lines.specs.Limits.{hostLimit, imageLimit, marksLimit, byteLimit, flagLimit}
+use Rattle.lines.specs.Characters.{comma, byteLetter, takenLetter, brokenLetter, reportLetter, dataLetter, resultLetter, tickLetter, resetLetter}
 use Rattle.lines.specs.Digits.{isByte, byteOf, isBytes, bytesOf, isDecimal, decimalOf}
 use Rattle.lines.specs.declared.line.Reading.{Reading}
-use Rattle.lines.specs.declared.line.Reading.the-variants.{Unreadable, Byte, Taken, Broken, Report, HostData, Result, Tick, Reset}
+use Rattle.lines.specs.declared.line.Reading.the-variants.{Unreadable, Readable}
+use Rattle.lines.specs.declared.line.Call.{Call}
+use Rattle.lines.specs.declared.line.Call.the-variants.{Plain, HostData, Result}
+use Rattle.lines.specs.declared.line.PlainCall.{PlainCall}
+use Rattle.lines.specs.declared.line.PlainCall.the-variants.{Byte, Taken, Broken, Report, Tick, Reset}
 
 -- "B,byte; T; X (broken); S,drive,byte; D,host; R,..; K; Z (reset)", or a line that is none of them
 pub data Line : Type 0 where
@@ -29,11 +35,19 @@ pub data Line : Type 0 where
 -- the first field
 unfoldable pub fieldOf : List ℕ → List ℕ
 fieldOf [] = []
-fieldOf (b ∷ s) = pick (eqb b 44) [] (b ∷ fieldOf s)
+fieldOf (b ∷ s) = pick (eqb b comma) [] (b ∷ fieldOf s)
+
+-- the place of its comma, or the end
+abbrev pub fieldEnd : List ℕ → ℕ
+fieldEnd s = length (fieldOf s)
+
+-- what comes after so many bytes and a comma
+abbrev pub after : List ℕ → ℕ → List ℕ
+after s count = drop (count + 1) s
 
 -- what comes after a field and its comma
 unfoldable pub afterField : List ℕ → List ℕ
-afterField s = drop (length (fieldOf s) + 1) s
+afterField s = after s (fieldEnd s)
 
 -- what comes after so many fields
 unfoldable pub afterFields : ℕ → List ℕ → List ℕ
@@ -45,7 +59,8 @@ afterFields (suc k) s = afterField (afterFields k s)
 -- "T; X (broken); .. K; Z (reset)"
 unfoldable pub bareLine : ℕ → Line
 bareLine letter =
-    pick (eqb letter 84) taken (pick (eqb letter 88) broken (pick (eqb letter 75) tick (pick (eqb letter 90) reset unreadable)))
+    pick (eqb letter takenLetter) taken
+    (pick (eqb letter brokenLetter) broken (pick (eqb letter tickLetter) tick (pick (eqb letter resetLetter) reset unreadable)))
 
 -- "B,byte"
 unfoldable pub byteLine : List ℕ → Line
@@ -54,50 +69,62 @@ byteLine s = pick (isByte s) (byte (byteOf s)) unreadable
 -- "S,drive,byte": "Drive .. 0-255"
 unfoldable pub reportLine : List ℕ → Line
 reportLine s =
-    pick (isDecimal 255 (fieldOf s) && isByte (afterField s)) (report (decimalOf (fieldOf s)) (byteOf (afterField s))) unreadable
+    pick (isDecimal byteLimit (fieldOf s) && isByte (afterField s)) (report (decimalOf (fieldOf s)) (byteOf (afterField s))) unreadable
 
 -- "D,host": "Host bytes and space go to 16,384"
 unfoldable pub dataLine : List ℕ → Line
-dataLine s = pick (isBytes 16384 s) (hostData (bytesOf s)) unreadable
+dataLine s = pick (isBytes hostLimit s) (hostData (bytesOf s)) unreadable
 
 -- "Drive, late (both 0-255), mark (0 or 1) and space are decimal. Host bytes and space go to 16,384, an image to 16,898 bytes, marks to 66"
-unfoldable pub resultFields : List ℕ → List ℕ → List ℕ → List ℕ → List ℕ → List ℕ → Line
-resultFields code mark late image marks space =
-    pick (isByte code && (isDecimal 1 mark && (isDecimal 255 late && (isBytes 16898 image && (isBytes 66 marks && isDecimal 16384 space)))))
+unfoldable pub fieldsLine : List ℕ → List ℕ → List ℕ → List ℕ → List ℕ → List ℕ → Line
+fieldsLine code mark late image marks space =
+    pick
+    (isByte code
+    && (isDecimal flagLimit mark
+    && (isDecimal byteLimit late && (isBytes imageLimit image && (isBytes marksLimit marks && isDecimal hostLimit space)))))
     (result (byteOf code) (eqb (decimalOf mark) 1) (decimalOf late) (bytesOf image) (bytesOf marks) (decimalOf space))
     unreadable
 
 -- "R,code,mark,late,image,marks,space"
 unfoldable pub resultLine : List ℕ → Line
 resultLine s =
-    resultFields (fieldOf s) (fieldOf (afterFields 1 s)) (fieldOf (afterFields 2 s)) (fieldOf (afterFields 3 s)) (fieldOf (afterFields 4 s)) (afterFields 5 s)
+    fieldsLine (fieldOf s) (fieldOf (afterFields 1 s)) (fieldOf (afterFields 2 s)) (fieldOf (afterFields 3 s)) (fieldOf (afterFields 4 s)) (afterFields 5 s)
 
 -- a letter and a comma, and what comes after them
 unfoldable pub callLine : ℕ → List ℕ → Line
 callLine letter s =
-    pick (eqb letter 66) (byteLine s)
-    (pick (eqb letter 83) (reportLine s) (pick (eqb letter 68) (dataLine s) (pick (eqb letter 82) (resultLine s) unreadable)))
+    pick (eqb letter byteLetter) (byteLine s)
+    (pick (eqb letter reportLetter) (reportLine s)
+    (pick (eqb letter dataLetter) (dataLine s) (pick (eqb letter resultLetter) (resultLine s) unreadable)))
 
 -- what a line says: one letter alone, or a letter with its fields
 unfoldable pub lineOf : List ℕ → Line
 lineOf line =
     pick (ltb (length line) 2) (pick (eqb (length line) 1) (bareLine (getD line 0 0)) unreadable)
-    (pick (eqb (getD line 1 0) 44) (callLine (getD line 0 0) (drop 2 line)) unreadable)
+    (pick (eqb (getD line 1 0) comma) (callLine (getD line 0 0) (drop 2 line)) unreadable)
 
 -- ---- what the code reads: a host string or an image stands in one buffer, marks in another
 
--- the line that was read, with what stands in the buffers
+-- a call that is lent nothing
+unfoldable pub plainLine : PlainCall → Line
+plainLine (Byte b) = byte b
+plainLine Taken = taken
+plainLine Broken = broken
+plainLine (Report drive b) = report drive b
+plainLine Tick = tick
+plainLine Reset = reset
+
+-- a call, with what stands in the buffers
+unfoldable pub callRead : Call → List ℕ → List ℕ → Line
+callRead (Plain call) bytes marks = plainLine call
+callRead (HostData count) bytes marks = hostData (take count bytes)
+callRead (Result f) bytes marks =
+    result (f .code) (f .mark) (f .late) (take (f .image) bytes) (take (f .marks) marks) (f .space)
+
+-- the line that was read
 unfoldable pub lineRead : Reading → List ℕ → List ℕ → Line
 lineRead Unreadable bytes marks = unreadable
-lineRead (Byte b) bytes marks = byte b
-lineRead Taken bytes marks = taken
-lineRead Broken bytes marks = broken
-lineRead (Report drive b) bytes marks = report drive b
-lineRead (HostData count) bytes marks = hostData (take count bytes)
-lineRead (Result code mark late imageCount markCount space) bytes marks =
-    result code mark late (take imageCount bytes) (take markCount marks) space
-lineRead Tick bytes marks = tick
-lineRead Reset bytes marks = reset
+lineRead (Readable call) bytes marks = callRead call bytes marks
 
 -- what the code reads, whatever stands in the buffers that it does not use
 abbrev pub ReadAs : Reading → Line → Type 0

@@ -1,20 +1,19 @@
 // Digits in text, and the numbers and bytes that they spell.
+use crate::limits::FIELD_CAP;
 use common::least;
 ghost use mathlib.Core.Path.{_≡_};
-ghost use Prim.Native.Nat.{_≤_, _<_, min, _/_};
+ghost use Prim.Native.Nat.{_≤_, _<_, _/_};
 ghost use mathlib.Core.Bool.{true};
 ghost use lib.ListN.{length};
 ghost use Rattle.common.specs.Given.{given};
-ghost use Rattle.lines.specs.Digits.{digitValue, isDigit, allDigits, byteValue, isByte, byteOf, isBytes, bytesOf, decimalOf, isDecimal};
+ghost use Rattle.lines.specs.Limits.{fieldCap};
+ghost use Rattle.lines.specs.Digits.{digitValue, isDigit, allDigits, byteValue, isByte, byteOf, isBytes, bytesOf, decimalOf, cappedDecimal, isDecimal};
 
-// Above every limit of a decimal. A longer number stays here.
-const MOST: usize = 65535;
-
-// The value of a digit.
+// The value of a digit: a letter has 9 more than its low half.
 fn digit_value(d: u8) -> u8
     ensures { λ r. ⌜ (r ≡ digitValue d) × (r < 16) ⌝ }
 {
-    if d < 58 {
+    if d <= b'9' {
         return d % 16;
     }
     (d % 16 + 9) % 16
@@ -25,7 +24,7 @@ fn is_digit(base: u8, d: u8) -> bool
     ensures { λ r. ⌜ r ≡ isDigit base d ⌝ }
 {
     let value = digit_value(d);
-    (((48 <= d) & (d <= 57)) | ((65 <= d) & (d <= 70))) & (value < base)
+    (((b'0' <= d) & (d <= b'9')) | ((b'A' <= d) & (d <= b'F'))) & (value < base)
 }
 
 // Whether every byte is.
@@ -70,7 +69,7 @@ pub fn byte_of(s: &[u8]) -> u8
 
 // Whether a field is a string of at most so many bytes.
 pub fn is_bytes(limit: usize, s: &[u8]) -> bool
-    requires { ⌜ limit ≤ 65535 ⌝ }
+    requires { ⌜ limit ≤ fieldCap ⌝ }
     ensures { λ r. ⌜ r ≡ isBytes limit (now (s .entry)) ⌝ }
 {
     let digits = all_digits(16, s);
@@ -79,7 +78,7 @@ pub fn is_bytes(limit: usize, s: &[u8]) -> bool
 }
 
 // Puts the bytes of such a field at the start of a space.
-pub fn put_bytes(s: &[u8], space: &mut [u8])
+pub fn put_bytes_of(s: &[u8], space: &mut [u8])
     requires { ⌜ length (now s) / 2 ≤ length (now space) ⌝ }
     ensures { λ _. ⌜ now (space .exit) ≡ given (bytesOf (now (s .entry))) (now (space .entry)) ⌝ }
 {
@@ -89,16 +88,16 @@ pub fn put_bytes(s: &[u8], space: &mut [u8])
     }
 }
 
-// The number that digits spell, or MOST where it is more.
+// The number that digits spell, or FIELD_CAP where it is more.
 fn capped_decimal(s: &[u8]) -> usize
-    ensures { λ r. ⌜ r ≡ min (decimalOf (now (s .entry))) 65535 ⌝ }
+    ensures { λ r. ⌜ r ≡ cappedDecimal (now (s .entry)) ⌝ }
 {
     let end = s.len();
     let mut value = 0;
     let mut at = 0;
     while at < end {
         let digit = digit_value(s[at]) as usize;
-        value = least(10 * value + digit, MOST);
+        value = least(10 * value + digit, FIELD_CAP);
         at += 1;
     }
     value
@@ -106,7 +105,7 @@ fn capped_decimal(s: &[u8]) -> usize
 
 // Whether a field is a decimal up to a limit.
 pub fn is_decimal(limit: usize, s: &[u8]) -> bool
-    requires { ⌜ limit < 65535 ⌝ }
+    requires { ⌜ limit < fieldCap ⌝ }
     ensures { λ r. ⌜ r ≡ isDecimal limit (now (s .entry)) ⌝ }
 {
     let digits = all_digits(10, s);
@@ -116,7 +115,7 @@ pub fn is_decimal(limit: usize, s: &[u8]) -> bool
 
 // The number of such a field.
 pub fn decimal_of(limit: usize, s: &[u8]) -> usize
-    requires { ⌜ limit < 65535 ⌝ }
+    requires { ⌜ limit < fieldCap ⌝ }
     requires { ⌜ isDecimal limit (now s) ≡ true ⌝ }
     ensures { λ r. ⌜ (r ≡ decimalOf (now (s .entry))) × (r ≤ limit) ⌝ }
 {

@@ -4,28 +4,55 @@ use crate::digits::decimal_of;
 use crate::digits::is_byte;
 use crate::digits::is_bytes;
 use crate::digits::is_decimal;
-use crate::digits::put_bytes;
+use crate::digits::put_bytes_of;
+use crate::limits::BYTE_LIMIT;
+use crate::limits::FLAG_LIMIT;
+use crate::limits::HOST_LIMIT;
+use crate::limits::IMAGE_LIMIT;
+use crate::limits::MARKS_LIMIT;
 ghost use mathlib.Core.Path.{_≡_};
-ghost use Prim.Native.Nat.{_+_, _≤_};
-ghost use lib.ListN.{length, take, drop};
-ghost use Rattle.lines.specs.Line.{fieldOf, bareLine, byteLine, reportLine, dataLine, resultFields, resultLine, callLine, lineOf, lineRead, ReadAs, ReadWith};
+ghost use Prim.Native.Nat.{_≤_};
+ghost use lib.ListN.{length};
+ghost use Rattle.lines.specs.Line.{fieldOf, fieldEnd, after};
+ghost use Rattle.lines.specs.Line.{bareLine, byteLine, reportLine, dataLine, fieldsLine, resultLine, callLine, lineOf};
+ghost use Rattle.lines.specs.Line.{lineRead, ReadAs, ReadWith};
 
-// A line that was read. A host string or an image stands in a lent buffer, and the marks in another; here are their lengths.
-pub enum Reading {
-    Unreadable,
+// A call that is lent nothing.
+pub enum PlainCall {
     Byte(u8),
     Taken,
     Broken,
     Report(u8, u8),
-    HostData(usize),
-    Result(u8, bool, u8, usize, usize, usize),
     Tick,
     Reset,
 }
 
+// The fields of a result. Its image stands in a lent buffer, and its marks in another; here are their lengths.
+pub struct ResultFields {
+    pub code: u8,
+    pub mark: bool,
+    pub late: u8,
+    pub image: usize,
+    pub marks: usize,
+    pub space: usize,
+}
+
+// A call. Host bytes stand in the buffer of an image; here is how many.
+pub enum Call {
+    Plain(PlainCall),
+    HostData(usize),
+    Result(ResultFields),
+}
+
+// A line that was read.
+pub enum Reading {
+    Unreadable,
+    Readable(Call),
+}
+
 // The place of the first comma, or the end.
 fn field_end(s: &[u8]) -> usize
-    ensures { λ r. ⌜ (take r (now (s .entry)) ≡ fieldOf (now (s .entry))) × (r ≤ length (now (s .entry))) ⌝ }
+    ensures { λ r. ⌜ r ≡ fieldEnd (now (s .entry)) ⌝ }
 {
     let end = s.len();
     let mut at = 0;
@@ -39,7 +66,7 @@ fn field_end(s: &[u8]) -> usize
 }
 
 // The first field.
-pub fn field(s: &[u8]) -> &[u8]
+fn field_of(s: &[u8]) -> &[u8]
     ensures { λ r. ⌜ now r ≡ fieldOf (now (s .entry)) ⌝ }
 {
     let end = field_end(s);
@@ -47,9 +74,9 @@ pub fn field(s: &[u8]) -> &[u8]
 }
 
 // What comes after a field of so many bytes and its comma.
-pub fn after(s: &[u8], count: usize) -> &[u8]
+fn after(s: &[u8], count: usize) -> &[u8]
     requires { ⌜ count ≤ length (now s) ⌝ }
-    ensures { λ r. ⌜ now r ≡ drop (count + 1) (now (s .entry)) ⌝ }
+    ensures { λ r. ⌜ now r ≡ after (now (s .entry)) count ⌝ }
 {
     if count == s.len() {
         return &s[count..];
@@ -63,10 +90,10 @@ fn read_bare(letter: u8) -> Reading
     ensures { λ r. ⌜ ReadAs r (bareLine letter) ⌝ }
 {
     match letter {
-        b'T' => Reading::Taken,
-        b'X' => Reading::Broken,
-        b'K' => Reading::Tick,
-        b'Z' => Reading::Reset,
+        b'T' => Reading::Readable(Call::Plain(PlainCall::Taken)),
+        b'X' => Reading::Readable(Call::Plain(PlainCall::Broken)),
+        b'K' => Reading::Readable(Call::Plain(PlainCall::Tick)),
+        b'Z' => Reading::Readable(Call::Plain(PlainCall::Reset)),
         _ => Reading::Unreadable,
     }
 }
@@ -77,7 +104,7 @@ fn read_byte(s: &[u8]) -> Reading
 {
     let readable = is_byte(s);
     if readable {
-        return Reading::Byte(byte_of(s));
+        return Reading::Readable(Call::Plain(PlainCall::Byte(byte_of(s))));
     }
     Reading::Unreadable
 }
@@ -86,25 +113,25 @@ fn read_byte(s: &[u8]) -> Reading
 fn read_report(s: &[u8]) -> Reading
     ensures { λ r. ⌜ ReadAs r (reportLine (now (s .entry))) ⌝ }
 {
-    let drive = field(s);
+    let drive = field_of(s);
     let report = after(s, drive.len());
-    let is_drive = is_decimal(255, drive);
+    let is_drive = is_decimal(BYTE_LIMIT, drive);
     let readable = is_drive & is_byte(report);
     if readable {
-        let number = decimal_of(255, drive) as u8;
-        return Reading::Report(number, byte_of(report));
+        let number = decimal_of(BYTE_LIMIT, drive) as u8;
+        return Reading::Readable(Call::Plain(PlainCall::Report(number, byte_of(report))));
     }
     Reading::Unreadable
 }
 
 // Host bytes.
-fn read_data(s: &[u8], bytes: &mut [u8; 16898]) -> Reading
+fn read_data(s: &[u8], bytes: &mut [u8; IMAGE_LIMIT]) -> Reading
     ensures { λ r. ⌜ ReadWith r (now (bytes .exit)) (dataLine (now (s .entry))) ⌝ }
 {
-    let readable = is_bytes(16384, s);
+    let readable = is_bytes(HOST_LIMIT, s);
     if readable {
-        put_bytes(s, bytes);
-        return Reading::HostData(s.len() / 2);
+        put_bytes_of(s, bytes);
+        return Reading::Readable(Call::HostData(s.len() / 2));
     }
     Reading::Unreadable
 }
@@ -117,55 +144,62 @@ fn read_fields(
     image: &[u8],
     errors: &[u8],
     space: &[u8],
-    bytes: &mut [u8; 16898],
-    marks: &mut [u8; 66],
+    bytes: &mut [u8; IMAGE_LIMIT],
+    marks: &mut [u8; MARKS_LIMIT],
 ) -> Reading
-    ensures { λ r. ⌜ lineRead r (now (bytes .exit)) (now (marks .exit)) ≡ resultFields (now (code .entry)) (now (mark .entry)) (now (late .entry)) (now (image .entry)) (now (errors .entry)) (now (space .entry)) ⌝ }
+    ensures { λ r. ⌜ lineRead r (now (bytes .exit)) (now (marks .exit))
+        ≡ fieldsLine (now (code .entry)) (now (mark .entry)) (now (late .entry)) (now (image .entry)) (now (errors .entry)) (now (space .entry)) ⌝ }
 {
     let is_code = is_byte(code);
-    let is_mark = is_decimal(1, mark);
-    let is_late = is_decimal(255, late);
-    let is_image = is_bytes(16898, image);
-    let is_errors = is_bytes(66, errors);
-    let is_space = is_decimal(16384, space);
+    let is_mark = is_decimal(FLAG_LIMIT, mark);
+    let is_late = is_decimal(BYTE_LIMIT, late);
+    let is_image = is_bytes(IMAGE_LIMIT, image);
+    let is_errors = is_bytes(MARKS_LIMIT, errors);
+    let is_space = is_decimal(HOST_LIMIT, space);
     let readable = is_code & (is_mark & (is_late & (is_image & (is_errors & is_space))));
     if readable {
-        put_bytes(image, bytes);
-        put_bytes(errors, marks);
-        let flag = decimal_of(1, mark) == 1;
-        let flags = decimal_of(255, late) as u8;
-        let room = decimal_of(16384, space);
-        return Reading::Result(
-            byte_of(code),
-            flag,
-            flags,
-            image.len() / 2,
-            errors.len() / 2,
-            room,
-        );
+        put_bytes_of(image, bytes);
+        put_bytes_of(errors, marks);
+        let flag = decimal_of(FLAG_LIMIT, mark) == 1;
+        let flags = decimal_of(BYTE_LIMIT, late) as u8;
+        let room = decimal_of(HOST_LIMIT, space);
+        let fields = ResultFields {
+            code: byte_of(code),
+            mark: flag,
+            late: flags,
+            image: image.len() / 2,
+            marks: errors.len() / 2,
+            space: room,
+        };
+        return Reading::Readable(Call::Result(fields));
     }
     Reading::Unreadable
 }
 
 // A result.
-fn read_result(s: &[u8], bytes: &mut [u8; 16898], marks: &mut [u8; 66]) -> Reading
+fn read_result(s: &[u8], bytes: &mut [u8; IMAGE_LIMIT], marks: &mut [u8; MARKS_LIMIT]) -> Reading
     ensures { λ r. ⌜ lineRead r (now (bytes .exit)) (now (marks .exit)) ≡ resultLine (now (s .entry)) ⌝ }
 {
-    let code = field(s);
+    let code = field_of(s);
     let s1 = after(s, code.len());
-    let mark = field(s1);
+    let mark = field_of(s1);
     let s2 = after(s1, mark.len());
-    let late = field(s2);
+    let late = field_of(s2);
     let s3 = after(s2, late.len());
-    let image = field(s3);
+    let image = field_of(s3);
     let s4 = after(s3, image.len());
-    let errors = field(s4);
+    let errors = field_of(s4);
     let space = after(s4, errors.len());
     read_fields(code, mark, late, image, errors, space, bytes, marks)
 }
 
 // A letter and a comma, and what comes after them.
-fn read_call(letter: u8, s: &[u8], bytes: &mut [u8; 16898], marks: &mut [u8; 66]) -> Reading
+fn read_call(
+    letter: u8,
+    s: &[u8],
+    bytes: &mut [u8; IMAGE_LIMIT],
+    marks: &mut [u8; MARKS_LIMIT],
+) -> Reading
     ensures { λ r. ⌜ lineRead r (now (bytes .exit)) (now (marks .exit)) ≡ callLine letter (now (s .entry)) ⌝ }
 {
     match letter {
@@ -178,7 +212,11 @@ fn read_call(letter: u8, s: &[u8], bytes: &mut [u8; 16898], marks: &mut [u8; 66]
 }
 
 // A line, without its #0A.
-pub fn read_line(line: &[u8], bytes: &mut [u8; 16898], marks: &mut [u8; 66]) -> Reading
+pub fn read_line(
+    line: &[u8],
+    bytes: &mut [u8; IMAGE_LIMIT],
+    marks: &mut [u8; MARKS_LIMIT],
+) -> Reading
     ensures { λ r. ⌜ lineRead r (now (bytes .exit)) (now (marks .exit)) ≡ lineOf (now (line .entry)) ⌝ }
 {
     let n = line.len();

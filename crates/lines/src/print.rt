@@ -6,7 +6,9 @@ ghost use mathlib.Core.Path.{_≡_};
 ghost use Prim.Native.Nat.{_+_, _*_, _≤_, _<_};
 ghost use mathlib.Core.List.{[], _∷_, _++_};
 ghost use lib.ListN.{length, take};
-ghost use Rattle.lines.specs.Print.{digitOf, byteText, bytesText, refusalText, actionLetter, sixBytes, actionBytes, printed, unreadableText};
+ghost use Rattle.lines.specs.Limits.{actionMost, headMost, replyMost, unreadableLength};
+ghost use Rattle.lines.specs.Print.{digitOf, actionLetter};
+ghost use Rattle.lines.specs.Print.{byteText, bytesText, refusalText, sixText, actionText, headText, answerText, unreadableText};
 
 // A digit below 16.
 fn digit_of(n: u8) -> u8
@@ -14,13 +16,13 @@ fn digit_of(n: u8) -> u8
     ensures { λ r. ⌜ r ≡ digitOf n ⌝ }
 {
     if n < 10 {
-        return 48 + n;
+        return b'0' + n;
     }
-    55 + n
+    b'A' + n - 10
 }
 
 // One byte of text.
-pub fn put(byte: u8, out: &mut [u8], at: usize) -> usize
+fn put(byte: u8, out: &mut [u8], at: usize) -> usize
     requires { ⌜ at < length (now out) ⌝ }
     ensures { λ r. ⌜ (r ≡ at + 1) × (take r (now (out .exit)) ≡ take at (now (out .entry)) ++ (byte ∷ [])) ⌝ }
 {
@@ -38,9 +40,10 @@ fn put_byte(byte: u8, out: &mut [u8], at: usize) -> usize
 }
 
 // Bytes in hexadecimal.
-fn put_text(bytes: &[u8], out: &mut [u8], at: usize) -> usize
+fn put_bytes(bytes: &[u8], out: &mut [u8], at: usize) -> usize
     requires { ⌜ at + 2 * length (now bytes) ≤ length (now out) ⌝ }
-    ensures { λ r. ⌜ (r ≡ at + 2 * length (now (bytes .entry))) × (take r (now (out .exit)) ≡ take at (now (out .entry)) ++ bytesText (now (bytes .entry))) ⌝ }
+    ensures { λ r. ⌜ (r ≡ at + 2 * length (now (bytes .entry)))
+        × (take r (now (out .exit)) ≡ take at (now (out .entry)) ++ bytesText (now (bytes .entry))) ⌝ }
 {
     let count = bytes.len();
     let mut end = at;
@@ -78,17 +81,17 @@ fn action_letter(action: Action) -> u8
 
 // Six bytes.
 fn put_six(six: Six, out: &mut [u8], at: usize) -> usize
-    requires { ⌜ at + 12 ≤ length (now out) ⌝ }
-    ensures { λ r. ⌜ (r ≤ at + 12) × (take r (now (out .exit)) ≡ take at (now (out .entry)) ++ bytesText (sixBytes six)) ⌝ }
+    requires { ⌜ at + actionMost ≤ length (now out) ⌝ }
+    ensures { λ r. ⌜ (r ≤ at + actionMost) × (take r (now (out .exit)) ≡ take at (now (out .entry)) ++ sixText six) ⌝ }
 {
     let bytes = [six.b0, six.b1, six.b2, six.b3, six.b4, six.b5];
-    put_text(&bytes, out, at)
+    put_bytes(&bytes, out, at)
 }
 
 // The bytes of an action.
 fn put_action(action: Action, out: &mut [u8], at: usize) -> usize
-    requires { ⌜ at + 12 ≤ length (now out) ⌝ }
-    ensures { λ r. ⌜ (r ≤ at + 12) × (take r (now (out .exit)) ≡ take at (now (out .entry)) ++ bytesText (actionBytes action)) ⌝ }
+    requires { ⌜ at + actionMost ≤ length (now out) ⌝ }
+    ensures { λ r. ⌜ (r ≤ at + actionMost) × (take r (now (out .exit)) ≡ take at (now (out .entry)) ++ actionText action) ⌝ }
 {
     match action {
         Action::Nothing => at,
@@ -100,8 +103,8 @@ fn put_action(action: Action, out: &mut [u8], at: usize) -> usize
 
 // Refusal, action and its bytes, each with a comma.
 fn print_head(refusal: u32, action: Action, out: &mut [u8]) -> usize
-    requires { ⌜ 18 ≤ length (now out) ⌝ }
-    ensures { λ r. ⌜ (r ≤ 18) × (take r (now (out .exit)) ≡ refusalText refusal ++ (44 ∷ actionLetter action ∷ 44 ∷ (bytesText (actionBytes action) ++ (44 ∷ [])))) ⌝ }
+    requires { ⌜ headMost ≤ length (now out) ⌝ }
+    ensures { λ r. ⌜ (r ≤ headMost) × (take r (now (out .exit)) ≡ headText refusal action) ⌝ }
 {
     let number = put_refusal(refusal, out, 0);
     let comma = put(b',', out, number);
@@ -111,29 +114,21 @@ fn print_head(refusal: u32, action: Action, out: &mut [u8]) -> usize
     put(b',', out, bytes)
 }
 
-// A call's answer, with the bytes that it gives.
+// A call's answer, with the bytes that it gives, if any.
 pub fn print_answer(refusal: u32, action: Action, bytes: &[u8], out: &mut [u8]) -> usize
-    requires { ⌜ 19 + 2 * length (now bytes) ≤ length (now out) ⌝ }
-    ensures { λ r. ⌜ (r ≤ 19 + 2 * length (now (bytes .entry))) × (take r (now (out .exit)) ≡ printed refusal action (now (bytes .entry))) ⌝ }
+    requires { ⌜ replyMost + 2 * length (now bytes) ≤ length (now out) ⌝ }
+    ensures { λ r. ⌜ (r ≤ replyMost + 2 * length (now (bytes .entry)))
+        × (take r (now (out .exit)) ≡ answerText refusal action (now (bytes .entry))) ⌝ }
 {
     let head = print_head(refusal, action, out);
-    let end = put_text(bytes, out, head);
+    let end = put_bytes(bytes, out, head);
     put(b'\n', out, end)
-}
-
-// A call's answer that gives no bytes.
-pub fn print_reply(refusal: u32, action: Action, out: &mut [u8]) -> usize
-    requires { ⌜ 19 ≤ length (now out) ⌝ }
-    ensures { λ r. ⌜ (r ≤ 19) × (take r (now (out .exit)) ≡ printed refusal action []) ⌝ }
-{
-    let head = print_head(refusal, action, out);
-    put(b'\n', out, head)
 }
 
 // The answer to an unreadable line.
 pub fn print_unreadable(out: &mut [u8]) -> usize
-    requires { ⌜ 6 ≤ length (now out) ⌝ }
-    ensures { λ r. ⌜ (r ≡ 6) × (take r (now (out .exit)) ≡ unreadableText) ⌝ }
+    requires { ⌜ unreadableLength ≤ length (now out) ⌝ }
+    ensures { λ r. ⌜ (r ≡ unreadableLength) × (take r (now (out .exit)) ≡ unreadableText) ⌝ }
 {
     let text = [b'?', b',', b'-', b',', b',', b'\n'];
     give(&text, out);

@@ -16,40 +16,41 @@ use Rattle.link.specs.declared.state.Send.{Send}
 use Rattle.link.specs.declared.state.Phase.{Phase}
 use Rattle.link.specs.declared.state.Phase.the-variants.{Collecting, Sending, DataAwaited}
 use Rattle.link.specs.declared.state.Body.{Body}
+use Rattle.link.specs.Bytes.{loadLead, storeLength, mostNoes}
 use Rattle.link.specs.Link.{wholeLength}
-use Rattle.link.specs.Damaged.{soundBody, soundLead, soundPart, soundCount, soundPhase, sound}
+use Rattle.link.specs.Damaged.{soundBody, soundLead, soundPart, soundCount, soundPhase, isSound}
 
 -- what follows from either of two tests, one of which holds
 by-either : {P : Type 0} (a b : Bool) → (a ≡ true → P) → (b ≡ true → P) → (a || b) ≡ true → P
 by-either true b f g e = f refl
 by-either false b f g e = g e
 
-whole-at-most : (lead : ℕ) → wholeLength lead ≤ 8
+whole-at-most : (lead : ℕ) → wholeLength lead ≤ storeLength
 unfolding wholeLength
-whole-at-most lead = pick-by (λ n. n ≤ 8) (eqb lead 0x62) (λ load. omega arith) (λ store. omega arith)
+whole-at-most lead = pick-by (λ n. n ≤ storeLength) (eqb lead loadLead) (λ load. omega arith) (λ store. omega arith)
 
-part-short : (s : Collected) → soundPart s ≡ true → s .length < 8
+part-short : (s : Collected) → soundPart s ≡ true → s .length < storeLength
 unfolding soundPart
 part-short s =
     let whole = wholeLength (s .c0) in
     by-either (eqb (s .length) 0) (soundLead s && ltb (s .length) whole) (λ none. omega (arith, eqb-true (s .length) 0 none))
     (λ some. omega (arith, ltb-true (s .length) whole (both-hold (soundLead s) (ltb (s .length) whole) some .1), whole-at-most (s .c0)))
 
-phase-holds : (b : Body) (phase : Phase) → sound b phase ≡ true → soundPhase (b .collected) phase ≡ true
-unfolding sound
-phase-holds b phase whole = both-hold (soundBody b) (soundPhase (b .collected) phase) whole .1
+phase-holds : (b : Body) (phase : Phase) → isSound b phase ≡ true → soundPhase phase ≡ true
+unfolding isSound
+phase-holds b phase whole = both-hold (soundBody b) (soundPhase phase) whole .1
 
 -- a string that is being collected has room for a byte
-pub collecting-short : (b : Body) (phase : Phase) → sound b phase ≡ true → phase ≡ Collecting → b .collected .length < 8
+pub collecting-short : (b : Body) (phase : Phase) (s : Collected) → isSound b phase ≡ true → phase ≡ Collecting s → s .length < storeLength
 unfolding soundPhase
-collecting-short b phase whole told = part-short (b .collected) (rw told at (phase-holds b phase whole))
+collecting-short b phase s whole told = part-short s (rw told at (phase-holds b phase whole))
 
 -- a send has had four noes at most
-pub noes-few : (b : Body) (phase : Phase) (send : Send) → sound b phase ≡ true → phase ≡ Sending send → send .noes ≤ 4
+pub noes-few : (b : Body) (phase : Phase) (send : Send) → isSound b phase ≡ true → phase ≡ Sending send → send .noes ≤ mostNoes
 unfolding soundPhase
 noes-few b phase send whole told = leb-true _ _ (rw told at (phase-holds b phase whole))
 
 -- a count that is held for a data call is within the limit
-pub data-count : (b : Body) (phase : Phase) (store : Store) → sound b phase ≡ true → phase ≡ DataAwaited store → heldCount store ≤ limit
+pub data-count : (b : Body) (phase : Phase) (store : Store) → isSound b phase ≡ true → phase ≡ DataAwaited store → heldCount store ≤ limit
 unfolding soundPhase soundCount
 data-count b phase store whole told = leb-true _ _ (rw told at (phase-holds b phase whole))

@@ -1,7 +1,7 @@
 -- Completion and what is sent (document 01, Completion).
 -- Assumes nothing.
 use Prim.Native.Nat.{ℕ}
-use mathlib.Core.Bool.{Bool, true, false}
+use mathlib.Core.Bool.{Bool, false}
 use Rattle.common.specs.Pick.{pick}
 use Rattle.status.specs.declared.words.Word.{Word}
 use Rattle.status.specs.Words.{primaryOf, secondaryWord}
@@ -12,40 +12,23 @@ use Rattle.link.specs.declared.state.Phase.the-variants.{Sending}
 use Rattle.link.specs.declared.state.Body.{Body}
 use Rattle.link.specs.declared.state.Action.the-variants.{Nothing, Text}
 use Rattle.link.specs.declared.state.Turn.{Turn}
-use Rattle.link.specs.State.{setFlags, setOutcome, current, review, idle}
+use Rattle.link.specs.Bytes.{secondaryUpdate, interrupt}
+use Rattle.link.specs.State.{withFlags, currentDrive, review, idle}
 
 -- primary as the state stands
 unfoldable pub primaryNow : Body → Word
-primaryNow b = primaryOf (b .changed) (b .enable) (b .outcome) (b .selected) (current b)
+primaryNow b = primaryOf (b .changed) (b .enable) (b .outcome) (b .selected) (currentDrive b)
 
--- a string is sent: no noes so far
-unfoldable pub sent : Body → Kind → ℕ → Word → Turn
-sent b kind lead word =
+-- "A sent string is six bytes: lead, four status bytes, check": it is sent, with no noes so far
+unfoldable pub sendWord : Body → Kind → ℕ → Word → Turn
+sendWord b kind lead word =
     record { body = b; phase = Sending (record { kind = kind; bytes = stringOf lead word; noes = 0 }); action = Text (stringOf lead word) }
 
 -- "if bit 22 send secondary; then primary"
-unfoldable pub interrupts : Body → Turn
-interrupts b = pick (b .outcome .counted) (sent b Secondary 0x68 (secondaryWord (b .secondary))) (sent b Completion 0x69 (primaryNow b))
+unfoldable pub sendInterrupt : Body → Turn
+sendInterrupt b =
+    pick (b .outcome .counted) (sendWord b Secondary secondaryUpdate (secondaryWord (b .secondary))) (sendWord b Completion interrupt (primaryNow b))
 
 -- "then review. With an interrupt asked: clear enable; .."
-unfoldable pub completed : Body → Bool → Turn
-completed b interrupt =
-    pick interrupt (interrupts (setFlags (review b) (review b .changed) false)) (idle b Nothing)
-
--- a code that ends a store "with motion 00", or a GO no
-unfoldable pub coded : Body → ℕ → Body
-coded b code =
-    setOutcome b
-    (record {
-      retry = true;
-      mark = b .outcome .mark;
-      motion = 0;
-      code = code;
-      parity = b .outcome .parity;
-      overflow = b .outcome .overflow;
-      underflow = b .outcome .underflow;
-      wdl = b .outcome .wdl;
-      rdl = b .outcome .rdl;
-      supplied = b .outcome .supplied;
-      counted = b .outcome .counted;
-    })
+unfoldable pub complete : Body → Bool → Turn
+complete b asked = pick asked (sendInterrupt (withFlags (review b) (review b .changed) false)) (idle b Nothing)

@@ -15,6 +15,7 @@ use Rattle.operations.specs.declared.store.Store.{Store}
 use Rattle.link.specs.declared.state.Phase.{Phase}
 use Rattle.link.specs.declared.state.Phase.the-variants.{Collecting, AckOffered, Sending, GoOffered, DataAwaited, ResultAwaited, EndOffered}
 use Rattle.link.specs.declared.state.Body.{Body}
+use Rattle.link.specs.Bytes.{loadLead, storeLead, mostNoes}
 use Rattle.link.specs.Link.{wholeLength}
 use Rattle.operations.specs.Store.{heldCount}
 
@@ -33,7 +34,7 @@ soundBody b =
 
 -- "a string's lead #62 or #64"
 unfoldable pub soundLead : Collected → Bool
-soundLead s = eqb (s .c0) 0x62 || eqb (s .c0) 0x64
+soundLead s = eqb (s .c0) loadLead || eqb (s .c0) storeLead
 
 -- "its bytes fewer than its length", nothing collected included
 unfoldable pub soundPart : Collected → Bool
@@ -52,15 +53,15 @@ unfoldable pub soundHeld : Operation → Store → Bool
 soundHeld operation store = not (sameOperation operation Write) || soundCount store
 
 -- what is held in the phase; "noes so far 0-4"
-unfoldable pub soundPhase : Collected → Phase → Bool
-soundPhase s Collecting = soundPart s
-soundPhase s AckOffered = soundString s
-soundPhase s (Sending send) = leb (send .noes) 4
-soundPhase s (GoOffered store) = soundCount store
-soundPhase s (DataAwaited store) = soundCount store
-soundPhase s (ResultAwaited operation store) = soundHeld operation store
-soundPhase s (EndOffered interrupt) = true
+unfoldable pub soundPhase : Phase → Bool
+soundPhase (Collecting s) = soundPart s
+soundPhase (AckOffered s) = soundString s
+soundPhase (Sending send) = leb (send .noes) mostNoes
+soundPhase (GoOffered store) = soundCount store
+soundPhase (DataAwaited store) = soundCount store
+soundPhase (ResultAwaited operation store) = soundHeld operation store
+soundPhase (EndOffered interrupt) = true
 
 -- no field out of range
-unfoldable pub sound : Body → Phase → Bool
-sound b phase = soundBody b && soundPhase (b .collected) phase
+unfoldable pub isSound : Body → Phase → Bool
+isSound b phase = soundBody b && soundPhase phase

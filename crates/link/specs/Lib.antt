@@ -1,3 +1,4 @@
+pub mod Bytes
 pub mod State
 pub mod Completion
 pub mod Link

@@ -9,19 +9,20 @@ use Rattle.link.specs.declared.state.Kind.the-variants.{Load}
 use Rattle.link.specs.declared.state.Body.{Body}
 use Rattle.link.specs.declared.state.Action.the-variants.{Nothing}
 use Rattle.link.specs.declared.state.Turn.{Turn}
+use Rattle.link.specs.Bytes.{loadReply, deviceId}
 use Rattle.link.specs.State.{idle}
-use Rattle.link.specs.Completion.{primaryNow, sent}
+use Rattle.link.specs.Completion.{primaryNow, sendWord}
 
 -- "Address bits 1-3: 0 #0A 20 00 00; 1 primary; 2 secondary; 3 tertiary; 4 reports, drive 0 first; 5 quintary"
 unfoldable pub loadWord : Body → ℕ → Word
 loadWord b operation =
-    pick (eqb operation 0) (record { b0 = 0x0A; b1 = 0x20; b2 = 0x00; b3 = 0x00 })
+    pick (eqb operation 0) deviceId
     (pick (eqb operation 1) (primaryNow b)
     (pick (eqb operation 2) (secondaryWord (b .secondary))
     (pick (eqb operation 3) (b .tertiary) (pick (eqb operation 4) (reportsWord (b .drives)) (b .quintary)))))
 
 -- "6, 7 no reply, review. After a reply, review.", which comes when the reply's send ends
-unfoldable pub loaded : Body → ℕ → Turn
-loaded b address =
+unfoldable pub carryOutLoad : Body → ℕ → Turn
+carryOutLoad b address =
     let operation = address / 16 % 8 in
-    pick (eqb operation 6) (idle b Nothing) (pick (eqb operation 7) (idle b Nothing) (sent b Load 0x66 (loadWord b operation)))
+    pick (eqb operation 6) (idle b Nothing) (pick (eqb operation 7) (idle b Nothing) (sendWord b Load loadReply (loadWord b operation)))

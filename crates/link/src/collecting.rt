@@ -1,8 +1,14 @@
 // Collecting: the bytes of a string from the host, and a tick while nothing is collected.
-use crate::body::go_idle;
+use crate::body::idle;
 use crate::body::keep_collecting;
-use crate::body::no_string;
-use crate::body::review_drives;
+use crate::body::review;
+use crate::bytes::ACK;
+use crate::bytes::INTERRUPT;
+use crate::bytes::LOAD_LEAD;
+use crate::bytes::LOAD_LENGTH;
+use crate::bytes::NACK;
+use crate::bytes::STORE_LEAD;
+use crate::bytes::STORE_LENGTH;
 use crate::completion::primary_now;
 use crate::completion::send_word;
 use crate::state::Action;
@@ -11,33 +17,24 @@ use crate::state::Collected;
 use crate::state::Kind;
 use crate::state::Phase;
 use crate::state::Turn;
-use status::strings::INTERRUPT;
+use crate::state::nothing_collected;
 ghost use mathlib.Core.Path.{_≡_};
 ghost use Prim.Native.Nat.{_<_};
-ghost use Rattle.link.specs.Link.{wholeLength, appended, loadXor, checks, firstByte, lastByte, nextByte, collectedByte, tickWith, idleTick};
-
-// The bytes that answer a string.
-pub const ACK: u8 = 0x06;
-
-const NACK: u8 = 0x15;
-
-// The leads of the strings that the host sends.
-pub const LOAD_LEAD: u8 = 0x62;
-
-pub const STORE_LEAD: u8 = 0x64;
+ghost use Rattle.link.specs.Bytes.{storeLength};
+ghost use Rattle.link.specs.Link.{wholeLength, appendByte, loadXor, isGoodString, firstByte, lastByte, nextByte, collectByte, tickAfterReview, idleTick};
 
 // How many bytes a string with this lead has.
 pub fn whole_length(lead: u8) -> u8
     ensures { λ r. ⌜ r ≡ wholeLength lead ⌝ }
 {
     let load = lead == LOAD_LEAD;
-    if load { 4 } else { 8 }
+    if load { LOAD_LENGTH } else { STORE_LENGTH }
 }
 
 // A string with one byte more.
-fn append(mut s: Collected, byte: u8) -> Collected
-    requires { ⌜ s .length < 8 ⌝ }
-    ensures { λ r. ⌜ r ≡ appended s byte ⌝ }
+fn append_byte(mut s: Collected, byte: u8) -> Collected
+    requires { ⌜ s .length < storeLength ⌝ }
+    ensures { λ r. ⌜ r ≡ appendByte s byte ⌝ }
 {
     let at = s.length;
     s.length = at + 1;
@@ -61,9 +58,9 @@ fn load_xor(s: Collected) -> u8
     s.c0 ^ s.c1 ^ s.c2 ^ s.c3
 }
 
-// Whether all bytes of a whole string XOR to 0.
-fn string_checks(s: Collected) -> bool
-    ensures { λ r. ⌜ r ≡ checks s ⌝ }
+// Whether a whole string is good: all its bytes XOR to 0.
+fn is_good_string(s: Collected) -> bool
+    ensures { λ r. ⌜ r ≡ isGoodString s ⌝ }
 {
     let four = load_xor(s);
     let load = s.c0 == LOAD_LEAD;
@@ -74,82 +71,77 @@ fn string_checks(s: Collected) -> bool
 }
 
 // The first byte of a string, or one that begins none.
-fn first_byte(mut b: Body, byte: u8) -> Turn
-    ensures { λ r. ⌜ r ≡ firstByte b byte ⌝ }
+fn first_byte(b: Body, s: Collected, byte: u8) -> Turn
+    ensures { λ r. ⌜ r ≡ firstByte b s byte ⌝ }
 {
     let starts = (byte == LOAD_LEAD) | (byte == STORE_LEAD);
     if starts {
-        let string = append(no_string(), byte);
-        b.collected = string;
-        return keep_collecting(b);
+        return keep_collecting(b, append_byte(nothing_collected(), byte));
     }
     let ignored = byte == NACK;
     if ignored {
-        return keep_collecting(b);
+        return keep_collecting(b, s);
     }
-    go_idle(b, Action::Byte(NACK))
+    idle(b, Action::Byte(NACK))
 }
 
 // A whole string: ACK is offered, or NACK answers.
-fn last_byte(b: Body) -> Turn
-    ensures { λ r. ⌜ r ≡ lastByte b ⌝ }
+fn last_byte(b: Body, s: Collected) -> Turn
+    ensures { λ r. ⌜ r ≡ lastByte b s ⌝ }
 {
-    let string = b.collected;
-    let good = string_checks(string);
+    let good = is_good_string(s);
     if good {
         return Turn {
             body: b,
-            phase: Phase::AckOffered,
+            phase: Phase::AckOffered(s),
             action: Action::Byte(ACK),
         };
     }
-    go_idle(b, Action::Byte(NACK))
+    idle(b, Action::Byte(NACK))
 }
 
 // A further byte of a string.
-fn next_byte(mut b: Body, byte: u8) -> Turn
-    requires { ⌜ b .collected .length < 8 ⌝ }
-    ensures { λ r. ⌜ r ≡ nextByte b byte ⌝ }
+fn next_byte(b: Body, s: Collected, byte: u8) -> Turn
+    requires { ⌜ s .length < storeLength ⌝ }
+    ensures { λ r. ⌜ r ≡ nextByte b s byte ⌝ }
 {
-    let string = b.collected;
-    let whole = whole_length(string.c0);
-    let last = string.length + 1 == whole;
-    let longer = append(string, byte);
-    b.collected = longer;
+    let whole = whole_length(s.c0);
+    let last = s.length + 1 == whole;
+    let longer = append_byte(s, byte);
     if last {
-        return last_byte(b);
+        return last_byte(b, longer);
     }
-    keep_collecting(b)
+    keep_collecting(b, longer)
 }
 
-// A byte while a string is collected.
-pub fn collected_byte(b: Body, byte: u8) -> Turn
-    requires { ⌜ b .collected .length < 8 ⌝ }
-    ensures { λ r. ⌜ r ≡ collectedByte b byte ⌝ }
+// A byte while collecting: the first of a string, or a further one.
+pub fn collect_byte(b: Body, s: Collected, byte: u8) -> Turn
+    requires { ⌜ s .length < storeLength ⌝ }
+    ensures { λ r. ⌜ r ≡ collectByte b s byte ⌝ }
 {
-    let first = b.collected.length == 0;
+    let first = s.length == 0;
     if first {
-        return first_byte(b, byte);
+        return first_byte(b, s, byte);
     }
-    next_byte(b, byte)
+    next_byte(b, s, byte)
 }
 
 // A tick while nothing is collected, after the review.
-fn tick_with(b: Body) -> Turn
-    ensures { λ r. ⌜ r ≡ tickWith b ⌝ }
+fn tick_after_review(b: Body, s: Collected) -> Turn
+    ensures { λ r. ⌜ r ≡ tickAfterReview b s ⌝ }
 {
     let asked = b.changed & b.enable;
     if asked {
         let word = primary_now(b);
         return send_word(b, Kind::Change, INTERRUPT, word);
     }
-    keep_collecting(b)
+    keep_collecting(b, s)
 }
 
 // A tick while nothing is collected.
-pub fn idle_tick(b: Body) -> Turn
-    ensures { λ r. ⌜ r ≡ idleTick b ⌝ }
+pub fn idle_tick(b: Body, s: Collected) -> Turn
+    ensures { λ r. ⌜ r ≡ idleTick b s ⌝ }
 {
-    let reviewed = review_drives(b);
-    tick_with(reviewed)
+    let reviewed = review(b);
+    tick_after_review(reviewed, s)
 }

@@ -1,34 +1,35 @@
 // Completion: what is sent, and how a store ends.
-use crate::body::current_drive;
-use crate::body::go_idle;
-use crate::body::review_drives;
+use crate::body::idle;
+use crate::body::review;
+use crate::body::with_flags;
+use crate::bytes::INTERRUPT;
+use crate::bytes::SECONDARY_UPDATE;
 use crate::state::Action;
 use crate::state::Body;
 use crate::state::Kind;
 use crate::state::Phase;
 use crate::state::Send;
 use crate::state::Turn;
-use status::strings::INTERRUPT;
-use status::strings::SECONDARY_UPDATE;
+use status::drives::drive_of;
 use status::strings::string_of;
 use status::words::Word;
-use status::words::primary;
+use status::words::primary_of;
 use status::words::secondary_word;
 ghost use mathlib.Core.Path.{_≡_};
-ghost use Rattle.link.specs.Completion.{primaryNow, sent, interrupts, completed, coded};
+ghost use Rattle.link.specs.Completion.{primaryNow, sendWord, sendInterrupt, complete};
 
 // Primary as the state stands.
 pub fn primary_now(b: Body) -> Word
     ensures { λ r. ⌜ r ≡ primaryNow b ⌝ }
 {
-    let drive = current_drive(b);
+    let drive = drive_of(b.drives, b.selected);
     let outcome = b.outcome;
-    primary(b.changed, b.enable, outcome, b.selected, drive)
+    primary_of(b.changed, b.enable, outcome, b.selected, drive)
 }
 
 // A status word is sent.
 pub fn send_word(b: Body, kind: Kind, lead: u8, word: Word) -> Turn
-    ensures { λ r. ⌜ r ≡ sent b kind lead word ⌝ }
+    ensures { λ r. ⌜ r ≡ sendWord b kind lead word ⌝ }
 {
     let bytes = string_of(lead, word);
     let send = Send {
@@ -43,9 +44,9 @@ pub fn send_word(b: Body, kind: Kind, lead: u8, word: Word) -> Turn
     }
 }
 
-// Secondary if it is valid, else primary.
-fn interrupt(b: Body) -> Turn
-    ensures { λ r. ⌜ r ≡ interrupts b ⌝ }
+// The interrupt that ends a store: secondary goes first where it is valid, else primary at once.
+fn send_interrupt(b: Body) -> Turn
+    ensures { λ r. ⌜ r ≡ sendInterrupt b ⌝ }
 {
     let counted = b.outcome.counted;
     if counted {
@@ -58,22 +59,12 @@ fn interrupt(b: Body) -> Turn
 
 // The end of a store.
 pub fn complete(b: Body, asked: bool) -> Turn
-    ensures { λ r. ⌜ r ≡ completed b asked ⌝ }
+    ensures { λ r. ⌜ r ≡ complete b asked ⌝ }
 {
     if asked {
-        let mut reviewed = review_drives(b);
-        reviewed.enable = false;
-        return interrupt(reviewed);
+        let reviewed = review(b);
+        let disabled = with_flags(reviewed, reviewed.changed, false);
+        return send_interrupt(disabled);
     }
-    go_idle(b, Action::Nothing)
-}
-
-// A code that ends a store before any motion.
-pub fn with_code(mut b: Body, code: u8) -> Body
-    ensures { λ r. ⌜ r ≡ coded b code ⌝ }
-{
-    b.outcome.retry = true;
-    b.outcome.motion = 0;
-    b.outcome.code = code;
-    b
+    idle(b, Action::Nothing)
 }

@@ -1,6 +1,7 @@
 // The test of a damaged state: refusal 1.
-use crate::collecting::LOAD_LEAD;
-use crate::collecting::STORE_LEAD;
+use crate::bytes::LOAD_LEAD;
+use crate::bytes::MOST_NOES;
+use crate::bytes::STORE_LEAD;
 use crate::collecting::whole_length;
 use crate::state::Body;
 use crate::state::Collected;
@@ -13,7 +14,7 @@ use records::count::LIMIT;
 use status::drives::Drive;
 use status::drives::Drives;
 ghost use mathlib.Core.Path.{_≡_};
-ghost use Rattle.link.specs.Damaged.{soundDrive, soundDrives, soundBody, soundLead, soundPart, soundString, soundCount, soundHeld, soundPhase, sound};
+ghost use Rattle.link.specs.Damaged.{soundDrive, soundDrives, soundBody, soundLead, soundPart, soundString, soundCount, soundHeld, soundPhase, isSound};
 
 fn sound_drive(d: Drive) -> bool
     ensures { λ r. ⌜ r ≡ soundDrive d ⌝ }
@@ -69,13 +70,13 @@ fn sound_held(operation: Operation, store: Store) -> bool
     !same_operation(operation, Operation::Write) | sound_count(store)
 }
 
-fn sound_phase(s: Collected, phase: Phase) -> bool
-    ensures { λ r. ⌜ r ≡ soundPhase s phase ⌝ }
+fn sound_phase(phase: Phase) -> bool
+    ensures { λ r. ⌜ r ≡ soundPhase phase ⌝ }
 {
     match phase {
-        Phase::Collecting => sound_part(s),
-        Phase::AckOffered => sound_string(s),
-        Phase::Sending(send) => send.noes <= 4,
+        Phase::Collecting(s) => sound_part(s),
+        Phase::AckOffered(s) => sound_string(s),
+        Phase::Sending(send) => send.noes <= MOST_NOES,
         Phase::GoOffered(store) => sound_count(store),
         Phase::DataAwaited(store) => sound_count(store),
         Phase::ResultAwaited(operation, store) => sound_held(operation, store),
@@ -85,8 +86,7 @@ fn sound_phase(s: Collected, phase: Phase) -> bool
 
 // Whether no field is out of range.
 pub fn is_sound(b: Body, phase: Phase) -> bool
-    ensures { λ r. ⌜ r ≡ sound b phase ⌝ }
+    ensures { λ r. ⌜ r ≡ isSound b phase ⌝ }
 {
-    let s = b.collected;
-    sound_body(b) & sound_phase(s, phase)
+    sound_body(b) & sound_phase(phase)
 }

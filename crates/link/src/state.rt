@@ -5,6 +5,8 @@ use status::drives::Drives;
 use status::strings::Six;
 use status::words::Outcome;
 use status::words::Word;
+ghost use mathlib.Core.Path.{_≡_};
+ghost use Rattle.link.specs.State.{nothingCollected, storeOf};
 
 // A string from the host as far as it has come: how many bytes, and the bytes.
 pub struct Collected {
@@ -17,6 +19,36 @@ pub struct Collected {
     pub c5: u8,
     pub c6: u8,
     pub c7: u8,
+}
+
+// A string of which no byte has come.
+pub fn nothing_collected() -> Collected
+    ensures { λ r. ⌜ r ≡ nothingCollected ⌝ }
+{
+    Collected {
+        length: 0,
+        c0: 0,
+        c1: 0,
+        c2: 0,
+        c3: 0,
+        c4: 0,
+        c5: 0,
+        c6: 0,
+        c7: 0,
+    }
+}
+
+// The store that a whole string is: its address and its operand.
+pub fn store_of(s: Collected) -> Store
+    ensures { λ r. ⌜ r ≡ storeOf s ⌝ }
+{
+    Store {
+        address: s.c1,
+        first: s.c2,
+        second: s.c3,
+        third: s.c4,
+        fourth: s.c5,
+    }
 }
 
 // What is sent: a load's reply, the secondary update before an interrupt, the interrupt that ends a store, or the interrupt of a
@@ -35,13 +67,13 @@ pub struct Send {
     pub noes: u8,
 }
 
-// What the controller waits for.
+// What the controller waits for, with what is in hand.
 pub enum Phase {
-    // a string
-    Collecting,
-    // the answer to ACK, with the whole string collected
-    AckOffered,
-    // the answer to a string
+    // the next byte of a string, with those that have come
+    Collecting(Collected),
+    // the answer to ACK, with the string that it is for
+    AckOffered(Collected),
+    // the answer to a string that was sent
     Sending(Send),
     // the answer to GO
     GoOffered(Store),
@@ -63,7 +95,6 @@ pub struct Body {
     pub secondary: u32,
     pub tertiary: Word,
     pub quintary: Word,
-    pub collected: Collected,
 }
 
 // What a step has the controller do: nothing, offer a byte, send a string, or order a motion.

@@ -15,7 +15,7 @@ use lib.Seq.{drop-cons}
 use Rattle.common.specs.Pick.{pick}
 use Rattle.common.proofs.PickLaws.{pick-by}
 use Rattle.marks.specs.Marks.{legalMark, legalMarks, isError}
-use Rattle.marks.specs.Scan.{scanFrom, scanOf}
+use Rattle.marks.specs.Scan.{scanFrom, scanMarks}
 use Rattle.marks.specs.declared.Scan.{Scan}
 
 -- ---- marks with at most one error of each parity
@@ -38,9 +38,9 @@ pub record Found (marks : List ℕ) (parity at place : ℕ) : Type 0 where
 
 -- what the scan finds in such marks: it comes to the end, and knows the only error of each parity
 pub record ScannedOnce (marks : List ℕ) : Type 0 where
-  pub stop : scanOf marks .stop ≡ length marks
-  pub odd : Found marks 1 (length marks) (scanOf marks .odd)
-  pub even : Found marks 0 (length marks) (scanOf marks .even)
+  pub stop : scanMarks marks .stop ≡ length marks
+  pub odd : Found marks 1 (length marks) (scanMarks marks .odd)
+  pub even : Found marks 0 (length marks) (scanMarks marks .even)
 
 module _ (marks : List ℕ) (parity : ℕ) where
   -- nothing is found at the start
@@ -155,7 +155,7 @@ ends marks once (mark ∷ rest) at left odd even o e =
     (turn-good marks at mark rest left once go odd even o e)
 
 pub scanned-once : (marks : List ℕ) → Once marks → ScannedOnce marks
-unfolding scanOf
+unfolding scanMarks
 scanned-once marks once =
     let n = length marks in
     let r = ends marks once marks 0 refl n n (found-none marks 1) (found-none marks 0) in
@@ -175,7 +175,7 @@ beside-good marks parity place found some j below same other =
     good-mark (getD marks j 0) (λ error. other (sym (found .only j below error (same ∙ found .of-parity some))))
 
 -- and one that the scan has not found
-pub not-found-good : (marks : List ℕ) → ScannedOnce marks → (j : ℕ) → j < length marks → (j ≡ scanOf marks .odd → ⊥) → (j ≡ scanOf marks .even → ⊥)
+pub not-found-good : (marks : List ℕ) → ScannedOnce marks → (j : ℕ) → j < length marks → (j ≡ scanMarks marks .odd → ⊥) → (j ≡ scanMarks marks .even → ⊥)
     → getD marks j 0 ≡ 15
 not-found-good marks once j below not-odd not-even =
     good-mark (getD marks j 0)

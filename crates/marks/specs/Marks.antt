@@ -5,9 +5,13 @@ use mathlib.Core.Bool.{Bool, true, not, _&&_, _||_}
 use mathlib.Core.List.{List, [], _∷_}
 use lib.Dec.{leb, eqb}
 
+-- ".. 15 good"
+abbrev pub good : ℕ
+good = 15
+
 -- "1-9 an error, 15 good"
 unfoldable pub legalMark : ℕ → Bool
-legalMark mark = (leb 1 mark && leb mark 9) || eqb mark 15
+legalMark mark = (leb 1 mark && leb mark 9) || eqb mark good
 
 -- refusal 10, "mark value", is the opposite of this
 unfoldable pub legalMarks : List ℕ → Bool
@@ -16,4 +20,4 @@ legalMarks (mark ∷ marks) = legalMark mark && legalMarks marks
 
 -- a blockette whose mark is not "good"
 unfoldable pub isError : ℕ → Bool
-isError mark = not (eqb mark 15)
+isError mark = not (eqb mark good)

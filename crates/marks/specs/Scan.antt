@@ -3,6 +3,7 @@
 -- follow them, so `after` has the parity of the number, is the number of a check blockette, and is 2 above that of data.
 -- Assumes nothing.
 use Prim.Native.Nat.{ℕ, suc, _-_, _%_}
+use mathlib.Core.Bool.{Bool, not}
 use mathlib.Core.List.{List, [], _∷_}
 use lib.Dec.{leb, ltb, eqb}
 use lib.ListN.{length, getD}
@@ -10,6 +11,7 @@ use Rattle.common.specs.Pick.{pick}
 use Rattle.marks.specs.Marks.{isError}
 use Rattle.marks.specs.declared.Scan.{Scan}
 use Rattle.marks.specs.declared.Defect.{Defect}
+use Rattle.marks.specs.declared.Findings.{Findings}
 
 -- "the scan stops at the first blockette that is the second bad one of its parity"; "an error's parity is its number's, check
 -- blockettes included". The marks that are left, the place of the first of them, the end, and the first odd and the first even
@@ -24,8 +26,8 @@ scanFrom (mark ∷ marks) at end odd even =
     (scanFrom marks (suc at) end odd even)
 
 -- the scan of all marks, with nothing found so far
-unfoldable pub scanOf : List ℕ → Scan
-scanOf marks = scanFrom marks 0 (length marks) (length marks) (length marks)
+unfoldable pub scanMarks : List ℕ → Scan
+scanMarks marks = scanFrom marks 0 (length marks) (length marks) (length marks)
 
 -- "kind (1 data, 2 check)", by the number of places after it
 unfoldable pub kindOf : ℕ → ℕ
@@ -41,3 +43,18 @@ defectAt marks place =
     pick (ltb place (length marks))
     (record { mark = getD marks place 0; kind = kindOf (length marks - 1 - place); number = numberOf (length marks - 1 - place) })
     (record { mark = 0; kind = 0; number = 0 })
+
+-- an error that is there has a kind: "zero where none"
+unfoldable pub isFound : Defect → Bool
+isFound defect = not (eqb (defect .kind) 0)
+
+-- what is told of the marks: "first odd error's mark and kind .., its number, then the same for even; .. of the stopping one", and how many
+-- blockettes are "before the stop"
+unfoldable pub findingsOf : List ℕ → Findings
+findingsOf marks =
+    record {
+      odd = defectAt marks (scanMarks marks .odd);
+      even = defectAt marks (scanMarks marks .even);
+      stop = defectAt marks (scanMarks marks .stop);
+      place = scanMarks marks .stop;
+    }

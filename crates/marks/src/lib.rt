@@ -1,7 +1,7 @@
 // The marks of a GCR record: their test, the scan for errors, and what is told of an error.
 ghost use mathlib.Core.Path.{_≡_};
 ghost use Rattle.marks.specs.Marks.{legalMark, legalMarks};
-ghost use Rattle.marks.specs.Scan.{scanOf, defectAt};
+ghost use Rattle.marks.specs.Scan.{scanMarks, defectAt, isFound, findingsOf};
 
 // The mark of a good blockette.
 const GOOD: u8 = 15;
@@ -18,6 +18,15 @@ pub struct Defect {
     pub mark: u8,
     pub kind: u8,
     pub number: u8,
+}
+
+// What the scan finds: what is told of the first odd error, of the first even one and of the one where it stopped; and the place where
+// it stopped, the number of marks where it did not.
+pub struct Findings {
+    pub odd: Defect,
+    pub even: Defect,
+    pub stop: Defect,
+    pub place: usize,
 }
 
 // Whether a mark is one of 1-9 or 15.
@@ -44,7 +53,7 @@ pub fn legal_marks(marks: &[u8]) -> bool
 
 // Goes over the marks in tape order, to the second error of one parity or to the end.
 pub fn scan_marks(marks: &[u8]) -> Scan
-    ensures { λ r. ⌜ r ≡ scanOf (now (marks .entry)) ⌝ }
+    ensures { λ r. ⌜ r ≡ scanMarks (now (marks .entry)) ⌝ }
 {
     let end = marks.len();
     let mut odd = end;
@@ -100,5 +109,28 @@ pub fn defect_at(marks: &[u8], place: usize) -> Defect
         mark,
         kind: 2,
         number,
+    }
+}
+
+// Whether there is an error of which this is told.
+pub fn is_found(defect: Defect) -> bool
+    ensures { λ r. ⌜ r ≡ isFound defect ⌝ }
+{
+    defect.kind != 0
+}
+
+// Everything that is told of marks, from one scan.
+pub fn findings_of(marks: &[u8]) -> Findings
+    ensures { λ r. ⌜ r ≡ findingsOf (now (marks .entry)) ⌝ }
+{
+    let errors = scan_marks(marks);
+    let odd = defect_at(marks, errors.odd);
+    let even = defect_at(marks, errors.even);
+    let stop = defect_at(marks, errors.stop);
+    Findings {
+        odd,
+        even,
+        stop,
+        place: errors.stop,
     }
 }

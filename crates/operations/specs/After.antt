@@ -4,8 +4,13 @@ use Prim.Native.Nat.{ℕ}
 use mathlib.Core.Bool.{Bool, not, _||_}
 use lib.Dec.{eqb}
 use Rattle.common.specs.Pick.{pick}
+use Rattle.status.specs.Drives.{gapProper, gapImproper, gapUnfinished, gapLost}
 use Rattle.operations.specs.declared.operation.Move.{Move}
 use Rattle.operations.specs.declared.operation.Move.the-variants.{Still, Forward, Reverse, Rewinding, Winding, Writing, Erasing}
+
+-- motion "11": nobody knows where the tape is
+abbrev pub lost : ℕ
+lost = 3
 
 -- "codes 6, 7, 8, 9, 17, 18"
 unfoldable pub losesTape : ℕ → Bool
@@ -23,21 +28,21 @@ usualMotion Erasing = 0
 
 -- "Motion: codes .. give 11; else .."
 unfoldable pub motionOf : Move → ℕ → ℕ
-motionOf move code = pick (losesTape code) 3 (usualMotion move)
+motionOf move code = pick (losesTape code) lost (usualMotion move)
 
 -- "reverse and rewind 0; fast forward 3; writes and write mark 0 for code 0 else 2; others 0 for code 0 else 1"
 unfoldable pub gapOf : Move → ℕ → ℕ
-gapOf Still code = pick (eqb code 0) 0 1
-gapOf Forward code = pick (eqb code 0) 0 1
-gapOf Reverse code = 0
-gapOf Rewinding code = 0
-gapOf Winding code = 3
-gapOf Writing code = pick (eqb code 0) 0 2
-gapOf Erasing code = pick (eqb code 0) 0 1
+gapOf Still code = pick (eqb code 0) gapProper gapImproper
+gapOf Forward code = pick (eqb code 0) gapProper gapImproper
+gapOf Reverse code = gapProper
+gapOf Rewinding code = gapProper
+gapOf Winding code = gapLost
+gapOf Writing code = pick (eqb code 0) gapProper gapUnfinished
+gapOf Erasing code = pick (eqb code 0) gapProper gapImproper
 
 -- "Gap: 00 keeps it, 11 gives 3; .."
 unfoldable pub gapAfter : Move → ℕ → ℕ → ℕ
-gapAfter move code gap = pick (eqb (motionOf move code) 0) gap (pick (eqb (motionOf move code) 3) 3 (gapOf move code))
+gapAfter move code gap = pick (eqb (motionOf move code) 0) gap (pick (eqb (motionOf move code) lost) gapLost (gapOf move code))
 
 -- "Bit 2 (retry): code not 0, or any of bits 16-20."
 unfoldable pub retryOf : ℕ → Bool → Bool

@@ -5,6 +5,7 @@ use mathlib.Core.Bool.{true, false}
 use lib.Dec.{leb, ltb, eqb}
 use Rattle.common.specs.Pick.{pick}
 use Rattle.records.specs.Count.{limit}
+use Rattle.operations.specs.Codes.{illegalStore, illegalTrack}
 use Rattle.operations.specs.declared.operation.Operation.the-variants.{Read, CheckBytes, Write, Erase, Rewind, FastForward, SkipForward, SkipReverse, SearchForward, SearchReverse, WriteMark}
 use Rattle.operations.specs.declared.decode.Decoded.{Decoded}
 use Rattle.operations.specs.declared.decode.Decoded.the-variants.{Reset, Code, Track, Enable, Density, Operate}
@@ -14,7 +15,7 @@ use Rattle.operations.specs.declared.decode.Decoded.the-variants.{Reset,
 unfoldable pub controlOf : ℕ → Decoded
 controlOf value =
     pick (leb value 0x03) (Track value)
-    (pick (leb value 0x07) (Code 0x03)
+    (pick (leb value 0x07) (Code illegalTrack)
     (pick (eqb value 0x08) (Enable false)
     (pick (eqb value 0x09) (Enable true)
     (pick (eqb value 0x0C) (Density 0)
@@ -25,15 +26,15 @@ controlOf value =
     (pick (eqb value 0x21) (Operate SkipReverse)
     (pick (eqb value 0x22) (Operate SearchForward)
     (pick (eqb value 0x23) (Operate SearchReverse)
-    (pick (eqb value 0x24) (Operate WriteMark) (Code 0x02)))))))))))))
+    (pick (eqb value 0x24) (Operate WriteMark) (Code illegalStore)))))))))))))
 
 -- "4, by first operand byte: 00 read, 40 send check bytes, others 02"
 unfoldable pub readOf : ℕ → Decoded
-readOf first = pick (eqb first 0x00) (Operate Read) (pick (eqb first 0x40) (Operate CheckBytes) (Code 0x02))
+readOf first = pick (eqb first 0x00) (Operate Read) (pick (eqb first 0x40) (Operate CheckBytes) (Code illegalStore))
 
 -- "5: write; .. last two: count. Above 16,384 is code 02."
 unfoldable pub writeOf : ℕ → Decoded
-writeOf count = pick (ltb limit count) (Code 0x02) (Operate Write)
+writeOf count = pick (ltb limit count) (Code illegalStore) (Operate Write)
 
 -- "0: reset"; "1, 2, 7: code 02"; "6: erase"
 unfoldable pub decodeOf : ℕ → ℕ → ℕ → ℕ → Decoded
@@ -42,4 +43,4 @@ decodeOf operation first third fourth =
     (pick (eqb operation 3) (controlOf fourth)
     (pick (eqb operation 4) (readOf first)
     (pick (eqb operation 5) (writeOf (third * 256 + fourth))
-    (pick (eqb operation 6) (Operate Erase) (Code 0x02)))))
+    (pick (eqb operation 6) (Operate Erase) (Code illegalStore)))))

@@ -1,84 +1,77 @@
 -- The operations (document 01, Stores).
 -- Assumes nothing.
 use Prim.Native.Nat.{ℕ}
-use mathlib.Core.Bool.{Bool, true, false}
+use mathlib.Core.Bool.{Bool, true, false, _||_}
 use lib.Dec.{eqb}
 use Rattle.operations.specs.declared.operation.Operation.{Operation}
 use Rattle.operations.specs.declared.operation.Operation.the-variants.{Read, CheckBytes, Write, Erase, Rewind, FastForward, SkipForward, SkipReverse, SearchForward, SearchReverse, WriteMark}
+use Rattle.operations.specs.declared.operation.Row.{Row}
 use Rattle.operations.specs.declared.operation.Move.{Move}
 use Rattle.operations.specs.declared.operation.Move.the-variants.{Still, Forward, Reverse, Rewinding, Winding, Writing, Erasing}
 
--- "eleven operations by 32 codes": its row in the table of answers
+-- ---- a row for each operation
+
+-- Its number, which is its row in the table of answers, "eleven operations by 32 codes"; the first byte of its motion order, "operation (40, 50,
+-- 60 or the control value)", 0 where there is none; how it moves tape, "Forward moves are read, skip forward and search forward; reverse
+-- moves are skip reverse and search reverse. Every operation but check bytes moves tape"; whether "Past the test, read, skip and write
+-- set secondary to 0"; and whether it is of "Read, write and check bytes", which "offer EOR".
+abbrev pub rowOf : Operation → Row
+rowOf Read = (0, 0x40, Forward, true, true)
+rowOf CheckBytes = (1, 0x00, Still, false, true)
+rowOf Write = (2, 0x50, Writing, true, true)
+rowOf Erase = (3, 0x60, Erasing, false, false)
+rowOf Rewind = (4, 0x10, Rewinding, false, false)
+rowOf FastForward = (5, 0x11, Winding, false, false)
+rowOf SkipForward = (6, 0x20, Forward, true, false)
+rowOf SkipReverse = (7, 0x21, Reverse, true, false)
+rowOf SearchForward = (8, 0x22, Forward, false, false)
+rowOf SearchReverse = (9, 0x23, Reverse, false, false)
+rowOf WriteMark = (10, 0x24, Writing, false, false)
+
+-- its number
 abbrev pub numberOf : Operation → ℕ
-numberOf Read = 0
-numberOf CheckBytes = 1
-numberOf Write = 2
-numberOf Erase = 3
-numberOf Rewind = 4
-numberOf FastForward = 5
-numberOf SkipForward = 6
-numberOf SkipReverse = 7
-numberOf SearchForward = 8
-numberOf SearchReverse = 9
-numberOf WriteMark = 10
+numberOf operation = rowOf operation .0
 
 -- whether an operation is this one
 abbrev pub sameOperation : Operation → Operation → Bool
 sameOperation operation this = eqb (numberOf operation) (numberOf this)
 
--- "Forward moves are read, skip forward and search forward; reverse moves are skip reverse and search reverse. Every operation but
--- check bytes moves tape."
-abbrev pub moveOf : Operation → Move
-moveOf Read = Forward
-moveOf CheckBytes = Still
-moveOf Write = Writing
-moveOf Erase = Erasing
-moveOf Rewind = Rewinding
-moveOf FastForward = Winding
-moveOf SkipForward = Forward
-moveOf SkipReverse = Reverse
-moveOf SearchForward = Forward
-moveOf SearchReverse = Reverse
-moveOf WriteMark = Writing
-
--- "operation (40, 50, 60 or the control value)"; "Check bytes give no order", and 0 stands there
+-- the first byte of its motion order
 abbrev pub orderByte : Operation → ℕ
-orderByte Read = 0x40
-orderByte CheckBytes = 0
-orderByte Write = 0x50
-orderByte Erase = 0x60
-orderByte Rewind = 0x10
-orderByte FastForward = 0x11
-orderByte SkipForward = 0x20
-orderByte SkipReverse = 0x21
-orderByte SearchForward = 0x22
-orderByte SearchReverse = 0x23
-orderByte WriteMark = 0x24
+orderByte operation = rowOf operation .1
 
--- "Past the test, read, skip and write set secondary to 0."
+-- how it moves tape
+abbrev pub moveOf : Operation → Move
+moveOf operation = rowOf operation .2
+
+-- "read, skip and write set secondary to 0"
 abbrev pub countsBytes : Operation → Bool
-countsBytes Read = true
-countsBytes CheckBytes = false
-countsBytes Write = true
-countsBytes Erase = false
-countsBytes Rewind = false
-countsBytes FastForward = false
-countsBytes SkipForward = true
-countsBytes SkipReverse = true
-countsBytes SearchForward = false
-countsBytes SearchReverse = false
-countsBytes WriteMark = false
+countsBytes operation = rowOf operation .3
 
--- "Read, write and check bytes offer EOR" (Completion)
+-- "Read, write and check bytes offer EOR"
 abbrev pub offersEnd : Operation → Bool
-offersEnd Read = true
-offersEnd CheckBytes = true
-offersEnd Write = true
-offersEnd Erase = false
-offersEnd Rewind = false
-offersEnd FastForward = false
-offersEnd SkipForward = false
-offersEnd SkipReverse = false
-offersEnd SearchForward = false
-offersEnd SearchReverse = false
-offersEnd WriteMark = false
+offersEnd operation = rowOf operation .4
+
+-- ---- kinds of operations
+
+-- "Every operation but check bytes moves tape"
+unfoldable pub movesTape : Move → Bool
+movesTape Still = false
+movesTape Forward = true
+movesTape Reverse = true
+movesTape Rewinding = true
+movesTape Winding = true
+movesTape Writing = true
+movesTape Erasing = true
+
+-- "a read or forward skip"
+abbrev pub bringsRecord : Operation → Bool
+bringsRecord operation = sameOperation operation Read || sameOperation operation SkipForward
+
+-- "a search"
+unfoldable pub isSearch : Operation → Bool
+isSearch operation = sameOperation operation SearchForward || sameOperation operation SearchReverse
+
+-- "in a read, skip or search"
+unfoldable pub takesMark : Operation → Bool
+takesMark operation = bringsRecord operation || (sameOperation operation SkipReverse || isSearch operation)

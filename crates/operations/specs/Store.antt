@@ -2,8 +2,9 @@
 -- 5-7 its number."
 -- Assumes nothing.
 use Prim.Native.Nat.{ℕ, _+_, _*_, _/_, _%_}
-use mathlib.Core.Bool.{Bool}
+use mathlib.Core.Bool.{Bool, _&&_}
 use lib.Dec.{leb, eqb}
+use Rattle.common.specs.Pick.{pick}
 use Rattle.operations.specs.declared.store.Store.{Store}
 use Rattle.operations.specs.declared.decode.Decoded.{Decoded}
 use Rattle.operations.specs.Decode.{decodeOf}
@@ -17,12 +18,20 @@ unfoldable pub namesDrive : Store → Bool
 namesDrive store = eqb (store .address / 8 % 2) 1
 
 -- "5-7 its number"
-unfoldable pub named : Store → ℕ
-named store = store .address % 8
+unfoldable pub namedDrive : Store → ℕ
+namedDrive store = store .address % 8
+
+-- "a named drive above 3"
+unfoldable pub namesUnknown : Store → Bool
+namesUnknown store = namesDrive store && leb 4 (namedDrive store)
+
+-- "else select it": the drive that is named; without one, selection stays
+unfoldable pub selectedBy : Store → ℕ → ℕ
+selectedBy store selected = pick (namesDrive store) (namedDrive store) selected
 
 -- "1-3 are the operation"
-unfoldable pub asked : Store → Decoded
-asked store = decodeOf (store .address / 16 % 8) (store .first) (store .third) (store .fourth)
+unfoldable pub askedFor : Store → Decoded
+askedFor store = decodeOf (store .address / 16 % 8) (store .first) (store .third) (store .fourth)
 
 -- of a write, "second operand byte: host bytes thrown away"
 unfoldable pub thrownAway : Store → ℕ

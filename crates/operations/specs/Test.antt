@@ -2,36 +2,36 @@
 -- Assumes nothing.
 use Prim.Native.Nat.{ℕ}
 use mathlib.Core.Bool.{Bool, true, not, _&&_}
-use Rattle.status.specs.Drives.{reports}
+use Rattle.status.specs.Drives.{eot, installed, protected, positionUnknown, selectable, bot, reports}
 use Rattle.operations.specs.declared.operation.Move.{Move}
 use Rattle.operations.specs.declared.operation.Move.the-variants.{Still, Forward, Reverse, Rewinding, Winding, Writing, Erasing}
 
 -- "all that move tape need installed and selectable"
-unfoldable pub ready : ℕ → Bool
-ready report = reports report 32 && reports report 2
+abbrev pub isReady : ℕ → Bool
+isReady report = reports report installed && reports report selectable
 
 -- "these, but for rewind and fast forward, need position known"
-unfoldable pub placed : ℕ → Bool
-placed report = ready report && not (reports report 4)
+abbrev pub isPlaced : ℕ → Bool
+isPlaced report = isReady report && not (reports report positionUnknown)
 
 -- "forward moves, write, write mark and erase need no EOT"
-unfoldable pub aheadFree : ℕ → Bool
-aheadFree report = placed report && not (reports report 128)
+abbrev pub isAheadFree : ℕ → Bool
+isAheadFree report = isPlaced report && not (reports report eot)
 
 -- "reverse moves need no BOT"
-unfoldable pub behindFree : ℕ → Bool
-behindFree report = placed report && not (reports report 1)
+abbrev pub isBehindFree : ℕ → Bool
+isBehindFree report = isPlaced report && not (reports report bot)
 
 -- "write, write mark and erase need not protected"
-unfoldable pub writable : ℕ → Bool
-writable report = aheadFree report && not (reports report 8)
+abbrev pub isWritable : ℕ → Bool
+isWritable report = isAheadFree report && not (reports report protected)
 
 -- "check bytes have no test"
 unfoldable pub mayMove : Move → ℕ → Bool
 mayMove Still report = true
-mayMove Forward report = aheadFree report
-mayMove Reverse report = behindFree report
-mayMove Rewinding report = ready report
-mayMove Winding report = ready report
-mayMove Writing report = writable report
-mayMove Erasing report = writable report
+mayMove Forward report = isAheadFree report
+mayMove Reverse report = isBehindFree report
+mayMove Rewinding report = isReady report
+mayMove Winding report = isReady report
+mayMove Writing report = isWritable report
+mayMove Erasing report = isWritable report

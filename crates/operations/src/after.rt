@@ -1,5 +1,9 @@
 // What an operation leaves: motion, gap and retry.
 use crate::operation::Move;
+use status::drives::GAP_IMPROPER;
+use status::drives::GAP_LOST;
+use status::drives::GAP_PROPER;
+use status::drives::GAP_UNFINISHED;
 ghost use mathlib.Core.Path.{_≡_};
 ghost use Rattle.operations.specs.After.{losesTape, usualMotion, motionOf, gapOf, gapAfter, retryOf};
 
@@ -30,7 +34,7 @@ fn usual_motion(movement: Move) -> u8
 }
 
 // The motion by the final code.
-pub fn motion(movement: Move, code: u8) -> u8
+pub fn motion_of(movement: Move, code: u8) -> u8
     ensures { λ r. ⌜ r ≡ motionOf movement code ⌝ }
 {
     let lost = loses_tape(code);
@@ -46,13 +50,13 @@ fn gap_of(movement: Move, code: u8) -> u8
 {
     let good = code == 0;
     match movement {
-        Move::Still => if good { 0 } else { 1 },
-        Move::Forward => if good { 0 } else { 1 },
-        Move::Reverse => 0,
-        Move::Rewinding => 0,
-        Move::Winding => 3,
-        Move::Writing => if good { 0 } else { 2 },
-        Move::Erasing => if good { 0 } else { 1 },
+        Move::Still => if good { GAP_PROPER } else { GAP_IMPROPER },
+        Move::Forward => if good { GAP_PROPER } else { GAP_IMPROPER },
+        Move::Reverse => GAP_PROPER,
+        Move::Rewinding => GAP_PROPER,
+        Move::Winding => GAP_LOST,
+        Move::Writing => if good { GAP_PROPER } else { GAP_UNFINISHED },
+        Move::Erasing => if good { GAP_PROPER } else { GAP_IMPROPER },
     }
 }
 
@@ -60,18 +64,18 @@ fn gap_of(movement: Move, code: u8) -> u8
 pub fn gap_after(movement: Move, code: u8, gap: u8) -> u8
     ensures { λ r. ⌜ r ≡ gapAfter movement code gap ⌝ }
 {
-    let moved = motion(movement, code);
+    let moved = motion_of(movement, code);
     if moved == 0 {
         return gap;
     }
     if moved == LOST {
-        return 3;
+        return GAP_LOST;
     }
     gap_of(movement, code)
 }
 
 // Bit 2, by the final code and whether any of bits 16-20 is set.
-pub fn retry(code: u8, any_bit: bool) -> bool
+pub fn retry_of(code: u8, any_bit: bool) -> bool
     ensures { λ r. ⌜ r ≡ retryOf code «any_bit» ⌝ }
 {
     !(code == 0) | any_bit

@@ -1,6 +1,6 @@
 // An operation, and what of it counts in more than one rule.
 ghost use mathlib.Core.Path.{_≡_};
-ghost use Rattle.operations.specs.Operation.{numberOf, sameOperation, moveOf, orderByte, countsBytes, offersEnd};
+ghost use Rattle.operations.specs.Operation.{rowOf, numberOf, sameOperation, moveOf, orderByte, countsBytes, offersEnd, movesTape, bringsRecord, isSearch, takesMark};
 
 pub enum Operation {
     Read,
@@ -27,104 +27,100 @@ pub enum Move {
     Erasing,
 }
 
-// Its number, for the table of answers.
-pub fn number(operation: Operation) -> usize
-    ensures { λ r. ⌜ r ≡ numberOf operation ⌝ }
+// What counts of an operation in more than one rule: its number, the first byte of its motion order, how it moves tape, whether
+// secondary is set to 0 past the test, and whether EOR is offered at its end.
+pub struct Row(pub usize, pub u8, pub Move, pub bool, pub bool);
+
+// A row for each operation. Check bytes give no order, and 0 stands there.
+pub fn row_of(operation: Operation) -> Row
+    ensures { λ r. ⌜ r ≡ rowOf operation ⌝ }
 {
     match operation {
-        Operation::Read => 0,
-        Operation::CheckBytes => 1,
-        Operation::Write => 2,
-        Operation::Erase => 3,
-        Operation::Rewind => 4,
-        Operation::FastForward => 5,
-        Operation::SkipForward => 6,
-        Operation::SkipReverse => 7,
-        Operation::SearchForward => 8,
-        Operation::SearchReverse => 9,
-        Operation::WriteMark => 10,
+        Operation::Read => Row(0, 0x40, Move::Forward, true, true),
+        Operation::CheckBytes => Row(1, 0x00, Move::Still, false, true),
+        Operation::Write => Row(2, 0x50, Move::Writing, true, true),
+        Operation::Erase => Row(3, 0x60, Move::Erasing, false, false),
+        Operation::Rewind => Row(4, 0x10, Move::Rewinding, false, false),
+        Operation::FastForward => Row(5, 0x11, Move::Winding, false, false),
+        Operation::SkipForward => Row(6, 0x20, Move::Forward, true, false),
+        Operation::SkipReverse => Row(7, 0x21, Move::Reverse, true, false),
+        Operation::SearchForward => Row(8, 0x22, Move::Forward, false, false),
+        Operation::SearchReverse => Row(9, 0x23, Move::Reverse, false, false),
+        Operation::WriteMark => Row(10, 0x24, Move::Writing, false, false),
     }
+}
+
+// Its number, for the table of answers.
+pub fn number_of(operation: Operation) -> usize
+    ensures { λ r. ⌜ r ≡ numberOf operation ⌝ }
+{
+    row_of(operation).0
 }
 
 // Whether an operation is this one.
 pub fn same_operation(operation: Operation, this: Operation) -> bool
     ensures { λ r. ⌜ r ≡ sameOperation operation this ⌝ }
 {
-    number(operation) == number(this)
+    number_of(operation) == number_of(this)
 }
 
-// How it moves tape.
-pub fn movement(operation: Operation) -> Move
-    ensures { λ r. ⌜ r ≡ moveOf operation ⌝ }
-{
-    match operation {
-        Operation::Read => Move::Forward,
-        Operation::CheckBytes => Move::Still,
-        Operation::Write => Move::Writing,
-        Operation::Erase => Move::Erasing,
-        Operation::Rewind => Move::Rewinding,
-        Operation::FastForward => Move::Winding,
-        Operation::SkipForward => Move::Forward,
-        Operation::SkipReverse => Move::Reverse,
-        Operation::SearchForward => Move::Forward,
-        Operation::SearchReverse => Move::Reverse,
-        Operation::WriteMark => Move::Writing,
-    }
-}
-
-// The first byte of its motion order; check bytes have none, and 0 stands there.
+// The first byte of its motion order.
 pub fn order_byte(operation: Operation) -> u8
     ensures { λ r. ⌜ r ≡ orderByte operation ⌝ }
 {
-    match operation {
-        Operation::Read => 0x40,
-        Operation::CheckBytes => 0,
-        Operation::Write => 0x50,
-        Operation::Erase => 0x60,
-        Operation::Rewind => 0x10,
-        Operation::FastForward => 0x11,
-        Operation::SkipForward => 0x20,
-        Operation::SkipReverse => 0x21,
-        Operation::SearchForward => 0x22,
-        Operation::SearchReverse => 0x23,
-        Operation::WriteMark => 0x24,
-    }
+    row_of(operation).1
 }
 
-// Whether secondary is set to 0 past the test: read, skip and write.
+// How it moves tape.
+pub fn move_of(operation: Operation) -> Move
+    ensures { λ r. ⌜ r ≡ moveOf operation ⌝ }
+{
+    row_of(operation).2
+}
+
+// Whether secondary is set to 0 past the test.
 pub fn counts_bytes(operation: Operation) -> bool
     ensures { λ r. ⌜ r ≡ countsBytes operation ⌝ }
 {
-    match operation {
-        Operation::Read => true,
-        Operation::CheckBytes => false,
-        Operation::Write => true,
-        Operation::Erase => false,
-        Operation::Rewind => false,
-        Operation::FastForward => false,
-        Operation::SkipForward => true,
-        Operation::SkipReverse => true,
-        Operation::SearchForward => false,
-        Operation::SearchReverse => false,
-        Operation::WriteMark => false,
-    }
+    row_of(operation).3
 }
 
-// Whether EOR is offered at its end: read, write and check bytes.
+// Whether EOR is offered at its end.
 pub fn offers_end(operation: Operation) -> bool
     ensures { λ r. ⌜ r ≡ offersEnd operation ⌝ }
 {
-    match operation {
-        Operation::Read => true,
-        Operation::CheckBytes => true,
-        Operation::Write => true,
-        Operation::Erase => false,
-        Operation::Rewind => false,
-        Operation::FastForward => false,
-        Operation::SkipForward => false,
-        Operation::SkipReverse => false,
-        Operation::SearchForward => false,
-        Operation::SearchReverse => false,
-        Operation::WriteMark => false,
+    row_of(operation).4
+}
+
+// Whether tape moves at all.
+pub fn moves_tape(movement: Move) -> bool
+    ensures { λ r. ⌜ r ≡ movesTape movement ⌝ }
+{
+    match movement {
+        Move::Still => false,
+        _ => true,
     }
+}
+
+// A read or a forward skip.
+pub fn brings_record(operation: Operation) -> bool
+    ensures { λ r. ⌜ r ≡ bringsRecord operation ⌝ }
+{
+    same_operation(operation, Operation::Read) | same_operation(operation, Operation::SkipForward)
+}
+
+// A search for a mark.
+pub fn is_search(operation: Operation) -> bool
+    ensures { λ r. ⌜ r ≡ isSearch operation ⌝ }
+{
+    same_operation(operation, Operation::SearchForward)
+        | same_operation(operation, Operation::SearchReverse)
+}
+
+// Whether the mark flag may be set: in a read, skip or search.
+pub fn takes_mark(operation: Operation) -> bool
+    ensures { λ r. ⌜ r ≡ takesMark operation ⌝ }
+{
+    brings_record(operation)
+        | (same_operation(operation, Operation::SkipReverse) | is_search(operation))
 }

@@ -1,8 +1,11 @@
 // A store: which drive it names, what it asks for, and what a write holds.
 use crate::decode::Decoded;
-use crate::decode::decode;
+use crate::decode::decode_of;
 ghost use mathlib.Core.Path.{_≡_};
-ghost use Rattle.operations.specs.Store.{asksInterrupt, namesDrive, named, asked, heldCount};
+ghost use Rattle.operations.specs.Store.{asksInterrupt, namesDrive, namedDrive, namesUnknown, selectedBy, askedFor, heldCount};
+
+// The number of drives.
+pub const DRIVES: u8 = 4;
 
 // Its address and its four operand bytes.
 pub struct Store {
@@ -29,16 +32,31 @@ pub fn names_drive(store: Store) -> bool
 
 // The drive that it names.
 pub fn named_drive(store: Store) -> u8
-    ensures { λ r. ⌜ r ≡ named store ⌝ }
+    ensures { λ r. ⌜ r ≡ namedDrive store ⌝ }
 {
     store.address % 8
 }
 
+// Whether it names a drive above 3.
+pub fn names_unknown(store: Store) -> bool
+    ensures { λ r. ⌜ r ≡ namesUnknown store ⌝ }
+{
+    names_drive(store) & (DRIVES <= named_drive(store))
+}
+
+// The drive that it is for: the one that it names, or the one selected before.
+pub fn selected_by(store: Store, selected: u8) -> u8
+    ensures { λ r. ⌜ r ≡ selectedBy store selected ⌝ }
+{
+    let named = named_drive(store);
+    if names_drive(store) { named } else { selected }
+}
+
 // What it asks for.
 pub fn asked_for(store: Store) -> Decoded
-    ensures { λ r. ⌜ r ≡ asked store ⌝ }
+    ensures { λ r. ⌜ r ≡ askedFor store ⌝ }
 {
-    decode(
+    decode_of(
         store.address / 16 % 8,
         store.first,
         store.third,

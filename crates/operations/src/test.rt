@@ -1,43 +1,61 @@
 // The tape test: whether a drive with this report may carry an operation out.
 use crate::operation::Move;
+use status::drives::BOT;
+use status::drives::EOT;
 use status::drives::INSTALLED;
+use status::drives::POSITION_UNKNOWN;
+use status::drives::PROTECTED;
+use status::drives::SELECTABLE;
+use status::drives::reports;
 ghost use mathlib.Core.Path.{_≡_};
-ghost use Rattle.operations.specs.Test.{ready, mayMove};
-
-// Bits of a report that are asked for here alone.
-const EOT: u8 = 128;
-
-const PROTECTED: u8 = 8;
-
-const POSITION_UNKNOWN: u8 = 4;
-
-const SELECTABLE: u8 = 2;
-
-const BOT: u8 = 1;
+ghost use Rattle.operations.specs.Test.{isReady, isPlaced, isAheadFree, isBehindFree, isWritable, mayMove};
 
 // A tape that is there and a drive that can be selected.
-fn ready_to_move(report: u8) -> bool
-    ensures { λ r. ⌜ r ≡ ready report ⌝ }
+fn is_ready(report: u8) -> bool
+    ensures { λ r. ⌜ r ≡ isReady report ⌝ }
 {
-    (report / INSTALLED % 2 == 1) & (report / SELECTABLE % 2 == 1)
+    reports(report, INSTALLED) & reports(report, SELECTABLE)
+}
+
+// And a known position.
+fn is_placed(report: u8) -> bool
+    ensures { λ r. ⌜ r ≡ isPlaced report ⌝ }
+{
+    is_ready(report) & !reports(report, POSITION_UNKNOWN)
+}
+
+// And tape ahead.
+fn is_ahead_free(report: u8) -> bool
+    ensures { λ r. ⌜ r ≡ isAheadFree report ⌝ }
+{
+    is_placed(report) & !reports(report, EOT)
+}
+
+// Or tape behind.
+fn is_behind_free(report: u8) -> bool
+    ensures { λ r. ⌜ r ≡ isBehindFree report ⌝ }
+{
+    is_placed(report) & !reports(report, BOT)
+}
+
+// Tape ahead that may be written.
+fn is_writable(report: u8) -> bool
+    ensures { λ r. ⌜ r ≡ isWritable report ⌝ }
+{
+    is_ahead_free(report) & !reports(report, PROTECTED)
 }
 
 // Whether tape may move so.
 pub fn may_move(movement: Move, report: u8) -> bool
     ensures { λ r. ⌜ r ≡ mayMove movement report ⌝ }
 {
-    let ready = ready_to_move(report);
-    let placed = ready & !(report / POSITION_UNKNOWN % 2 == 1);
-    let ahead = placed & !(report / EOT % 2 == 1);
-    let behind = placed & !(report / BOT % 2 == 1);
-    let writable = ahead & !(report / PROTECTED % 2 == 1);
     match movement {
         Move::Still => true,
-        Move::Forward => ahead,
-        Move::Reverse => behind,
-        Move::Rewinding => ready,
-        Move::Winding => ready,
-        Move::Writing => writable,
-        Move::Erasing => writable,
+        Move::Forward => is_ahead_free(report),
+        Move::Reverse => is_behind_free(report),
+        Move::Rewinding => is_ready(report),
+        Move::Winding => is_ready(report),
+        Move::Writing => is_writable(report),
+        Move::Erasing => is_writable(report),
     }
 }

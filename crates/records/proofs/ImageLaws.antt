@@ -1,10 +1,11 @@
 -- Laws of the image: the count that it says, how long each part is, and where its bytes stand.
 -- Assumes nothing.
 use mathlib.Core.Path.{_≡_, refl, sym, ap, _∙_}
-use Prim.Native.Nat.{ℕ, _+_, _-_, _*_, _/_, _%_, _≤_, _<_}
+use Prim.Native.Nat.{ℕ, zero, suc, _+_, _-_, _*_, _/_, _%_, _≤_, _<_}
 use native.Mathlib.Omega.{arith}
-use mathlib.Core.Bool.{Bool, true, false, not}
+use mathlib.Core.Bool.{Bool, true, false, not, _&&_}
 use mathlib.Core.List.{List, _++_}
+use lib.Dec.{eqb}
 use lib.ListN.{length, take, drop, getD, replicate, length-append, List·getD-append}
 use lib.Seq.{getD-take}
 use borrow.Author.Tests.{ne-eqb}
@@ -77,7 +78,8 @@ module _ (c density : ℕ) where
       go true = omega arith
       go false = omega arith
 
-pub body-gcr : (bytes : List ℕ) (density : ℕ) → hasBlockettes (length bytes) density ≡ true → bodyOf bytes density ≡ blockettesOf bytes (blocketteCount (length bytes))
+pub body-gcr : (bytes : List ℕ) (density : ℕ) → hasBlockettes (length bytes) density ≡ true
+    → bodyOf bytes density ≡ blockettesOf bytes (blocketteCount (length bytes))
 unfolding bodyOf pick
 body-gcr bytes density h = simp h
 
@@ -89,8 +91,11 @@ pub image-length : (bytes : List ℕ) (density : ℕ) → length (imageOf bytes 
 unfolding imageOf countBytes
 image-length bytes density = go (hasBlockettes (length bytes) density) refl
   where
-    go : (gcr : Bool) → hasBlockettes (length bytes) density ≡ gcr → length (countBytes (length bytes) ++ bodyOf bytes density) ≡ imageLength (length bytes) density
-    go true h = simp (body-gcr bytes density h, length-gcr (length bytes) density h, blockettes-length bytes (blocketteCount (length bytes)) (blockettes-hold (length bytes))) (omega arith)
+    go : (gcr : Bool) → hasBlockettes (length bytes) density ≡ gcr
+        → length (countBytes (length bytes) ++ bodyOf bytes density) ≡ imageLength (length bytes) density
+    go true h =
+        let n = blocketteCount (length bytes) in
+        simp (body-gcr bytes density h, length-gcr (length bytes) density h, blockettes-length bytes n (blockettes-hold (length bytes))) (omega arith)
     go false h = simp (body-plain bytes density h, length-plain (length bytes) density h) (omega arith)
 
 -- an image has room for its bytes
@@ -121,6 +126,25 @@ has-some c h = ap not (ne-eqb c 0 (λ none. omega arith))
 pub marks-of : (c : ℕ) → 0 < c → markCount c 1 ≡ blocketteCount c + 2
 unfolding markCount
 marks-of c h = pick-yes (blocketteCount c + 2) 0 (has-some c h)
+
+-- a GCR image is its count and a blockette for each mark
+pub marks-fill : (c : ℕ) → imageLength c 1 ≡ 2 + 256 * markCount c 1
+unfolding imageLength markCount hasBlockettes pick
+marks-fill zero = refl
+marks-fill (suc c) =
+    let some : 0 < suc c = omega arith in
+    length-gcr (suc c) 1 (has-some (suc c) some) ∙ sym (ap (λ (n : ℕ). 2 + 256 * n) (marks-of (suc c) some))
+
+-- every density but 0 is GCR, and its image that of density 1
+module _ (density : ℕ) (gcr : density ≡ 0 → ⊥) where
+  has-alike : (c : ℕ) → hasBlockettes c density ≡ hasBlockettes c 1
+  unfolding hasBlockettes
+  has-alike c = ap (λ (b : Bool). not b && not (eqb c 0)) (ne-eqb density 0 gcr)
+
+  pub image-alike : (bytes : List ℕ) → imageOf bytes density ≡ imageOf bytes 1
+  unfolding imageOf bodyOf
+  image-alike bytes =
+      ap (λ (b : Bool). countBytes (length bytes) ++ pick b (blockettesOf bytes (blocketteCount (length bytes))) bytes) (has-alike (length bytes))
 
 module _ (bytes : List ℕ) (some : 0 < length bytes) where
   -- what follows the count

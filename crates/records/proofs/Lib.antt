@@ -3,5 +3,7 @@ pub mod WholeLaws
 pub mod Mending
 pub mod Restoring
 pub mod BuiltRecordsAreRestored
+pub mod Spoiling
+pub mod Demands
 pub mod RecordCases
 pub mod WrongAnswers

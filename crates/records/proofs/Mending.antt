@@ -11,7 +11,7 @@ use borrow.Author.Tests.{lt-ltb, le-ltb}
 use Rattle.common.proofs.PickLaws.{pick-yes, pick-no}
 use Rattle.blockettes.specs.Blockettes.{othersOf}
 use Rattle.blockettes.proofs.Others.{others-length}
-use Rattle.records.specs.Restore.{writtenAt, mendedAt}
+use Rattle.records.specs.Restore.{writtenAt, mendAt}
 
 -- behind the first n elements
 getD-behind : (a b : List ℕ) (n j : ℕ) → length a ≡ n → getD (a ++ b) (n + j) 0 ≡ getD b j 0
@@ -21,7 +21,7 @@ getD-behind a b n j e = subst (λ (k : ℕ). getD (a ++ b) (k + j) 0 ≡ getD b 
 
 module _ (bytes new : List ℕ) (start : ℕ) where
   -- the length stays
-  written-length : start ≤ length bytes → length (writtenAt bytes start new) ≡ length bytes
+  pub written-length : start ≤ length bytes → length (writtenAt bytes start new) ≡ length bytes
   unfolding writtenAt
   written-length h = simp (length-append, length-take, length-drop) (omega arith)
 
@@ -32,7 +32,7 @@ module _ (bytes new : List ℕ) (start : ℕ) where
       List·getD-append (take start bytes) (take (length bytes - start) new ++ drop (start + length new) bytes) 0 i (simp length-take (omega arith))
       ∙ getD-take start bytes i 0 before
 
-  written-in : (j : ℕ) → j < length new → start + j < length bytes → getD (writtenAt bytes start new) (start + j) 0 ≡ getD new j 0
+  pub written-in : (j : ℕ) → j < length new → start + j < length bytes → getD (writtenAt bytes start new) (start + j) 0 ≡ getD new j 0
   unfolding writtenAt
   written-in j short inside =
       getD-behind (take start bytes) (take (length bytes - start) new ++ drop (start + length new) bytes) start j (length-take-le start bytes (omega arith))
@@ -54,12 +54,21 @@ module _ (bytes new : List ℕ) (start : ℕ) where
       ∙ getD-drop (start + length new) bytes j 0
       ∙ ap (λ (k : ℕ). getD bytes k 0) here
 
+-- a byte outside the blockette at a place, where that one is written
+pub written-elsewhere : (bytes new : List ℕ) (place : ℕ) → length new ≡ 256 → (i : ℕ) → i < length bytes → (i / 256 ≡ place → ⊥)
+    → getD (writtenAt bytes (256 * place) new) i 0 ≡ getD bytes i 0
+written-elsewhere bytes new place full i inside other =
+    elim (decLe (suc i) (256 * place)) [
+      | yes before ↦ written-before bytes new (256 * place) i before inside
+      | no past ↦ written-behind bytes new (256 * place) i (omega arith) inside
+    ]
+
 -- ---- a blockette mended
 
 module _ (blockettes : List ℕ) (n place : ℕ) (bytes : List ℕ) where
   -- the length stays
-  pub mended-length : 256 * n < length bytes + 256 → length (mendedAt blockettes n place bytes) ≡ length bytes
-  unfolding mendedAt
+  pub mended-length : 256 * n < length bytes + 256 → length (mendAt blockettes n place bytes) ≡ length bytes
+  unfolding mendAt
   mended-length h =
       let others = othersOf blockettes (n + 2) place in
       let new = writtenAt bytes (256 * place) others in
@@ -70,8 +79,8 @@ module _ (blockettes : List ℕ) (n place : ℕ) (bytes : List ℕ) where
 
   -- a byte of the blockette that is mended
   pub mended-here : (i : ℕ) → i < length bytes → i / 256 ≡ place → place < n
-      → getD (mendedAt blockettes n place bytes) i 0 ≡ getD (othersOf blockettes (n + 2) place) (i % 256) 0
-  unfolding mendedAt
+      → getD (mendAt blockettes n place bytes) i 0 ≡ getD (othersOf blockettes (n + 2) place) (i % 256) 0
+  unfolding mendAt
   mended-here i inside here below =
       let others = othersOf blockettes (n + 2) place in
       let new = writtenAt bytes (256 * place) others in
@@ -81,21 +90,14 @@ module _ (blockettes : List ℕ) (n place : ℕ) (bytes : List ℕ) where
       ∙ written-in bytes others (256 * place) (i % 256) (omega (arith, others-length blockettes (n + 2) place)) (omega arith)
 
   -- a byte of another
-  written-elsewhere : (i : ℕ) → i < length bytes → (i / 256 ≡ place → ⊥)
-      → getD (writtenAt bytes (256 * place) (othersOf blockettes (n + 2) place)) i 0 ≡ getD bytes i 0
-  written-elsewhere i inside other =
-      let others = othersOf blockettes (n + 2) place in
-      let long = others-length blockettes (n + 2) place in
-      elim (decLe (suc i) (256 * place)) [
-        | yes before ↦ written-before bytes others (256 * place) i before inside
-        | no past ↦ written-behind bytes others (256 * place) i (omega arith) inside
-      ]
-
-  pub mended-elsewhere : (i : ℕ) → i < length bytes → (i / 256 ≡ place → ⊥) → getD (mendedAt blockettes n place bytes) i 0 ≡ getD bytes i 0
-  unfolding mendedAt
+  pub mended-elsewhere : (i : ℕ) → i < length bytes → (i / 256 ≡ place → ⊥) → getD (mendAt blockettes n place bytes) i 0 ≡ getD bytes i 0
+  unfolding mendAt
   mended-elsewhere i inside other =
-      let new = writtenAt bytes (256 * place) (othersOf blockettes (n + 2) place) in
+      let others = othersOf blockettes (n + 2) place in
+      let new = writtenAt bytes (256 * place) others in
       elim (decLe (suc place) n) [
-        | yes below ↦ ap (λ (l : List ℕ). getD l i 0) (pick-yes new bytes (lt-ltb place n below)) ∙ written-elsewhere i inside other
+        | yes below ↦
+            ap (λ (l : List ℕ). getD l i 0) (pick-yes new bytes (lt-ltb place n below))
+            ∙ written-elsewhere bytes others place (others-length blockettes (n + 2) place) i inside other
         | no past ↦ ap (λ (l : List ℕ). getD l i 0) (pick-no new bytes (le-ltb place n (omega arith)))
       ]

@@ -16,12 +16,12 @@ use Rattle.blockettes.specs.Blockettes.{blocketteAt, othersOf}
 use Rattle.blockettes.proofs.Others.{others-same}
 use Rattle.blockettes.proofs.Checked.{blockette-at, others-are-it}
 use Rattle.marks.specs.Marks.{legalMarks}
-use Rattle.marks.specs.Scan.{scanOf}
+use Rattle.marks.specs.Scan.{scanMarks}
 use Rattle.marks.proofs.ScanLaws.{Once, Found, ScannedOnce, scanned-once, beside-good, not-found-good}
 use Rattle.records.specs.Count.{limit, countOf}
 use Rattle.records.specs.Image.{blocketteCount, blockettesOf, imageOf, imageLength, markCount}
 use Rattle.records.specs.Whole.{wholeRefusal}
-use Rattle.records.specs.Restore.{mendedAt, restoreRefusal, restoredOf, restoredInto}
+use Rattle.records.specs.Restore.{mendAt, restoreRefusal, restoredBytes, restoreInto}
 use Rattle.records.proofs.ImageLaws.{blockettes-tight, whole-blockettes, marks-of, body-is, body-front, image-holds}
 use Rattle.records.proofs.Mending.{mended-length, mended-here, mended-elsewhere}
 
@@ -36,12 +36,14 @@ module _ (bytes built blockettes marks : List ℕ) (n : ℕ) (count : n ≡ bloc
   others-restore : (parity place : ℕ) → Found marks parity (length marks) place → place < n → othersOf blockettes (n + 2) place ≡ blocketteAt built place
   others-restore parity place found below =
       others-same blockettes built (n + 2) place (omega arith)
-      (λ j inside same other. let within : j < length marks = omega arith in good j within (beside-good marks parity place found (omega arith) j within (rw marked same) other))
+      (λ j inside same other.
+      let within : j < length marks = omega arith in
+      good j within (beside-good marks parity place found (omega arith) j within (rw marked same) other))
       ∙ each place (omega arith)
 
   -- a byte of a place that is so restored
   byte-mended : (place : ℕ) (old : List ℕ) (i : ℕ) → i < length bytes → length old ≡ length bytes → i / 256 ≡ place
-      → othersOf blockettes (n + 2) place ≡ blocketteAt built place → getD (mendedAt blockettes n place old) i 0 ≡ getD bytes i 0
+      → othersOf blockettes (n + 2) place ≡ blocketteAt built place → getD (mendAt blockettes n place old) i 0 ≡ getD bytes i 0
   unfolding blocketteCount
   byte-mended place old i inside as-long here restored =
       mended-here blockettes n place old i (omega arith) here (omega arith)
@@ -57,12 +59,12 @@ module _ (bytes built blockettes marks : List ℕ) (n : ℕ) (count : n ≡ bloc
 
   -- a byte, after the odd and then the even error are mended
   byte-restored : (old : List ℕ) → length old ≡ length bytes → ((i : ℕ) → i < length bytes → getD old i 0 ≡ getD blockettes i 0) → (i : ℕ)
-      → i < length bytes → getD (mendedAt blockettes n (scanOf marks .even) (mendedAt blockettes n (scanOf marks .odd) old)) i 0 ≡ getD bytes i 0
+      → i < length bytes → getD (mendAt blockettes n (scanMarks marks .even) (mendAt blockettes n (scanMarks marks .odd) old)) i 0 ≡ getD bytes i 0
   unfolding blocketteCount
   byte-restored old as-long same i inside =
-      let odd = scanOf marks .odd in
-      let even = scanOf marks .even in
-      let half = mendedAt blockettes n odd old in
+      let odd = scanMarks marks .odd in
+      let even = scanMarks marks .even in
+      let half = mendAt blockettes n odd old in
       let kept : length half ≡ length bytes = mended-length blockettes n odd old (omega arith) ∙ as-long in
       let place : i / 256 < n = omega arith in
       elim (ℕ-discrete (i / 256) even) [
@@ -91,22 +93,22 @@ body-others bytes some place h =
 pub restored-bytes : (bytes image marks : List ℕ) → countOf image ≡ length bytes → 2 + length bytes ≤ length image
     → length marks ≡ markCount (length bytes) 1 → Once marks
     → ((place : ℕ) → place < length marks → getD marks place 0 ≡ 15 → blocketteAt (drop 2 image) place ≡ blocketteAt (drop 2 (imageOf bytes 1)) place)
-    → restoredOf image marks ≡ bytes
-unfolding restoredOf
+    → restoredBytes image marks ≡ bytes
+unfolding restoredBytes
 restored-bytes bytes image marks said long marked once good =
     let blocks = drop 2 image in
     let c = length bytes in
     let n = blocketteCount c in
     let old = take c blocks in
-    let odd = scanOf marks .odd in
-    let even = scanOf marks .even in
-    let half = mendedAt blocks n odd old in
+    let odd = scanMarks marks .odd in
+    let even = scanMarks marks .even in
+    let half = mendAt blocks n odd old in
     let as-long : length old ≡ c = length-take-le c blocks (simp length-drop (omega arith)) in
     let few : 256 * n < c + 256 = blockettes-tight c in
     let kept : length half ≡ c = mended-length blocks n odd old (rw as-long few) ∙ as-long in
-    let done : length (mendedAt blocks n even half) ≡ c = mended-length blocks n even half (rw kept few) ∙ kept in
-    ap (λ (k : ℕ). mendedAt blocks (blocketteCount k) even (mendedAt blocks (blocketteCount k) odd (take k blocks))) said
-    ∙ ext-getD 0 (mendedAt blocks n even half) bytes done
+    let done : length (mendAt blocks n even half) ≡ c = mended-length blocks n even half (rw kept few) ∙ kept in
+    ap (λ (k : ℕ). mendAt blocks (blocketteCount k) even (mendAt blocks (blocketteCount k) odd (take k blocks))) said
+    ∙ ext-getD 0 (mendAt blocks n even half) bytes done
     (λ i inside.
     let below : i < c = omega arith in
     let some : 0 < c = omega arith in
@@ -132,11 +134,11 @@ module _ (image marks : List ℕ) (within : countOf image ≤ limit) (long : len
   restorer-accepts once space room =
       pick-yes _ _ (eq-eqb (wholeRefusal image marks 1) 0 whole-accepted)
       ∙ pick-no 11 _ (le-ltb space (countOf image) room)
-      ∙ pick-no 12 0 (le-ltb (scanOf marks .stop) (length marks) (le-of-eq (sym (scanned-once marks once .stop))))
+      ∙ pick-no 12 0 (le-ltb (scanMarks marks .stop) (length marks) (le-of-eq (sym (scanned-once marks once .stop))))
 
 -- what it leaves in the space where it answers 0
 pub restorer-gives : (image marks space : List ℕ) → restoreRefusal image marks (length space) ≡ 0
-    → restoredInto image marks space ≡ given (restoredOf image marks) space
-unfolding restoredInto
+    → restoreInto image marks space ≡ given (restoredBytes image marks) space
+unfolding restoreInto
 restorer-gives image marks space accepted =
-    where-done (restoreRefusal image marks (length space)) (given (restoredOf image marks) space) space accepted
+    where-done (restoreRefusal image marks (length space)) (given (restoredBytes image marks) space) space accepted

@@ -14,16 +14,17 @@ use lib.Seq.{drop-append-seam}
 use borrow.Author.Tests.{eqb-false, lt-ltb, le-ltb, ne-eqb}
 use Rattle.common.specs.Pick.{pick}
 use Rattle.common.specs.Given.{given}
-use Rattle.common.proofs.PickLaws.{pick-by, pick-yes, pick-no, pick-both, where-done}
+use Rattle.common.proofs.PickLaws.{by-test, pick-by, pick-yes, pick-no, pick-both, where-done}
 use Rattle.marks.specs.Marks.{isError}
-use Rattle.marks.specs.Scan.{scanFrom, scanOf, kindOf, numberOf, defectAt}
+use Rattle.marks.specs.Scan.{scanFrom, scanMarks, kindOf, numberOf, defectAt, findingsOf}
 use Rattle.records.specs.Count.{limit, unrotated, countOf}
 use Rattle.records.specs.Image.{blocketteCount, hasBlockettes, imageOf, imageLength, markCount}
 use Rattle.records.specs.Whole.{wholeRefusal}
-use Rattle.records.specs.Build.{buildRefusal, builtInto}
+use Rattle.records.specs.Build.{buildRefusal, buildInto}
 use Rattle.records.specs.Restore.{restoreRefusal}
-use Rattle.records.specs.Interface.{lengthWithin, marksWithin, countWithin, scanReport, scanRefusal, scannedInto}
-use Rattle.records.proofs.BuiltRecordsAreRestored.{Spoiled, built-records-are-restored}
+use Rattle.records.specs.Interface.{imageLengthWithin, markCountWithin, imageCount, scanReport, scanRefusal, scanInto}
+use Rattle.records.specs.Spoiled.{Spoiled}
+use Rattle.records.proofs.BuiltRecordsAreRestored.{built-records-are-restored}
 use Rattle.records.proofs.interface.ctc_build.Reads as build-reads
 use Rattle.records.proofs.interface.ctc_restore.Reads as restore-reads
 use Rattle.records.proofs.interface.ctc_image_length.Reads as length-reads
@@ -33,7 +34,8 @@ use Rattle.records.proofs.interface.ctc_scan.Reads as scan-reads
 
 -- ---- ctc_build
 
-module _ (κs : Lfts 2) (bytes image : RefT (List ℕ)) (density r : ℕ) (after : List ℕ) (allowed : build-reads.Post κs (bytes, (density, (image, tt))) r (bytes, (density, (at-last image after, tt)))) where
+module _ (κs : Lfts 2) (bytes image : RefT (List ℕ)) (density r : ℕ) (after : List ℕ)
+    (allowed : build-reads.Post κs (bytes, (density, (image, tt))) r (bytes, (density, (at-last image after, tt)))) where
   -- more than 16,384 bytes are taken
   pub build-takes-too-many-bytes : limit < length (now bytes) → r ≡ 0 → ⊥
   unfolding buildRefusal
@@ -43,28 +45,31 @@ module _ (κs : Lfts 2) (bytes image : RefT (List ℕ)) (density r : ℕ) (after
   -- a byte behind the image is changed
   pub build-writes-behind-the-image :
       r ≡ 0 → (drop (length (imageOf (now bytes) density)) after ≡ drop (length (imageOf (now bytes) density)) (now image) → ⊥) → ⊥
-  unfolding builtInto given
+  unfolding buildInto given
   build-writes-behind-the-image done wrong =
       let made = imageOf (now bytes) density in
       wrong
-      (ap (λ (s : List ℕ). drop (length made) s) (allowed .1 ∙ where-done _ _ _ (sym (allowed .0) ∙ done)) ∙ drop-append-seam made (drop (length made) (now image)))
+      (ap (λ (s : List ℕ). drop (length made) s) (allowed .1 ∙ where-done _ _ _ (sym (allowed .0) ∙ done))
+      ∙ drop-append-seam made (drop (length made) (now image)))
 
 -- ---- ctc_restore
 
-module _ (κs : Lfts 3) (image marks out : RefT (List ℕ)) (r : ℕ) (after : List ℕ) (allowed : restore-reads.Post κs (image, (marks, (out, tt))) r (image, (marks, (at-last out after, tt)))) where
+module _ (κs : Lfts 3) (image marks out : RefT (List ℕ)) (r : ℕ) (after : List ℕ)
+    (allowed : restore-reads.Post κs (image, (marks, (out, tt))) r (image, (marks, (at-last out after, tt)))) where
   -- two bad blockettes of one parity are taken for restored
-  pub restore-gives-what-cannot-be-restored : ltb (scanOf (now marks) .stop) (length (now marks)) ≡ true → r ≡ 0 → ⊥
+  pub restore-gives-what-cannot-be-restored : ltb (scanMarks (now marks) .stop) (length (now marks)) ≡ true → r ≡ 0 → ⊥
   unfolding restoreRefusal
   restore-gives-what-cannot-be-restored stopped done =
       pick-by (λ (n : ℕ). r ≡ n → ⊥) (eqb (wholeRefusal (now image) (now marks) 1) 0)
       (λ whole. pick-by (λ (n : ℕ). r ≡ n → ⊥) (ltb (length (now out)) (countOf (now image))) (λ short e. omega arith)
-      (λ room. pick-by (λ (n : ℕ). r ≡ n → ⊥) (ltb (scanOf (now marks) .stop) (length (now marks))) (λ stop e. omega arith)
+      (λ room. pick-by (λ (n : ℕ). r ≡ n → ⊥) (ltb (scanMarks (now marks) .stop) (length (now marks))) (λ stop e. omega arith)
       (λ through. absurd (false≢true (sym through ∙ stopped)))))
       (λ other e. eqb-false _ _ other (sym e ∙ done)) (allowed .0)
 
   -- a record that was built, with at most one odd and one even blockette spoiled and marked, comes back with other bytes
   pub restore-gives-other-bytes :
-      (bytes : List ℕ) → length bytes ≤ limit → Spoiled bytes (now image) (now marks) → length bytes ≤ length (now out) → (after ≡ given bytes (now out) → ⊥) → ⊥
+      (bytes : List ℕ) → length bytes ≤ limit → Spoiled (imageOf bytes 1) (now image) (now marks) → length bytes ≤ length (now out)
+      → (after ≡ given bytes (now out) → ⊥) → ⊥
   restore-gives-other-bytes bytes fits spoiled room wrong =
       wrong (allowed .1 ∙ built-records-are-restored bytes (now image) (now marks) (now out) fits spoiled room .1)
 
@@ -73,7 +78,7 @@ module _ (κs : Lfts 3) (image marks out : RefT (List ℕ)) (r : ℕ) (after : L
 module _ (count density r : ℕ) (allowed : length-reads.Post tt (count, (density, tt)) r (count, (density, tt))) where
   -- the check blockettes are not counted
   pub length-without-check-blockettes : 1 ≤ count → count ≤ limit → (density ≡ 0 → ⊥) → r ≡ 2 + 256 * blocketteCount count → ⊥
-  unfolding lengthWithin imageLength hasBlockettes pick
+  unfolding imageLengthWithin imageLength hasBlockettes pick
   length-without-check-blockettes some fits gcr e =
       let has : (count ≡ 0 → ⊥) = λ none. omega arith in
       let right : r ≡ 2 + 256 * (blocketteCount count + 2) = allowed ∙ simp (le-ltb limit count fits, ne-eqb density 0 gcr, ne-eqb count 0 has) in
@@ -81,7 +86,7 @@ module _ (count density r : ℕ) (allowed : length-reads.Post tt (count, (densit
 
   -- a count above the limit has a length
   pub length-above-the-limit : limit < count → (r ≡ 0 → ⊥) → ⊥
-  unfolding lengthWithin
+  unfolding imageLengthWithin
   length-above-the-limit many wrong = wrong (allowed ∙ pick-yes _ _ (lt-ltb limit count many))
 
 -- ---- ctc_mark_count
@@ -89,7 +94,7 @@ module _ (count density r : ℕ) (allowed : length-reads.Post tt (count, (densit
 module _ (count density r : ℕ) (allowed : marks-reads.Post tt (count, (density, tt)) r (count, (density, tt))) where
   -- the check blockettes have no marks
   pub marks-without-check-blockettes : 1 ≤ count → count ≤ limit → (density ≡ 0 → ⊥) → r ≡ blocketteCount count → ⊥
-  unfolding marksWithin markCount hasBlockettes pick
+  unfolding markCountWithin markCount hasBlockettes pick
   marks-without-check-blockettes some fits gcr e =
       let has : (count ≡ 0 → ⊥) = λ none. omega arith in
       let right : r ≡ blocketteCount count + 2 = allowed ∙ simp (le-ltb limit count fits, ne-eqb density 0 gcr, ne-eqb count 0 has) in
@@ -97,39 +102,42 @@ module _ (count density r : ℕ) (allowed : marks-reads.Post tt (count, (density
 
   -- an MFM record has marks
   pub marks-in-mfm : density ≡ 0 → (r ≡ 0 → ⊥) → ⊥
-  unfolding marksWithin markCount hasBlockettes pick
+  unfolding markCountWithin markCount hasBlockettes pick
   marks-in-mfm mfm wrong =
-      wrong (allowed ∙ ap (λ (d : ℕ). marksWithin count d) mfm ∙ pick-both (ltb limit count) 0)
+      wrong (allowed ∙ ap (λ (d : ℕ). markCountWithin count d) mfm ∙ pick-both (ltb limit count) 0)
 
 -- ---- ctc_image_count
 
 module _ (κs : Lfts 1) (image : RefT (List ℕ)) (r : ℕ) (allowed : count-reads.Post κs (image, tt) r (image, tt)) where
   -- an image too short for a count has one
   pub count-of-a-short-image : length (now image) < 2 → r < 65536 → ⊥
-  unfolding countWithin
+  unfolding imageCount
   count-of-a-short-image short within =
       let right : r ≡ 65536 = allowed ∙ pick-yes _ _ (lt-ltb _ _ short) in omega arith
 
   -- the two bytes are taken as they stand: 80 02 is 5
   pub count-not-rotated : (rest : List ℕ) → now image ≡ 0x80 ∷ 0x02 ∷ rest → r ≡ 0x8002 → ⊥
-  unfolding countWithin countOf unrotated
+  unfolding imageCount countOf unrotated
   count-not-rotated rest starts e =
       let long : 2 ≤ length (0x80 ∷ 0x02 ∷ rest) = omega arith in
-      let right : r ≡ 5 = allowed ∙ ap countWithin starts ∙ pick-no _ _ (le-ltb _ _ long) in
+      let right : r ≡ 5 = allowed ∙ ap imageCount starts ∙ pick-no _ _ (le-ltb _ _ long) in
       omega arith
 
 -- ---- ctc_scan
 
-module _ (κs : Lfts 2) (marks report : RefT (List ℕ)) (r : ℕ) (after : List ℕ) (allowed : scan-reads.Post κs (marks, (report, tt)) r (marks, (at-last report after, tt))) where
+module _ (κs : Lfts 2) (marks report : RefT (List ℕ)) (r : ℕ) (after : List ℕ)
+    (allowed : scan-reads.Post κs (marks, (report, tt)) r (marks, (at-last report after, tt))) where
   -- a bad check blockette does not stop the scan, though blockette 0, of its parity, is bad too
   pub scan-passes-a-check-blockette : now marks ≡ 9 ∷ 15 ∷ 3 ∷ [] → r ≡ 0 → getD after 6 0 ≡ 0 → ⊥
-  unfolding scannedInto given scanReport defectAt kindOf numberOf scanOf scanFrom isError pick
+  unfolding scanRefusal scanInto given scanReport findingsOf defectAt kindOf numberOf scanMarks scanFrom isError pick
   scan-passes-a-check-blockette bad done e =
-      let holds : after ≡ given (scanReport (9 ∷ 15 ∷ 3 ∷ [])) (now report) =
-      allowed .1 ∙ where-done _ _ _ (sym (allowed .0) ∙ done) ∙ ap (λ (l : List ℕ). given (scanReport l) (now report)) bad
-      in
+      by-test (ltb (length (now report)) 9)
+      (λ short. let right : r ≡ 11 = allowed .0 ∙ simp short in omega arith)
+      (λ room.
+      let full : scanInto (now marks) (now report) ≡ given (scanReport (now marks)) (now report) = simp room in
+      let holds = allowed .1 ∙ full ∙ ap (λ (l : List ℕ). given (scanReport l) (now report)) bad in
       let right : getD after 6 0 ≡ 3 = ap (λ (l : List ℕ). getD l 6 0) holds in
-      omega arith
+      omega arith)
 
   -- nine bytes are given in less space
   pub scan-in-too-little-space : length (now report) < 9 → r ≡ 0 → ⊥

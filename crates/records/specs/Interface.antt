@@ -6,34 +6,44 @@ use lib.Dec.{ltb, eqb}
 use lib.ListN.{length}
 use Rattle.common.specs.Pick.{pick}
 use Rattle.common.specs.Given.{given}
-use Rattle.marks.specs.Scan.{scanOf, defectAt}
+use Rattle.common.specs.Refusals.{done, spaceShort}
+use Rattle.marks.specs.Scan.{findingsOf}
 use Rattle.records.specs.Count.{limit, countOf}
 use Rattle.records.specs.Image.{imageLength, markCount}
 
 -- the length of an image, 0 where no image has the count
-unfoldable pub lengthWithin : ℕ → ℕ → ℕ
-lengthWithin c density = pick (ltb limit c) 0 (imageLength c density)
+unfoldable pub imageLengthWithin : ℕ → ℕ → ℕ
+imageLengthWithin c density = pick (ltb limit c) 0 (imageLength c density)
 
 -- the number of marks, 0 where no image has the count
-unfoldable pub marksWithin : ℕ → ℕ → ℕ
-marksWithin c density = pick (ltb limit c) 0 (markCount c density)
+unfoldable pub markCountWithin : ℕ → ℕ → ℕ
+markCountWithin c density = pick (ltb limit c) 0 (markCount c density)
 
--- the count of an image; 65,536, which is no count, where two bytes are not there
-unfoldable pub countWithin : List ℕ → ℕ
-countWithin image = pick (ltb (length image) 2) 65536 (countOf image)
+-- what is no count: one more than 16 bits hold
+abbrev pub noCount : ℕ
+noCount = 65536
+
+-- the count of an image, and no count where two bytes are not there
+unfoldable pub imageCount : List ℕ → ℕ
+imageCount image = pick (ltb (length image) 2) noCount (countOf image)
+
+-- the bytes of a report
+abbrev pub reportLength : ℕ
+reportLength = 9
 
 -- what the scan finds, as nine bytes: mark, kind and number of the first odd error, of the first even one, and of the stopping one
 unfoldable pub scanReport : List ℕ → List ℕ
 scanReport marks =
-    defectAt marks (scanOf marks .odd) .mark ∷ defectAt marks (scanOf marks .odd) .kind ∷ defectAt marks (scanOf marks .odd) .number
-    ∷ defectAt marks (scanOf marks .even) .mark ∷ defectAt marks (scanOf marks .even) .kind ∷ defectAt marks (scanOf marks .even) .number
-    ∷ defectAt marks (scanOf marks .stop) .mark ∷ defectAt marks (scanOf marks .stop) .kind ∷ defectAt marks (scanOf marks .stop) .number
+    let found = findingsOf marks in
+    found .odd .mark ∷ found .odd .kind ∷ found .odd .number ∷ found .even .mark ∷ found .even .kind ∷ found .even .number ∷ found .stop .mark
+    ∷ found .stop .kind
+    ∷ found .stop .number
     ∷ []
 
--- 11 where the nine bytes do not fit
+-- "11 .. short" where the report does not fit
 unfoldable pub scanRefusal : ℕ → ℕ
-scanRefusal space = pick (ltb space 9) 11 0
+scanRefusal space = pick (ltb space reportLength) spaceShort done
 
 -- the space afterwards: as it was where the call is refused
-unfoldable pub scannedInto : List ℕ → List ℕ → List ℕ
-scannedInto marks space = pick (eqb (scanRefusal (length space)) 0) (given (scanReport marks) space) space
+unfoldable pub scanInto : List ℕ → List ℕ → List ℕ
+scanInto marks space = pick (eqb (scanRefusal (length space)) done) (given (scanReport marks) space) space

@@ -3,4 +3,5 @@ pub mod Image
 pub mod Whole
 pub mod Build
 pub mod Restore
+pub mod Spoiled
 pub mod Interface

@@ -6,8 +6,9 @@ use lib.Dec.{ltb, eqb}
 use lib.ListN.{length, take, drop}
 use Rattle.common.specs.Pick.{pick}
 use Rattle.common.specs.Given.{given}
-use Rattle.blockettes.specs.Blockettes.{othersOf}
-use Rattle.marks.specs.Scan.{scanOf}
+use Rattle.common.specs.Refusals.{done, spaceShort, unrestorable}
+use Rattle.blockettes.specs.Blockettes.{blocketteLength, othersOf}
+use Rattle.marks.specs.Scan.{scanMarks}
 use Rattle.records.specs.Count.{countOf}
 use Rattle.records.specs.Image.{blocketteCount}
 use Rattle.records.specs.Whole.{wholeRefusal}
@@ -15,8 +16,8 @@ use Rattle.records.specs.Whole.{wholeRefusal}
 -- "9, 10" of a GCR image; "11 .. the restorer's output space, short; 12 restorer: two bad of one parity", lowest first
 unfoldable pub restoreRefusal : List ℕ → List ℕ → ℕ → ℕ
 restoreRefusal image marks space =
-    pick (eqb (wholeRefusal image marks 1) 0)
-    (pick (ltb space (countOf image)) 11 (pick (ltb (scanOf marks .stop) (length marks)) 12 0))
+    pick (eqb (wholeRefusal image marks 1) done)
+    (pick (ltb space (countOf image)) spaceShort (pick (ltb (scanMarks marks .stop) (length marks)) unrestorable done))
     (wholeRefusal image marks 1)
 
 -- a string with another written over it from a start, as far as it goes
@@ -25,17 +26,20 @@ writtenAt bytes start new = take start bytes ++ (take (length bytes - start) new
 
 -- Bytes whose blockette at a place is made from the others of its parity, check blockette included; a place at n or above is
 -- that of a check blockette, or none, and leaves the bytes as they are.
-unfoldable pub mendedAt : List ℕ → ℕ → ℕ → List ℕ → List ℕ
-mendedAt blockettes n place bytes =
-    pick (ltb place n) (writtenAt bytes (256 * place) (othersOf blockettes (n + 2) place)) bytes
+unfoldable pub mendAt : List ℕ → ℕ → ℕ → List ℕ → List ℕ
+mendAt blockettes n place bytes =
+    pick (ltb place n) (writtenAt bytes (blocketteLength * place) (othersOf blockettes (n + 2) place)) bytes
 
--- the c bytes, with the bad odd and the bad even blockette restored
-unfoldable pub restoredOf : List ℕ → List ℕ → List ℕ
-restoredOf image marks =
-    mendedAt (drop 2 image) (blocketteCount (countOf image)) (scanOf marks .even)
-    (mendedAt (drop 2 image) (blocketteCount (countOf image)) (scanOf marks .odd) (take (countOf image) (drop 2 image)))
+-- c bytes from the blockettes of a record, n of data, with the blockettes at two places restored
+abbrev pub restoredOf : List ℕ → ℕ → ℕ → ℕ → ℕ → List ℕ
+restoredOf blockettes n odd even c = mendAt blockettes n even (mendAt blockettes n odd (take c blockettes))
+
+-- "GCR image and marks to c bytes": the bad odd and the bad even blockette are restored
+unfoldable pub restoredBytes : List ℕ → List ℕ → List ℕ
+restoredBytes image marks =
+    restoredOf (drop 2 image) (blocketteCount (countOf image)) (scanMarks marks .odd) (scanMarks marks .even) (countOf image)
 
 -- the output space afterwards: as it was where the call is refused
-unfoldable pub restoredInto : List ℕ → List ℕ → List ℕ → List ℕ
-restoredInto image marks space =
-    pick (eqb (restoreRefusal image marks (length space)) 0) (given (restoredOf image marks) space) space
+unfoldable pub restoreInto : List ℕ → List ℕ → List ℕ → List ℕ
+restoreInto image marks space =
+    pick (eqb (restoreRefusal image marks (length space)) done) (given (restoredBytes image marks) space) space

@@ -1,40 +1,43 @@
-// The builder. Each `put_` function fills the whole of the space that it is lent.
+// The builder. Each `put_` function fills the whole of the space that it is lent: `put_x` leaves there what `x` or `xOf` defines.
 use crate::count::LIMIT;
-use crate::count::put_count;
+use crate::count::put_count_bytes;
 use crate::layout::blockette_count;
 use crate::layout::has_blockettes;
 use crate::layout::image_length;
-use blockettes::check;
-use common::give_filled;
+use blockettes::BLOCKETTE_LENGTH;
+use blockettes::put_check;
+use common::put_filled;
+use common::refusals::DONE;
+use common::refusals::SPACE_SHORT;
+use common::refusals::WRONG_LENGTH;
 ghost use mathlib.Core.Path.{_≡_};
 ghost use Prim.Native.Nat.{_+_, _*_, _≤_};
-ghost use mathlib.Core.List.{_++_};
 ghost use lib.ListN.{length};
 ghost use Rattle.common.specs.Given.{filled};
-ghost use Rattle.blockettes.specs.Blockettes.{checkOf};
+ghost use Rattle.blockettes.specs.Blockettes.{blocketteLength, checksLength};
 ghost use Rattle.records.specs.Count.{limit};
-ghost use Rattle.records.specs.Image.{imageLength, imageOf, bodyOf, blockettesOf};
-ghost use Rattle.records.specs.Build.{buildRefusal, builtInto};
+ghost use Rattle.records.specs.Image.{checksOf, blockettesOf, bodyOf, imageOf, imageLength};
+ghost use Rattle.records.specs.Build.{buildRefusal, buildInto};
 
 // Both check blockettes of n blockettes of data.
 fn put_checks(bytes: &[u8], n: usize, space: &mut [u8])
     requires { ⌜ n ≤ 256 ⌝ }
-    requires { ⌜ length (now space) ≡ 512 ⌝ }
-    ensures { λ _. ⌜ now (space .exit) ≡ checkOf (now (bytes .entry)) n 1 ++ checkOf (now (bytes .entry)) n 0 ⌝ }
+    requires { ⌜ length (now space) ≡ checksLength ⌝ }
+    ensures { λ _. ⌜ now (space .exit) ≡ checksOf (now (bytes .entry)) n ⌝ }
 {
-    check(&mut space[..256], bytes, n, 1);
-    check(&mut space[256..], bytes, n, 0);
+    put_check(&mut space[..BLOCKETTE_LENGTH], bytes, n, 1);
+    put_check(&mut space[BLOCKETTE_LENGTH..], bytes, n, 0);
 }
 
 // The blockettes of data and of check. Bytes that are missing are zeros.
 fn put_blockettes(bytes: &[u8], n: usize, space: &mut [u8])
     requires { ⌜ n ≤ 256 ⌝ }
-    requires { ⌜ length (now bytes) ≤ 256 * n ⌝ }
-    requires { ⌜ length (now space) ≡ 256 * (n + 2) ⌝ }
+    requires { ⌜ length (now bytes) ≤ blocketteLength * n ⌝ }
+    requires { ⌜ length (now space) ≡ blocketteLength * (n + 2) ⌝ }
     ensures { λ _. ⌜ now (space .exit) ≡ blockettesOf (now (bytes .entry)) n ⌝ }
 {
-    let data = 256 * n;
-    give_filled(bytes, &mut space[..data]);
+    let data = BLOCKETTE_LENGTH * n;
+    put_filled(bytes, &mut space[..data]);
     put_checks(bytes, n, &mut space[data..]);
 }
 
@@ -49,7 +52,7 @@ fn put_body(bytes: &[u8], count: usize, density: u8, space: &mut [u8])
     if gcr {
         put_blockettes(bytes, blockette_count(count), space);
     } else {
-        give_filled(bytes, space);
+        put_filled(bytes, space);
     }
 }
 
@@ -60,35 +63,35 @@ pub fn put_image(bytes: &[u8], count: usize, density: u8, image: &mut [u8])
     requires { ⌜ length (now image) ≡ imageLength count density ⌝ }
     ensures { λ _. ⌜ now (image .exit) ≡ imageOf (filled (now (bytes .entry)) count) density ⌝ }
 {
-    put_count(count, &mut image[..2]);
+    put_count_bytes(count, &mut image[..2]);
     put_body(bytes, count, density, &mut image[2..]);
 }
 
-// 9 or 11, or 0.
+// Refused for too many bytes or too little space.
 fn build_refusal(count: usize, density: u8, space: usize) -> u32
     ensures { λ r. ⌜ r ≡ buildRefusal count density space ⌝ }
 {
     if LIMIT < count {
-        return 9;
+        return WRONG_LENGTH;
     }
     let needed = image_length(count, density);
     if space < needed {
-        return 11;
+        return SPACE_SHORT;
     }
-    0
+    DONE
 }
 
 // Bytes to an image, at the start of the space.
 pub fn build(bytes: &[u8], density: u8, image: &mut [u8]) -> u32
     ensures { λ r. ⌜ r ≡ buildRefusal (length (now (bytes .entry))) density (length (now (image .entry))) ⌝ }
-    ensures { λ _. ⌜ now (image .exit) ≡ builtInto (now (bytes .entry)) density (now (image .entry)) ⌝ }
+    ensures { λ _. ⌜ now (image .exit) ≡ buildInto (now (bytes .entry)) density (now (image .entry)) ⌝ }
 {
     let count = bytes.len();
     let refusal = build_refusal(count, density, image.len());
-    if refusal != 0 {
+    if refusal != DONE {
         return refusal;
     }
     let needed = image_length(count, density);
     put_image(bytes, count, density, &mut image[..needed]);
-    0
+    DONE
 }

@@ -8,7 +8,7 @@ ghost use Rattle.records.specs.Count.{limit, countBytes, countOf};
 pub const LIMIT: usize = 16384;
 
 // Writes a count.
-pub fn put_count(count: usize, space: &mut [u8])
+pub fn put_count_bytes(count: usize, space: &mut [u8])
     requires { ⌜ count ≤ limit ⌝ }
     requires { ⌜ length (now space) ≡ 2 ⌝ }
     ensures { λ _. ⌜ now (space .exit) ≡ countBytes count ⌝ }

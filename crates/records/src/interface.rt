@@ -6,19 +6,26 @@ use crate::layout::image_length;
 use crate::layout::mark_count;
 use crate::restore::restore;
 use common::give;
-use marks::defect_at;
-use marks::scan_marks;
+use common::refusals::DONE;
+use common::refusals::SPACE_SHORT;
+use marks::findings_of;
 ghost use mathlib.Core.Path.{_≡_};
 ghost use lib.ListN.{length};
-ghost use Rattle.records.specs.Build.{buildRefusal, builtInto};
-ghost use Rattle.records.specs.Restore.{restoreRefusal, restoredInto};
-ghost use Rattle.records.specs.Interface.{lengthWithin, marksWithin, countWithin, scanReport, scanRefusal, scannedInto};
+ghost use Rattle.records.specs.Build.{buildRefusal, buildInto};
+ghost use Rattle.records.specs.Restore.{restoreRefusal, restoreInto};
+ghost use Rattle.records.specs.Interface.{imageLengthWithin, markCountWithin, imageCount, scanReport, scanRefusal, scanInto};
+
+// What is no count: one more than 16 bits hold.
+const NO_COUNT: usize = 65536;
+
+// The bytes of a report.
+const REPORT_LENGTH: usize = 9;
 
 // Bytes to an image.
 #[no_mangle]
 pub extern "C" fn ctc_build(bytes: &[u8], density: u8, image: &mut [u8]) -> u32
     ensures { λ r. ⌜ r ≡ buildRefusal (length (now (bytes .entry))) density (length (now (image .entry))) ⌝ }
-    ensures { λ _. ⌜ now (image .exit) ≡ builtInto (now (bytes .entry)) density (now (image .entry)) ⌝ }
+    ensures { λ _. ⌜ now (image .exit) ≡ buildInto (now (bytes .entry)) density (now (image .entry)) ⌝ }
 {
     build(bytes, density, image)
 }
@@ -27,7 +34,7 @@ pub extern "C" fn ctc_build(bytes: &[u8], density: u8, image: &mut [u8]) -> u32
 #[no_mangle]
 pub extern "C" fn ctc_restore(image: &[u8], marks: &[u8], out: &mut [u8]) -> u32
     ensures { λ r. ⌜ r ≡ restoreRefusal (now (image .entry)) (now (marks .entry)) (length (now (out .entry))) ⌝ }
-    ensures { λ _. ⌜ now (out .exit) ≡ restoredInto (now (image .entry)) (now (marks .entry)) (now (out .entry)) ⌝ }
+    ensures { λ _. ⌜ now (out .exit) ≡ restoreInto (now (image .entry)) (now (marks .entry)) (now (out .entry)) ⌝ }
 {
     restore(image, marks, out)
 }
@@ -35,7 +42,7 @@ pub extern "C" fn ctc_restore(image: &[u8], marks: &[u8], out: &mut [u8]) -> u32
 // The length of an image, 0 where no image has the count.
 #[no_mangle]
 pub extern "C" fn ctc_image_length(count: usize, density: u8) -> usize
-    ensures { λ r. ⌜ r ≡ lengthWithin count density ⌝ }
+    ensures { λ r. ⌜ r ≡ imageLengthWithin count density ⌝ }
 {
     if LIMIT < count {
         return 0;
@@ -46,7 +53,7 @@ pub extern "C" fn ctc_image_length(count: usize, density: u8) -> usize
 // The number of its marks, 0 where no image has the count.
 #[no_mangle]
 pub extern "C" fn ctc_mark_count(count: usize, density: u8) -> usize
-    ensures { λ r. ⌜ r ≡ marksWithin count density ⌝ }
+    ensures { λ r. ⌜ r ≡ markCountWithin count density ⌝ }
 {
     if LIMIT < count {
         return 0;
@@ -54,35 +61,32 @@ pub extern "C" fn ctc_mark_count(count: usize, density: u8) -> usize
     mark_count(count, density)
 }
 
-// The count that an image says; 65,536, which is no count, where two bytes are not there.
+// The count that an image says, and no count where two bytes are not there.
 #[no_mangle]
 pub extern "C" fn ctc_image_count(image: &[u8]) -> usize
-    ensures { λ r. ⌜ r ≡ countWithin (now (image .entry)) ⌝ }
+    ensures { λ r. ⌜ r ≡ imageCount (now (image .entry)) ⌝ }
 {
     if image.len() < 2 {
-        return 65536;
+        return NO_COUNT;
     }
     count_of(image)
 }
 
 // What the scan finds, as nine bytes.
-fn scan_report(marks: &[u8]) -> [u8; 9]
+fn scan_report(marks: &[u8]) -> [u8; REPORT_LENGTH]
     ensures { λ r. ⌜ r ≡ scanReport (now (marks .entry)) ⌝ }
 {
-    let errors = scan_marks(marks);
-    let odd = defect_at(marks, errors.odd);
-    let even = defect_at(marks, errors.even);
-    let stop = defect_at(marks, errors.stop);
+    let found = findings_of(marks);
     [
-        odd.mark,
-        odd.kind,
-        odd.number,
-        even.mark,
-        even.kind,
-        even.number,
-        stop.mark,
-        stop.kind,
-        stop.number,
+        found.odd.mark,
+        found.odd.kind,
+        found.odd.number,
+        found.even.mark,
+        found.even.kind,
+        found.even.number,
+        found.stop.mark,
+        found.stop.kind,
+        found.stop.number,
     ]
 }
 
@@ -90,12 +94,12 @@ fn scan_report(marks: &[u8]) -> [u8; 9]
 #[no_mangle]
 pub extern "C" fn ctc_scan(marks: &[u8], report: &mut [u8]) -> u32
     ensures { λ r. ⌜ r ≡ scanRefusal (length (now (report .entry))) ⌝ }
-    ensures { λ _. ⌜ now (report .exit) ≡ scannedInto (now (marks .entry)) (now (report .entry)) ⌝ }
+    ensures { λ _. ⌜ now (report .exit) ≡ scanInto (now (marks .entry)) (now (report .entry)) ⌝ }
 {
-    if report.len() < 9 {
-        return 11;
+    if report.len() < REPORT_LENGTH {
+        return SPACE_SHORT;
     }
     let found = scan_report(marks);
     give(&found, report);
-    0
+    DONE
 }

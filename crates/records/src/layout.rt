@@ -1,4 +1,5 @@
 // How many blockettes, bytes and marks a record has.
+use blockettes::BLOCKETTE_LENGTH;
 ghost use mathlib.Core.Path.{_≡_};
 ghost use Prim.Native.Nat.{_≤_};
 ghost use Rattle.records.specs.Count.{limit};
@@ -9,14 +10,14 @@ pub fn blockette_count(count: usize) -> usize
     requires { ⌜ count ≤ limit ⌝ }
     ensures { λ r. ⌜ r ≡ blocketteCount count ⌝ }
 {
-    (count + 255) / 256
+    (count + (BLOCKETTE_LENGTH - 1)) / BLOCKETTE_LENGTH
 }
 
 // Whether there are any: in GCR, where the count is not 0.
 pub fn has_blockettes(count: usize, density: u8) -> bool
     ensures { λ r. ⌜ r ≡ hasBlockettes count density ⌝ }
 {
-    !(density == 0) & !(count == 0)
+    (density != 0) & (count != 0)
 }
 
 // The length of an image.
@@ -26,7 +27,7 @@ pub fn image_length(count: usize, density: u8) -> usize
 {
     let gcr = has_blockettes(count, density);
     if gcr {
-        return 2 + 256 * (blockette_count(count) + 2);
+        return 2 + BLOCKETTE_LENGTH * (blockette_count(count) + 2);
     }
     2 + count
 }

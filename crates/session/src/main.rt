@@ -1,17 +1,24 @@
 // The session program: reads lines from standard input to its end, and answers each as soon as it is there.
-mod answers;
+mod batch;
+mod buffers;
 
-use crate::answers::Work;
-use crate::answers::answer_lines;
-use crate::answers::answer_next;
+use crate::batch::Work;
+use crate::batch::answer_lines;
+use crate::batch::answer_next;
+use crate::buffers::INPUT_SIZE;
+use crate::buffers::OUTPUT_SIZE;
 use controller::controller::Controller;
 use controller::controller::fresh_controller;
 use libc::STDERR_FILENO;
 use libc::STDIN_FILENO;
 use libc::STDOUT_FILENO;
+use lines::limits::CHECK_STORE;
+use lines::limits::IMAGE_LIMIT;
+use lines::limits::MARKS_LIMIT;
 ghost use mathlib.Core.Path.{_≡_};
 ghost use Prim.Native.Nat.{_≤_, _<_};
 ghost use lib.ListN.{length};
+ghost use Rattle.session.specs.Buffers.{inputSize, outputSize};
 
 // The state between two reads: how many bytes of a line that has not ended stand in the input, and whether to go on.
 struct Session {
@@ -35,10 +42,10 @@ fn move_to_start(input: &mut [u8], from: usize, end: usize)
 }
 
 // A line that fills the input and has not ended is too long: its bytes are dropped, and it is answered where it ends.
-fn held_line(controller: Controller, held: usize, long: bool) -> Session
-    ensures { λ r. ⌜ r .held < 65536 ⌝ }
+fn hold_line(controller: Controller, held: usize, long: bool) -> Session
+    ensures { λ r. ⌜ r .held < inputSize ⌝ }
 {
-    if held < 65536 {
+    if held < INPUT_SIZE {
         return Session {
             controller,
             held,
@@ -55,9 +62,9 @@ fn held_line(controller: Controller, held: usize, long: bool) -> Session
 }
 
 // The input has ended.
-fn ended(session: Session) -> Session
-    requires { ⌜ session .held < 65536 ⌝ }
-    ensures { λ r. ⌜ r .held < 65536 ⌝ }
+fn finish(session: Session) -> Session
+    requires { ⌜ session .held < inputSize ⌝ }
+    ensures { λ r. ⌜ r .held < inputSize ⌝ }
 {
     let controller = session.controller;
     Session {
@@ -69,8 +76,8 @@ fn ended(session: Session) -> Session
 }
 
 // A read or a write failed: what is in hand is no line.
-fn failed(controller: Controller) -> Session
-    ensures { λ r. ⌜ r .held < 65536 ⌝ }
+fn give_up(controller: Controller) -> Session
+    ensures { λ r. ⌜ r .held < inputSize ⌝ }
 {
     Session {
         controller,
@@ -81,22 +88,23 @@ fn failed(controller: Controller) -> Session
 }
 
 // A program has no exit status to tell a failure by, so it is told on standard error.
-fn unread(controller: Controller) -> Session
-    ensures { λ r. ⌜ r .held < 65536 ⌝ }
+fn give_up_reading(controller: Controller) -> Session
+    ensures { λ r. ⌜ r .held < inputSize ⌝ }
 {
     io::write_all(STDERR_FILENO, b"session: the input cannot be read\n");
-    failed(controller)
+    give_up(controller)
 }
 
+// The same of a write.
 fn tell_unwritten() {
     io::write_all(STDERR_FILENO, b"session: the answers cannot be written\n");
 }
 
-fn unwritten(controller: Controller) -> Session
-    ensures { λ r. ⌜ r .held < 65536 ⌝ }
+fn give_up_writing(controller: Controller) -> Session
+    ensures { λ r. ⌜ r .held < inputSize ⌝ }
 {
     tell_unwritten();
-    failed(controller)
+    give_up(controller)
 }
 
 // Writes the last answer.
@@ -111,15 +119,15 @@ fn answer_read(
     session: Session,
     input: &mut [u8],
     end: usize,
-    bytes: &mut [u8; 16898],
-    marks: &mut [u8; 66],
-    space: &mut [u8; 16898],
-    check: &mut [u8; 512],
+    bytes: &mut [u8; IMAGE_LIMIT],
+    marks: &mut [u8; MARKS_LIMIT],
+    space: &mut [u8; IMAGE_LIMIT],
+    check: &mut [u8; CHECK_STORE],
     out: &mut [u8],
 ) -> Session
     requires { ⌜ (session .held ≤ end) × (end ≤ length (now input)) ⌝ }
-    requires { ⌜ length (now out) ≡ 65536 ⌝ }
-    ensures { λ r. ⌜ r .held < 65536 ⌝ }
+    requires { ⌜ length (now out) ≡ outputSize ⌝ }
+    ensures { λ r. ⌜ r .held < inputSize ⌝ }
 {
     let cut = answer_lines(
         session.controller,
@@ -138,32 +146,32 @@ fn answer_read(
     let written = io::write_all(STDOUT_FILENO, &out[..count]);
     move_to_start(input, from, end);
     if written & cut.work.open {
-        return held_line(controller, end - from, cut.work.long);
+        return hold_line(controller, end - from, cut.work.long);
     }
-    unwritten(controller)
+    give_up_writing(controller)
 }
 
 // Reads once, and answers every line that is whole by then.
 fn read_some(
     session: Session,
     input: &mut [u8],
-    bytes: &mut [u8; 16898],
-    marks: &mut [u8; 66],
-    space: &mut [u8; 16898],
-    check: &mut [u8; 512],
+    bytes: &mut [u8; IMAGE_LIMIT],
+    marks: &mut [u8; MARKS_LIMIT],
+    space: &mut [u8; IMAGE_LIMIT],
+    check: &mut [u8; CHECK_STORE],
     out: &mut [u8],
 ) -> Session
-    requires { ⌜ (session .held < 65536) × (length (now input) ≡ 65536) ⌝ }
-    requires { ⌜ length (now out) ≡ 65536 ⌝ }
-    ensures { λ r. ⌜ r .held < 65536 ⌝ }
+    requires { ⌜ (session .held < inputSize) × (length (now input) ≡ inputSize) ⌝ }
+    requires { ⌜ length (now out) ≡ outputSize ⌝ }
+    ensures { λ r. ⌜ r .held < inputSize ⌝ }
 {
     let held = session.held;
     let got = libc::read(STDIN_FILENO, &mut input[held..]);
     if got < 0 {
-        return unread(session.controller);
+        return give_up_reading(session.controller);
     }
     if got == 0 {
-        return ended(session);
+        return finish(session);
     }
     let more = io::count(got, &input[held..]);
     let end = held + more;
@@ -173,15 +181,15 @@ fn read_some(
 // The same, with the program's buffers.
 fn read_once(
     session: Session,
-    input: &mut [u8; 65536],
-    bytes: &mut [u8; 16898],
-    marks: &mut [u8; 66],
-    space: &mut [u8; 16898],
-    check: &mut [u8; 512],
-    out: &mut [u8; 65536],
+    input: &mut [u8; INPUT_SIZE],
+    bytes: &mut [u8; IMAGE_LIMIT],
+    marks: &mut [u8; MARKS_LIMIT],
+    space: &mut [u8; IMAGE_LIMIT],
+    check: &mut [u8; CHECK_STORE],
+    out: &mut [u8; OUTPUT_SIZE],
 ) -> Session
-    requires { ⌜ session .held < 65536 ⌝ }
-    ensures { λ r. ⌜ r .held < 65536 ⌝ }
+    requires { ⌜ session .held < inputSize ⌝ }
+    ensures { λ r. ⌜ r .held < inputSize ⌝ }
 {
     read_some(session, input, bytes, marks, space, check, out)
 }
@@ -190,18 +198,18 @@ fn read_once(
 fn answer_held(
     session: Session,
     input: &[u8],
-    bytes: &mut [u8; 16898],
-    marks: &mut [u8; 66],
-    space: &mut [u8; 16898],
-    check: &mut [u8; 512],
+    bytes: &mut [u8; IMAGE_LIMIT],
+    marks: &mut [u8; MARKS_LIMIT],
+    space: &mut [u8; IMAGE_LIMIT],
+    check: &mut [u8; CHECK_STORE],
     out: &mut [u8],
 )
-    requires { ⌜ (session .held < 65536) × (length (now input) ≡ 65536) ⌝ }
-    requires { ⌜ length (now out) ≡ 65536 ⌝ }
+    requires { ⌜ (session .held < inputSize) × (length (now input) ≡ inputSize) ⌝ }
+    requires { ⌜ length (now out) ≡ outputSize ⌝ }
 {
     let held = session.held;
-    let some = (0 < held) | session.long;
-    if some {
+    let unanswered = (0 < held) | session.long;
+    if unanswered {
         let c = session.controller;
         let work = Work {
             controller: c,
@@ -218,26 +226,26 @@ fn answer_held(
 // The same, with the program's buffers.
 fn answer_last(
     session: Session,
-    input: &mut [u8; 65536],
-    bytes: &mut [u8; 16898],
-    marks: &mut [u8; 66],
-    space: &mut [u8; 16898],
-    check: &mut [u8; 512],
-    out: &mut [u8; 65536],
+    input: &mut [u8; INPUT_SIZE],
+    bytes: &mut [u8; IMAGE_LIMIT],
+    marks: &mut [u8; MARKS_LIMIT],
+    space: &mut [u8; IMAGE_LIMIT],
+    check: &mut [u8; CHECK_STORE],
+    out: &mut [u8; OUTPUT_SIZE],
 )
-    requires { ⌜ session .held < 65536 ⌝ }
+    requires { ⌜ session .held < inputSize ⌝ }
 {
     answer_held(session, input, bytes, marks, space, check, out);
 }
 
 // A proved loop has to end, and nothing says that the input does. So the loop counts its reads down, from a number that no run uses up.
 fn main() {
-    let mut input = [0u8; 65536];
-    let mut bytes = [0u8; 16898];
-    let mut marks = [0u8; 66];
-    let mut space = [0u8; 16898];
-    let mut check = [0u8; 512];
-    let mut out = [0u8; 65536];
+    let mut input = [0u8; INPUT_SIZE];
+    let mut bytes = [0u8; IMAGE_LIMIT];
+    let mut marks = [0u8; MARKS_LIMIT];
+    let mut space = [0u8; IMAGE_LIMIT];
+    let mut check = [0u8; CHECK_STORE];
+    let mut out = [0u8; OUTPUT_SIZE];
     let controller = fresh_controller();
     let mut session = Session {
         controller,

@@ -6,7 +6,7 @@ use native.Mathlib.Omega.{arith}
 use Rattle.common.specs.Pick.{pick}
 use Rattle.status.specs.declared.drives.Drive.{Drive}
 use Rattle.status.specs.declared.drives.Drives.{Drives}
-use Rattle.status.specs.Drives.{driveOf, withDrive, copied, reviewedAll}
+use Rattle.status.specs.Drives.{driveOf, withDrive, copyReport, copyReports}
 
 -- a claim of a drive's number, from the claim of each of the four
 pub by-four : (P : ℕ → Type 0) → P 0 → P 1 → P 2 → P 3 → (n : ℕ) → n ≤ 3 → P n
@@ -34,6 +34,6 @@ module _ (drives : Drives) (drive : Drive) where
       n hn m hm
 
 -- a review leaves each drive as it was, with its report copied
-pub reviewed-drive : (drives : Drives) (n : ℕ) → n ≤ 3 → driveOf (reviewedAll drives) n ≡ copied (driveOf drives n)
-unfolding driveOf reviewedAll pick
-reviewed-drive drives = by-four (λ n. driveOf (reviewedAll drives) n ≡ copied (driveOf drives n)) refl refl refl refl
+pub reviewed-drive : (drives : Drives) (n : ℕ) → n ≤ 3 → driveOf (copyReports drives) n ≡ copyReport (driveOf drives n)
+unfolding driveOf copyReports pick
+reviewed-drive drives = by-four (λ n. driveOf (copyReports drives) n ≡ copyReport (driveOf drives n)) refl refl refl refl

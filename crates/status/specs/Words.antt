@@ -2,7 +2,7 @@
 -- from 0, the most significant."
 -- Assumes nothing.
 use Prim.Native.Nat.{ℕ, _+_, _*_, _/_, _%_}
-use mathlib.Core.Bool.{Bool, false, _||_}
+use mathlib.Core.Bool.{Bool, true, false, _||_}
 use Rattle.common.specs.Pick.{pick}
 use Rattle.marks.specs.declared.Defect.{Defect}
 use Rattle.status.specs.declared.drives.Drive.{Drive}
@@ -11,8 +11,8 @@ use Rattle.status.specs.declared.words.Word.{Word}
 use Rattle.status.specs.declared.words.Outcome.{Outcome}
 
 -- a bit of a byte, by its weight there
-unfoldable pub bit : Bool → ℕ → ℕ
-bit set weight = pick set weight 0
+unfoldable pub bitOf : Bool → ℕ → ℕ
+bitOf set weight = pick set weight 0
 
 -- "clear primary bits 2 and 8-22"
 unfoldable pub noOutcome : Outcome
@@ -31,6 +31,40 @@ noOutcome =
       counted = false;
     }
 
+-- "A code here ends the store with motion 00.", and asks a retry
+abbrev pub withCode : Outcome → ℕ → Outcome
+withCode outcome code =
+    record {
+      retry = true;
+      mark = outcome .mark;
+      motion = 0;
+      code = code;
+      parity = outcome .parity;
+      overflow = outcome .overflow;
+      underflow = outcome .underflow;
+      wdl = outcome .wdl;
+      rdl = outcome .rdl;
+      supplied = outcome .supplied;
+      counted = outcome .counted;
+    }
+
+-- "fewer host bytes than thrown away plus count: zeros fill, bit 18"
+abbrev pub withUnderflow : Outcome → Bool → Outcome
+withUnderflow outcome short =
+    record {
+      retry = outcome .retry;
+      mark = outcome .mark;
+      motion = outcome .motion;
+      code = outcome .code;
+      parity = outcome .parity;
+      overflow = outcome .overflow;
+      underflow = outcome .underflow || short;
+      wdl = outcome .wdl;
+      rdl = outcome .rdl;
+      supplied = outcome .supplied;
+      counted = outcome .counted;
+    }
+
 -- "any of bits 16-20"
 unfoldable pub anyBit : Outcome → Bool
 anyBit outcome = outcome .parity || (outcome .overflow || (outcome .underflow || (outcome .wdl || outcome .rdl)))
@@ -38,18 +72,18 @@ anyBit outcome = outcome .parity || (outcome .overflow || (outcome .underflow ||
 -- "Primary: changed, enable, retry, track (3-5), drive (6-7), .."
 abbrev pub primaryFirst : Bool → Bool → Outcome → ℕ → Drive → ℕ
 primaryFirst changed enable outcome selected drive =
-    bit changed 128 + bit enable 64 + bit (outcome .retry) 32 + drive .track % 8 * 4 + selected % 4
+    bitOf changed 128 + bitOf enable 64 + bitOf (outcome .retry) 32 + drive .track % 8 * 4 + selected % 4
 
 -- ".. mark, motion (9-10), code (11-15), .."
 abbrev pub primarySecond : Outcome → ℕ
-primarySecond outcome = bit (outcome .mark) 128 + outcome .motion % 4 * 32 + outcome .code % 32
+primarySecond outcome = bitOf (outcome .mark) 128 + outcome .motion % 4 * 32 + outcome .code % 32
 
 -- ".. 16-22 as said, density, .."
 abbrev pub primaryThird : Outcome → Drive → ℕ
 primaryThird outcome drive =
-    bit (outcome .parity) 128 + bit (outcome .overflow) 64 + bit (outcome .underflow) 32 + bit (outcome .wdl) 16 + bit (outcome .rdl) 8
-    + bit (outcome .supplied) 4
-    + bit (outcome .counted) 2
+    bitOf (outcome .parity) 128 + bitOf (outcome .overflow) 64 + bitOf (outcome .underflow) 32 + bitOf (outcome .wdl) 16 + bitOf (outcome .rdl) 8
+    + bitOf (outcome .supplied) 4
+    + bitOf (outcome .counted) 2
     + drive .density % 2
 
 -- ".. report."
@@ -67,8 +101,8 @@ unfoldable pub secondaryWord : ℕ → Word
 secondaryWord count = record { b0 = 0; b1 = 0; b2 = count / 256 % 256; b3 = count % 256 }
 
 -- "mark and kind .. as two digits"
-unfoldable pub digits : Defect → ℕ
-digits defect = defect .mark % 16 * 16 + defect .kind % 16
+unfoldable pub digitsOf : Defect → ℕ
+digitsOf defect = defect .mark % 16 * 16 + defect .kind % 16
 
 -- "zero where none"
 abbrev pub zeroWord : Word
@@ -76,11 +110,11 @@ zeroWord = record { b0 = 0; b1 = 0; b2 = 0; b3 = 0 }
 
 -- "Tertiary: first odd error's mark and kind (1 data, 2 check) as two digits, its number, then the same for even; zero where none."
 unfoldable pub tertiaryOf : Defect → Defect → Word
-tertiaryOf odd even = record { b0 = digits odd; b1 = odd .number; b2 = digits even; b3 = even .number }
+tertiaryOf odd even = record { b0 = digitsOf odd; b1 = odd .number; b2 = digitsOf even; b3 = even .number }
 
 -- "Quintary: 00 00, mark and kind, number of the stopping one."
 unfoldable pub quintaryOf : Defect → Word
-quintaryOf stop = record { b0 = 0; b1 = 0; b2 = digits stop; b3 = stop .number }
+quintaryOf stop = record { b0 = 0; b1 = 0; b2 = digitsOf stop; b3 = stop .number }
 
 -- load 4: "reports, drive 0 first"
 unfoldable pub reportsWord : Drives → Word

@@ -1,9 +1,42 @@
 // The four drives. Their records are named fields, so that no index has to be shown to be in range.
 ghost use mathlib.Core.Path.{_≡_};
-ghost use Rattle.status.specs.Drives.{driveOf, withDrive, reported, differs, copied, reviewedAll, freshWith, freshDrives, resetDrives};
+ghost use Prim.Native.Nat.{_≤_};
+ghost use Rattle.status.specs.Drives.{reports, driveOf, withDrive, withReport, withGap, withTrack, withDensity, isGcr, anyDiffers, copyReport, copyReports, freshWith, freshDrives, resetDrives};
 
-// A drive's report, the copy that the last review took of it, and its track (0-3), density (0 MFM, 1 GCR) and gap (0 proper, 1
-// improper, 2 unfinished write, 3 lost).
+// The bits of a report.
+pub const EOT: u8 = 128;
+
+pub const EOT_WARNING: u8 = 64;
+
+pub const INSTALLED: u8 = 32;
+
+pub const BOT_WARNING: u8 = 16;
+
+pub const PROTECTED: u8 = 8;
+
+pub const POSITION_UNKNOWN: u8 = 4;
+
+pub const SELECTABLE: u8 = 2;
+
+pub const BOT: u8 = 1;
+
+// How the tape stands in the gap between two records.
+pub const GAP_PROPER: u8 = 0;
+
+pub const GAP_IMPROPER: u8 = 1;
+
+// after a write that failed
+pub const GAP_UNFINISHED: u8 = 2;
+
+// nobody knows where the tape is
+pub const GAP_LOST: u8 = 3;
+
+// The densities.
+pub const MFM: u8 = 0;
+
+pub const GCR: u8 = 1;
+
+// A drive's report, the copy that the last review took of it, and its track (0-3), density and gap.
 pub struct Drive {
     pub report: u8,
     pub reviewed: u8,
@@ -12,9 +45,6 @@ pub struct Drive {
     pub gap: u8,
 }
 
-// The bit of a report that says that a tape is installed.
-pub const INSTALLED: u8 = 32;
-
 pub struct Drives {
     pub d0: Drive,
     pub d1: Drive,
@@ -22,8 +52,16 @@ pub struct Drives {
     pub d3: Drive,
 }
 
+// Whether a report has this bit.
+pub fn reports(report: u8, bit: u8) -> bool
+    requires { ⌜ 1 ≤ bit ⌝ }
+    ensures { λ r. ⌜ r ≡ reports report bit ⌝ }
+{
+    report / bit % 2 == 1
+}
+
 // The record of a drive; any number above 2 is drive 3.
-pub fn get(drives: Drives, number: u8) -> Drive
+pub fn drive_of(drives: Drives, number: u8) -> Drive
     ensures { λ r. ⌜ r ≡ driveOf drives number ⌝ }
 {
     match number {
@@ -35,7 +73,7 @@ pub fn get(drives: Drives, number: u8) -> Drive
 }
 
 // The drives with another record for one of them.
-pub fn put(mut drives: Drives, number: u8, drive: Drive) -> Drives
+pub fn with_drive(mut drives: Drives, number: u8, drive: Drive) -> Drives
     ensures { λ r. ⌜ r ≡ withDrive drives number drive ⌝ }
 {
     match number {
@@ -47,22 +85,59 @@ pub fn put(mut drives: Drives, number: u8, drive: Drive) -> Drives
     drives
 }
 
+// A drive with another gap.
+pub fn with_gap(mut drive: Drive, gap: u8) -> Drive
+    ensures { λ r. ⌜ r ≡ withGap drive gap ⌝ }
+{
+    drive.gap = gap;
+    drive
+}
+
 // A drive with a new report; where no tape is installed its gap is lost.
 pub fn with_report(mut drive: Drive, report: u8) -> Drive
-    ensures { λ r. ⌜ r ≡ reported drive report ⌝ }
+    ensures { λ r. ⌜ r ≡ withReport drive report ⌝ }
 {
     drive.report = report;
-    let installed = report / INSTALLED % 2 == 1;
-    if installed {
+    if reports(report, INSTALLED) {
         return drive;
     }
-    drive.gap = 3;
+    with_gap(drive, GAP_LOST)
+}
+
+// A drive with a track selected. The gap of a new track is proper at the beginning of tape, else lost.
+pub fn with_track(mut drive: Drive, track: u8) -> Drive
+    ensures { λ r. ⌜ r ≡ withTrack drive track ⌝ }
+{
+    if drive.track == track {
+        return drive;
+    }
+    drive.track = track;
+    if reports(drive.report, BOT) {
+        drive.gap = GAP_PROPER;
+        return drive;
+    }
+    drive.gap = GAP_LOST;
     drive
+}
+
+// A drive with a density selected.
+pub fn with_density(mut drive: Drive, density: u8) -> Drive
+    ensures { λ r. ⌜ r ≡ withDensity drive density ⌝ }
+{
+    drive.density = density;
+    drive
+}
+
+// Whether a drive is set to GCR.
+pub fn is_gcr(drive: Drive) -> bool
+    ensures { λ r. ⌜ r ≡ isGcr drive ⌝ }
+{
+    !(drive.density == MFM)
 }
 
 // Whether any report differs from its copy.
 pub fn any_differs(drives: Drives) -> bool
-    ensures { λ r. ⌜ r ≡ differs drives ⌝ }
+    ensures { λ r. ⌜ r ≡ anyDiffers drives ⌝ }
 {
     !(drives.d0.report == drives.d0.reviewed)
         | !(drives.d1.report == drives.d1.reviewed)
@@ -72,7 +147,7 @@ pub fn any_differs(drives: Drives) -> bool
 
 // A drive whose report is copied.
 fn copy_report(mut drive: Drive) -> Drive
-    ensures { λ r. ⌜ r ≡ copied drive ⌝ }
+    ensures { λ r. ⌜ r ≡ copyReport drive ⌝ }
 {
     drive.reviewed = drive.report;
     drive
@@ -80,7 +155,7 @@ fn copy_report(mut drive: Drive) -> Drive
 
 // All four reports copied.
 pub fn copy_reports(drives: Drives) -> Drives
-    ensures { λ r. ⌜ r ≡ reviewedAll drives ⌝ }
+    ensures { λ r. ⌜ r ≡ copyReports drives ⌝ }
 {
     Drives {
         d0: copy_report(drives.d0),
@@ -98,8 +173,8 @@ fn fresh_with(report: u8) -> Drive
         report,
         reviewed: report,
         track: 0,
-        density: 0,
-        gap: 3,
+        density: MFM,
+        gap: GAP_LOST,
     }
 }
 
@@ -107,7 +182,7 @@ fn fresh_with(report: u8) -> Drive
 pub fn fresh_drives() -> Drives
     ensures { λ r. ⌜ r ≡ freshDrives ⌝ }
 {
-    let fresh = fresh_with(4);
+    let fresh = fresh_with(POSITION_UNKNOWN);
     Drives {
         d0: fresh,
         d1: fresh,

@@ -3,13 +3,6 @@ use crate::words::Word;
 ghost use mathlib.Core.Path.{_≡_};
 ghost use Rattle.status.specs.Strings.{stringOf, orderOf};
 
-// Leads of sent strings.
-pub const LOAD_REPLY: u8 = 0x66;
-
-pub const SECONDARY_UPDATE: u8 = 0x68;
-
-pub const INTERRUPT: u8 = 0x69;
-
 pub struct Six {
     pub b0: u8,
     pub b1: u8,

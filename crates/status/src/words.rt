@@ -9,7 +9,7 @@ use crate::drives::Drives;
 use marks::Defect;
 ghost use mathlib.Core.Path.{_≡_};
 ghost use Prim.Native.Nat.{_≤_};
-ghost use Rattle.status.specs.Words.{zeroWord, bit, noOutcome, anyBit, primaryFirst, primarySecond, primaryThird, primaryOf, secondaryWord, digits, tertiaryOf, quintaryOf, reportsWord};
+ghost use Rattle.status.specs.Words.{zeroWord, bitOf, noOutcome, withCode, withUnderflow, anyBit, primaryFirst, primarySecond, primaryThird, primaryOf, secondaryWord, digitsOf, tertiaryOf, quintaryOf, reportsWord};
 
 pub struct Word {
     pub b0: u8,
@@ -35,7 +35,7 @@ pub struct Outcome {
 
 // A bit of a byte.
 fn bit_of(set: bool, weight: u8) -> u8
-    ensures { λ r. ⌜ r ≡ bit set weight ⌝ }
+    ensures { λ r. ⌜ r ≡ bitOf set weight ⌝ }
     ensures { λ r. ⌜ r ≤ weight ⌝ }
 {
     if set { weight } else { 0 }
@@ -58,6 +58,24 @@ pub fn no_outcome() -> Outcome
         supplied: false,
         counted: false,
     }
+}
+
+// An outcome with a code that ends a store before any motion.
+pub fn with_code(mut outcome: Outcome, code: u8) -> Outcome
+    ensures { λ r. ⌜ r ≡ withCode outcome code ⌝ }
+{
+    outcome.retry = true;
+    outcome.motion = 0;
+    outcome.code = code;
+    outcome
+}
+
+// An outcome with bit 18 set where host bytes run short.
+pub fn with_underflow(mut outcome: Outcome, short: bool) -> Outcome
+    ensures { λ r. ⌜ r ≡ withUnderflow outcome short ⌝ }
+{
+    outcome.underflow = outcome.underflow | short;
+    outcome
 }
 
 // Whether any of bits 16-20 is set.
@@ -100,7 +118,7 @@ fn primary_third(outcome: Outcome, drive: Drive) -> u8
 }
 
 // Primary.
-pub fn primary(changed: bool, enable: bool, outcome: Outcome, selected: u8, drive: Drive) -> Word
+pub fn primary_of(changed: bool, enable: bool, outcome: Outcome, selected: u8, drive: Drive) -> Word
     ensures { λ r. ⌜ r ≡ primaryOf changed enable outcome selected drive ⌝ }
 {
     Word {
@@ -125,13 +143,13 @@ pub fn secondary_word(count: u32) -> Word
 
 // An error's mark and kind as two digits.
 fn digits_of(defect: Defect) -> u8
-    ensures { λ r. ⌜ r ≡ digits defect ⌝ }
+    ensures { λ r. ⌜ r ≡ digitsOf defect ⌝ }
 {
     defect.mark % 16 * 16 + defect.kind % 16
 }
 
 // Tertiary.
-pub fn tertiary(odd: Defect, even: Defect) -> Word
+pub fn tertiary_of(odd: Defect, even: Defect) -> Word
     ensures { λ r. ⌜ r ≡ tertiaryOf odd even ⌝ }
 {
     Word {
@@ -155,7 +173,7 @@ pub fn zero_word() -> Word
 }
 
 // Quintary.
-pub fn quintary(stop: Defect) -> Word
+pub fn quintary_of(stop: Defect) -> Word
     ensures { λ r. ⌜ r ≡ quintaryOf stop ⌝ }
 {
     Word {

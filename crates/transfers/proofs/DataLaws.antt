@@ -1,13 +1,13 @@
 -- Laws of the data call: the part of an image that its check bytes are, what is known of a call that is not refused, and the record
 -- that a write makes.
 -- Assumes nothing.
+use borrow.Author.Tests.{ne-eqb, eqb-true, ltb-false, not-false}
 use mathlib.Core.Path.{_≡_, sym, ap, ap₂, _∙_}
-use Prim.Native.Nat.{ℕ, _+_, _-_, _*_, _≤_, min}
-use native.Mathlib.Omega.{arith}
 use mathlib.Core.Bool.{true}
 use mathlib.Core.List.{List, _++_}
+use Prim.Native.Nat.{ℕ, _+_, _-_, _*_, _≤_, min}
+use native.Mathlib.Omega.{arith}
 use lib.ListN.{length, take, drop, length-take, length-drop}
-use borrow.Author.Tests.{ne-eqb, eqb-true, ltb-false, not-false}
 use Rattle.common.specs.Given.{given, filled}
 use Rattle.common.proofs.GivenLaws.{given-all, filled-length}
 use Rattle.common.proofs.Parts.{part-within}
@@ -17,7 +17,8 @@ use Rattle.records.proofs.ImageLaws.{length-gcr, image-length}
 use Rattle.status.specs.declared.drives.Drive.{Drive}
 use Rattle.operations.specs.declared.store.Store.{Store}
 use Rattle.operations.specs.Store.{thrownAway, heldCount}
-use Rattle.transfers.specs.Data.{isGcr, checkBytes, recordBytes, dataRefusal}
+use Rattle.status.specs.Drives.{isGcr}
+use Rattle.transfers.specs.Data.{checkStore, checkBytes, recordBytes, dataRefusal}
 
 -- ---- check bytes
 
@@ -30,29 +31,32 @@ checked-length count density some gcr =
 
 -- its check bytes are its last 512
 module _ (image : List ℕ) (count n : ℕ) (some : count ≡ 0 → ⊥) (many : n ≡ blocketteCount count) (whole : length image ≡ imageLength count 1) where
-  pub checks-left : length image ≡ 2 + 256 * n + 512
+  pub checks-left : length image ≡ 2 + 256 * n + checkStore
   checks-left = let long : imageLength count 1 ≡ 2 + 256 * (blocketteCount count + 2) = checked-length count 1 some (λ z. omega arith) in omega arith
 
-  checks-length : length (take (length image - (2 + 256 * n)) (drop (2 + 256 * n) image)) ≡ 512
+  checks-length : length (take (length image - (2 + 256 * n)) (drop (2 + 256 * n) image)) ≡ checkStore
   checks-length = let left = checks-left in simp (length-take, length-drop) (omega arith)
 
-  pub check-part : (check : List ℕ) → length check ≡ 512 → given (take (length image - (2 + 256 * n)) (drop (2 + 256 * n) image)) check ≡ checkBytes image count
+  pub check-part : (check : List ℕ) → length check ≡ checkStore → given (take (length image - (2 + 256 * n)) (drop (2 + 256 * n) image)) check ≡ checkBytes image count
   unfolding checkBytes
   check-part check e =
       let left = checks-left in
-      let last : length image - (2 + 256 * n) ≡ 512 = omega arith in
+      let last : length image - (2 + 256 * n) ≡ checkStore = omega arith in
       given-all _ check (omega (arith, checks-length))
       ∙ ap₂ (λ (k m : ℕ). take k (drop (2 + 256 * m) image)) last many
       ∙ sym (pick-no _ _ (ne-eqb count 0 some))
 
 -- every density but 0 is GCR
 pub gcr-alike : (drive : Drive) (count : ℕ) → isGcr drive ≡ true → imageLength count (drive .density) ≡ imageLength count 1
-unfolding isGcr imageLength hasBlockettes
+unfolding imageLength hasBlockettes
 gcr-alike drive count e = simp e
 
 -- ---- a data call that is not refused
 
-pub data-ready : (drive : Drive) (store : Store) (space check : ℕ) → dataRefusal drive store space check ≡ 0 → (check ≡ 512) × (imageLength (heldCount store) (drive .density) ≤ space)
+pub data-ready :
+    (drive : Drive) (store : Store) (space check : ℕ)
+    → dataRefusal drive store space check ≡ 0
+    → (check ≡ checkStore) × (imageLength (heldCount store) (drive .density) ≤ space)
 unfolding dataRefusal
 data-ready drive store space check e =
     let a = not-refused _ _ _ (λ r. omega arith) e in

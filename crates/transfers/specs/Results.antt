@@ -1,34 +1,40 @@
--- The result (document 01, Records), as far as it concerns one drive: its refusals, the code and the bits it comes to, the status words, the
--- check store, the gap, and the bytes that are delivered.
+-- The result (document 01, Records), as far as it concerns one drive: its refusals, the verdict on it, and what is told by that: the bytes
+-- that are delivered, the check store, the status words and the gap.
 -- Assumes nothing.
 use Prim.Native.Nat.{ℕ, _*_, _/_, _%_, min}
-use mathlib.Core.Bool.{Bool, true, false, not, _&&_, _||_}
+use mathlib.Core.Bool.{Bool, not, _&&_, _||_}
 use mathlib.Core.List.{List, []}
 use lib.Dec.{leb, ltb, eqb}
 use lib.ListN.{length, take, drop, replicate}
 use Rattle.common.specs.Pick.{pick}
-use Rattle.marks.specs.Scan.{scanOf, defectAt}
-use Rattle.records.specs.declared.whole.Expected.{Expected}
-use Rattle.records.specs.declared.whole.Expected.the-variants.{Whole, Count, Nothing as NoImage}
+use Rattle.common.specs.Given.{given}
+use Rattle.common.specs.Refusals.{checkStoreLength, codeNotListed, flagsAgainstRule}
+use Rattle.blockettes.specs.Blockettes.{blocketteLength}
+use Rattle.marks.specs.declared.Findings.{Findings}
+use Rattle.marks.specs.Scan.{isFound, findingsOf}
 use Rattle.records.specs.Count.{countOf}
 use Rattle.records.specs.Image.{blocketteCount}
-use Rattle.records.specs.Whole.{imageRefusal}
-use Rattle.operations.specs.declared.operation.Operation.{Operation}
-use Rattle.operations.specs.declared.operation.Operation.the-variants.{Read, CheckBytes, Write, SkipForward, SkipReverse, SearchForward, SearchReverse}
-use Rattle.operations.specs.declared.operation.Move.{Move}
-use Rattle.operations.specs.declared.operation.Move.the-variants.{Still, Forward, Reverse, Rewinding, Winding, Writing, Erasing}
-use Rattle.operations.specs.Operation.{sameOperation, moveOf}
-use Rattle.operations.specs.Answers.{answerOf}
-use Rattle.operations.specs.After.{motionOf, gapAfter, retryOf}
 use Rattle.status.specs.declared.drives.Drive.{Drive}
 use Rattle.status.specs.declared.words.Outcome.{Outcome}
 use Rattle.status.specs.declared.words.Word.{Word}
-use Rattle.status.specs.Drives.{reports}
-use Rattle.status.specs.Words.{anyBit, tertiaryOf, quintaryOf}
+use Rattle.status.specs.Drives.{installed, reports}
+use Rattle.status.specs.Words.{zeroWord, anyBit, tertiaryOf, quintaryOf}
+use Rattle.operations.specs.declared.operation.Operation.{Operation}
+use Rattle.operations.specs.declared.operation.Operation.the-variants.{Read, CheckBytes, Write}
 use Rattle.operations.specs.declared.store.Store.{Store}
+use Rattle.operations.specs.Operation.{sameOperation, moveOf}
+use Rattle.operations.specs.Answers.{answerOf}
+use Rattle.operations.specs.After.{motionOf, gapAfter, retryOf}
 use Rattle.operations.specs.Store.{heldCount}
-use Rattle.status.specs.Words.{zeroWord}
-use Rattle.transfers.specs.Data.{isGcr, checkBytes}
+use Rattle.transfers.specs.declared.verdict.Ending.{Ending}
+use Rattle.transfers.specs.declared.verdict.Verdict.{Verdict}
+use Rattle.transfers.specs.declared.after.Words.{Words}
+use Rattle.transfers.specs.declared.after.After.{After}
+use Rattle.operations.specs.Codes.{offline, recoverable, unrecoverable}
+use Rattle.status.specs.Drives.{isGcr}
+use Rattle.operations.specs.Operation.{bringsRecord, isSearch, takesMark, movesTape}
+use Rattle.transfers.specs.Data.{checkStore, checkBytes}
+use Rattle.transfers.specs.Expected.{expectedOf, imageRefusal}
 
 -- "Result: code, mark flag, late flags 0-3 (..), image, marks, .."
 pub record Result : Type 0 where
@@ -38,167 +44,178 @@ pub record Result : Type 0 where
   pub image : List ℕ
   pub marks : List ℕ
 
--- a result of these parts; a part that a definition does not look at may be any
+-- a result of these parts
 abbrev pub resultOf : ℕ → Bool → ℕ → List ℕ → List ℕ → Result
 resultOf code mark late image marks = record { code = code; mark = mark; late = late; image = image; marks = marks }
 
--- "a read or forward skip"
-abbrev pub bringsRecord : Operation → Bool
-bringsRecord operation = sameOperation operation Read || sameOperation operation SkipForward
+-- one whose first three parts come together
+abbrev pub resultWith : Ending → List ℕ → List ℕ → Result
+resultWith ending image marks = resultOf (ending .code) (ending .mark) (ending .late) image marks
 
--- "a search"
-unfoldable pub isSearch : Operation → Bool
-isSearch operation = sameOperation operation SearchForward || sameOperation operation SearchReverse
-
--- "in a read, skip or search"
-unfoldable pub takesMark : Operation → Bool
-takesMark operation = bringsRecord operation || (sameOperation operation SkipReverse || isSearch operation)
+-- ---- refusals
 
 -- "The mark flag needs code 0 in a read, skip or search; a search with code 0 needs it."
 unfoldable pub markAgainst : Operation → ℕ → Bool → Bool
 markAgainst operation code mark =
     (mark && not (takesMark operation && eqb code 0)) || (isSearch operation && (eqb code 0 && not mark))
 
--- "code 0, 10, 11 or 12"
-unfoldable pub wholeCode : ℕ → Bool
-wholeCode code = eqb code 0 || (eqb code 0x10 || (eqb code 0x11 || eqb code 0x12))
-
--- "The image is whole for a read or forward skip with code 0, 10, 11 or 12 and no mark"
-unfoldable pub expectedWhole : ℕ → ℕ → Bool → Expected
-expectedWhole density code mark = pick (wholeCode code && not mark) (Whole density) NoImage
-
--- "..; two count bytes for a GCR reverse skip with code 0 and no mark"
-abbrev pub expectedCount : ℕ → ℕ → Bool → Expected
-expectedCount density code mark = pick (not (eqb density 0) && (eqb code 0 && not mark)) Count NoImage
-
--- "..; else image and marks are empty."
-unfoldable pub expectedOf : Operation → ℕ → ℕ → Bool → Expected
-expectedOf operation density code mark =
-    pick (bringsRecord operation) (expectedWhole density code mark)
-    (pick (sameOperation operation SkipReverse) (expectedCount density code mark) NoImage)
-
 -- "6 check store not 512; 7 code not listed; 8 mark flag against its rule, or late flags above 3; 9 ..; 10 mark value"
 unfoldable pub resultRefusal : Drive → Operation → Result → ℕ → ℕ
 resultRefusal drive operation r check =
-    pick (not (eqb check 512)) 6
-    (pick (eqb (answerOf operation (r .code)) 0) 7
-    (pick (markAgainst operation (r .code) (r .mark) || leb 4 (r .late)) 8
+    pick (not (eqb check checkStore)) checkStoreLength
+    (pick (eqb (answerOf operation (r .code)) 0) codeNotListed
+    (pick (markAgainst operation (r .code) (r .mark) || leb 4 (r .late)) flagsAgainstRule
     (imageRefusal (r .image) (r .marks) (expectedOf operation (drive .density) (r .code) (r .mark)))))
 
--- "Every operation but check bytes moves tape"
-unfoldable pub movesTape : Move → Bool
-movesTape Still = false
-movesTape Forward = true
-movesTape Reverse = true
-movesTape Rewinding = true
-movesTape Winding = true
-movesTape Writing = true
-movesTape Erasing = true
+-- ---- the verdict
 
 -- "If the operation moves tape and none is installed, code 7 replaces the code, and mark and image go unused."
 unfoldable pub isGone : Drive → Operation → Bool
-isGone drive operation = movesTape (moveOf operation) && not (reports (drive .report) 32)
+isGone drive operation = movesTape (moveOf operation) && not (reports (drive .report) installed)
 
--- an image that counts
-unfoldable pub usesImage : Drive → Operation → Result → Bool
-usesImage drive operation r = not (isGone drive operation) && not (eqb (length (r .image)) 0)
-
--- "None: no change. At most one of each parity: code 15, in place of 0, 10, 11 or 12. Else 16"
-unfoldable pub scanCode : List ℕ → ℕ → ℕ
-scanCode marks code =
-    pick (ltb (scanOf marks .stop) (length marks)) 0x16
-    (pick (ltb (scanOf marks .odd) (length marks) || ltb (scanOf marks .even) (length marks)) 0x15 code)
-
--- ".. code 7 replaces the code"
-unfoldable pub finalCode : Drive → Operation → Result → ℕ
-finalCode drive operation r = pick (isGone drive operation) 0x07 (scanCode (r .marks) (r .code))
+-- ".. code 7 replaces the code"; "None: no change. At most one of each parity: code 15, in place of 0, 10, 11 or 12. Else 16"
+unfoldable pub finalCode : Bool → ℕ → Findings → ℕ
+finalCode gone code found =
+    pick gone offline
+    (pick (isFound (found .stop)) unrecoverable (pick (isFound (found .odd) || isFound (found .even)) recoverable code))
 
 -- "For a GCR read or forward skip"
 unfoldable pub readsGcr : Drive → Operation → Bool
 readsGcr drive operation = bringsRecord operation && isGcr drive
 
--- "tertiary, quintary and check store are zeroed first": they stay zero where the image goes unused or the scan finds nothing
-unfoldable pub resultTertiary : Drive → Operation → Result → Word → Word
-resultTertiary drive operation r before =
-    pick (readsGcr drive operation)
-    (pick (isGone drive operation) zeroWord (tertiaryOf (defectAt (r .marks) (scanOf (r .marks) .odd)) (defectAt (r .marks) (scanOf (r .marks) .even))))
-    before
+-- an image that is used: there is one, and not ".. mark and image go unused"
+abbrev pub usesImage : Bool → List ℕ → Bool
+usesImage gone image = not gone && not (eqb (length image) 0)
 
--- quintary in the same way
-unfoldable pub resultQuintary : Drive → Operation → Result → Word → Word
-resultQuintary drive operation r before =
-    pick (readsGcr drive operation) (pick (isGone drive operation) zeroWord (quintaryOf (defectAt (r .marks) (scanOf (r .marks) .stop)))) before
+-- the count of one: "Used images .. set bit 22 and secondary = c."
+unfoldable pub usedCount : Bool → List ℕ → ℕ
+usedCount used image = pick used (countOf image) 0
 
--- "check store then takes both check blockettes"
-unfoldable pub resultCheck : Drive → Operation → Result → List ℕ → List ℕ
-resultCheck drive operation r check =
-    pick (readsGcr drive operation) (pick (usesImage drive operation r) (checkBytes (r .image) (countOf (r .image))) (replicate 512 0)) check
+-- what is decided of a result before any of it is told
+unfoldable pub verdictOf : Drive → Operation → Result → Verdict
+verdictOf drive operation r =
+    record {
+      gone = isGone drive operation;
+      used = usesImage (isGone drive operation) (r .image);
+      renews = readsGcr drive operation;
+      code = finalCode (isGone drive operation) (r .code) (findingsOf (r .marks));
+      count = usedCount (usesImage (isGone drive operation) (r .image)) (r .image);
+      found = findingsOf (r .marks);
+    }
 
--- "A read delivers c bytes as the image has them; for 16, the lesser of c and 256 for each data blockette before the stop."
-unfoldable pub readBytes : Result → List ℕ
-readBytes r =
-    let c = countOf (r .image) in
-    let stop = scanOf (r .marks) .stop in
-    take (pick (ltb stop (length (r .marks))) (min c (256 * min stop (blocketteCount c))) c) (drop 2 (r .image))
+-- ---- bytes
+
+-- "A read delivers c bytes ..; for 16, the lesser of c and 256 for each data blockette before the stop."
+unfoldable pub readCount : ℕ → Findings → ℕ
+readCount c found = pick (isFound (found .stop)) (min c (blocketteLength * min (found .place) (blocketteCount c))) c
+
+-- ".. as the image has them", behind its count
+unfoldable pub readBytes : List ℕ → ℕ → Findings → List ℕ
+readBytes image c found = take (readCount c found) (drop 2 image)
 
 -- "A read delivers ..; Check bytes deliver the 512 of the check store."
-unfoldable pub delivered : Drive → Operation → Result → List ℕ → List ℕ
-delivered drive operation r check =
-    pick (sameOperation operation Read) (pick (usesImage drive operation r) (readBytes r) [])
+unfoldable pub deliveredBytes : Verdict → Operation → List ℕ → List ℕ → List ℕ
+deliveredBytes verdict operation image check =
+    pick (sameOperation operation Read) (pick (verdict .used) (readBytes image (verdict .count) (verdict .found)) [])
     (pick (sameOperation operation CheckBytes) check [])
 
 -- "Host space too short: as many as fit"
 unfoldable pub fitting : List ℕ → ℕ → List ℕ
 fitting bytes space = take space bytes
 
+-- at the start of the space: "the rest of the lent space keeps its bytes"
+abbrev pub fittingInto : List ℕ → List ℕ → List ℕ
+fittingInto bytes space = given (fitting bytes (length space)) space
+
+-- "check store .. zeroed first; check store then takes both check blockettes"
+unfoldable pub resultCheck : Verdict → List ℕ → List ℕ → List ℕ
+resultCheck verdict image check = pick (verdict .renews) (pick (verdict .used) (checkBytes image (verdict .count)) (replicate checkStore 0)) check
+
+-- ---- words
+
+-- "tertiary, quintary and check store are zeroed first": they stay zero where the image goes unused or the scan finds nothing
+unfoldable pub resultTertiary : Verdict → Word → Word
+resultTertiary verdict before = pick (verdict .renews) (pick (verdict .gone) zeroWord (tertiaryOf (verdict .found .odd) (verdict .found .even))) before
+
+-- quintary in the same way
+unfoldable pub resultQuintary : Verdict → Word → Word
+resultQuintary verdict before = pick (verdict .renews) (pick (verdict .gone) zeroWord (quintaryOf (verdict .found .stop))) before
+
 -- "writes with code 0"
 unfoldable pub wroteWell : Operation → ℕ → Bool
 wroteWell operation code = sameOperation operation Write && eqb code 0
 
 -- "Used images, and writes with code 0, set bit 22 and secondary = c."
-unfoldable pub resultSecondary : Drive → Operation → Store → Result → ℕ → ℕ
-resultSecondary drive operation store r before =
-    pick (usesImage drive operation r) (countOf (r .image))
-    (pick (wroteWell operation (finalCode drive operation r)) (heldCount store) before)
+unfoldable pub resultSecondary : Verdict → Operation → Store → ℕ → ℕ
+resultSecondary verdict operation store before =
+    pick (verdict .used) (verdict .count) (pick (wroteWell operation (verdict .code)) (heldCount store) before)
 
 -- bits 17, 19, 20 and 22 are set, "(1 sets bit 19, 2 bit 20)", "Host space too short: .. bit 17"; mark, motion and code are assigned
-unfoldable pub resultBits : Drive → Outcome → Operation → Result → ℕ → ℕ → Outcome
-resultBits drive o operation r bytes space =
+unfoldable pub resultBits : Verdict → Outcome → Operation → Bool → ℕ → ℕ → ℕ → Outcome
+resultBits verdict outcome operation mark late bytes space =
     record {
-      retry = o .retry;
-      mark = r .mark && not (isGone drive operation);
-      motion = motionOf (moveOf operation) (finalCode drive operation r);
-      code = finalCode drive operation r;
-      parity = o .parity;
-      overflow = o .overflow || ltb space bytes;
-      underflow = o .underflow;
-      wdl = o .wdl || eqb (r .late % 2) 1;
-      rdl = o .rdl || eqb (r .late / 2 % 2) 1;
-      supplied = o .supplied;
-      counted = o .counted || (usesImage drive operation r || wroteWell operation (finalCode drive operation r));
+      retry = outcome .retry;
+      mark = mark && not (verdict .gone);
+      motion = motionOf (moveOf operation) (verdict .code);
+      code = verdict .code;
+      parity = outcome .parity;
+      overflow = outcome .overflow || ltb space bytes;
+      underflow = outcome .underflow;
+      wdl = outcome .wdl || eqb (late % 2) 1;
+      rdl = outcome .rdl || eqb (late / 2 % 2) 1;
+      supplied = outcome .supplied;
+      counted = outcome .counted || (verdict .used || wroteWell operation (verdict .code));
     }
 
 -- "Bit 2 (retry): code not 0, or any of bits 16-20."
 unfoldable pub withRetry : Outcome → Outcome
-withRetry o =
+withRetry outcome =
     record {
-      retry = retryOf (o .code) (anyBit o);
-      mark = o .mark;
-      motion = o .motion;
-      code = o .code;
-      parity = o .parity;
-      overflow = o .overflow;
-      underflow = o .underflow;
-      wdl = o .wdl;
-      rdl = o .rdl;
-      supplied = o .supplied;
-      counted = o .counted;
+      retry = retryOf (outcome .code) (anyBit outcome);
+      mark = outcome .mark;
+      motion = outcome .motion;
+      code = outcome .code;
+      parity = outcome .parity;
+      overflow = outcome .overflow;
+      underflow = outcome .underflow;
+      wdl = outcome .wdl;
+      rdl = outcome .rdl;
+      supplied = outcome .supplied;
+      counted = outcome .counted;
     }
 
--- a drive with another gap
-unfoldable pub withGap : Drive → ℕ → Drive
-withGap drive gap = record { report = drive .report; reviewed = drive .reviewed; track = drive .track; density = drive .density; gap = gap }
+-- all words, where `bytes` are to be delivered and `space` fit: primary by its bits, "secondary = c", tertiary and quintary
+unfoldable pub resultWords : Words → Verdict → Operation → Store → Bool → ℕ → ℕ → ℕ → Words
+resultWords words verdict operation store mark late bytes space =
+    record {
+      outcome = withRetry (resultBits verdict (words .outcome) operation mark late bytes space);
+      secondary = resultSecondary verdict operation store (words .secondary);
+      tertiary = resultTertiary verdict (words .tertiary);
+      quintary = resultQuintary verdict (words .quintary);
+    }
 
--- the gap by the final code
-unfoldable pub resultDrive : Drive → Operation → Result → Drive
-resultDrive drive operation r = withGap drive (gapAfter (moveOf operation) (finalCode drive operation r) (drive .gap))
+-- ---- the whole
+
+-- the drive's gap, by the final code
+unfoldable pub resultGap : Drive → Operation → ℕ → ℕ
+resultGap drive operation code = gapAfter (moveOf operation) code (drive .gap)
+
+-- the bytes that are to be delivered, and the host space and the check store afterwards
+abbrev pub delivered : Drive → Operation → Result → List ℕ → List ℕ
+delivered drive operation r check = deliveredBytes (verdictOf drive operation r) operation (r .image) check
+
+abbrev pub resultInto : Drive → Operation → Result → List ℕ → List ℕ → List ℕ
+resultInto drive operation r space check = fittingInto (delivered drive operation r check) space
+
+abbrev pub resultCheckInto : Drive → Operation → Result → List ℕ → List ℕ
+resultCheckInto drive operation r check = resultCheck (verdictOf drive operation r) (r .image) check
+
+-- the words, the gap, and how many bytes fit
+unfoldable pub settleResult : Words → Drive → Operation → Store → Result → ℕ → List ℕ → After
+settleResult words drive operation store r space check =
+    record {
+      words =
+          resultWords words (verdictOf drive operation r) operation store (r .mark) (r .late) (length (delivered drive operation r check)) space;
+      gap = resultGap drive operation (verdictOf drive operation r .code);
+      bytes = length (fitting (delivered drive operation r check) space);
+    }

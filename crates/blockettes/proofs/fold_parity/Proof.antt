@@ -28,20 +28,20 @@ loop-holds : tie.Need-loop-holds Inv-loop μ-loop
 unfolding xorAll
 loop-holds c = search needs
 
-sub-mix-at : tie.Need-sub-mix-at Inv-loop μ-loop
-sub-mix-at c = search needs
+sub-xor-at : tie.Need-sub-xor-at Inv-loop μ-loop
+sub-xor-at c = search needs
 
-mul-mix-at : tie.Need-mul-mix-at Inv-loop μ-loop
-mul-mix-at c = search needs
+mul-xor-at : tie.Need-mul-xor-at Inv-loop μ-loop
+mul-xor-at c = search needs
 
-add-mix-at : tie.Need-add-mix-at Inv-loop μ-loop
-add-mix-at c = search needs
+add-xor-at : tie.Need-add-xor-at Inv-loop μ-loop
+add-xor-at c = search needs
 
-sub-mix-at-2 : tie.Need-sub-mix-at-2 Inv-loop μ-loop
-sub-mix-at-2 c = search needs
+sub-xor-at-2 : tie.Need-sub-xor-at-2 Inv-loop μ-loop
+sub-xor-at-2 c = search needs
 
-mix-at-requires : tie.Need-mix-at-requires Inv-loop μ-loop
-mix-at-requires c κs = search needs
+xor-at-requires : tie.Need-xor-at-requires Inv-loop μ-loop
+xor-at-requires c κs = search needs
 
 add-t : tie.Need-add-t Inv-loop μ-loop
 add-t c = search needs
@@ -56,8 +56,8 @@ loop-again c =
     let l = d .before .before .before .loop in
     let a = d .before .before .before .before .before .before .args in (
       omega arith,
-      d .mix-at .kept .0 ∙ l .inv .1,
-      rw add-one (d .mix-at .ensures ∙ ap (λ (x : List ℕ). x ⊕ blocketteAt (a .bytes .now) (a .n - 1 - (2 * l .t + a .parity))) (l .inv .2)),
+      d .xor-at .kept .0 ∙ l .inv .1,
+      rw add-one (d .xor-at .ensures ∙ ap (λ (x : List ℕ). x ⊕ blocketteAt (a .bytes .now) (a .n - 1 - (2 * l .t + a .parity))) (l .inv .2)),
     )
 
 same-length : tie.Need-same-length Inv-loop μ-loop
@@ -80,11 +80,11 @@ fold-parity-spec =
     add-count
     sub-count
     loop-holds
-    sub-mix-at
-    mul-mix-at
-    add-mix-at
-    sub-mix-at-2
-    mix-at-requires
+    sub-xor-at
+    mul-xor-at
+    add-xor-at
+    sub-xor-at-2
+    xor-at-requires
     add-t
     loop-less
     loop-again

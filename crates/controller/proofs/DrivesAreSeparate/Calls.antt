@@ -17,31 +17,32 @@ use Rattle.operations.specs.declared.decode.Decoded.{Decoded}
 use Rattle.operations.specs.Operation.{orderByte, sameOperation}
 use Rattle.records.specs.Image.{imageOf}
 use Rattle.status.specs.declared.drives.Drive.{Drive}
-use Rattle.status.specs.Drives.{driveOf, reported, copied}
+use Rattle.status.specs.Drives.{driveOf, withReport, copyReport}
 use Rattle.status.specs.Strings.{orderOf}
 use Rattle.operations.specs.declared.store.Store.{Store}
 use Rattle.link.specs.declared.state.Phase.the-variants.{GoOffered, DataAwaited, ResultAwaited}
 use Rattle.link.specs.declared.state.Body.{Body}
 use Rattle.controller.specs.declared.controller.Controller.{Controller}
-use Rattle.link.specs.State.{setSelected, setOutcome, current}
-use Rattle.operations.specs.Store.{asked, thrownAway, heldCount}
-use Rattle.link.specs.Link.{goTaken, goRefused}
+use Rattle.link.specs.State.{withSelected, currentDrive}
+use Rattle.operations.specs.Store.{askedFor, thrownAway, heldCount}
+use Rattle.link.specs.Link.{yesToGo, noToGo}
+use Rattle.link.specs.Bytes.{ack}
 use Rattle.controller.specs.Controller.{carried}
-use Rattle.controller.specs.Stores.{ordered}
-use Rattle.transfers.specs.Data.{recordBytes, runsShort, withUnderflow, isGcr}
-use Rattle.transfers.specs.Results.{Result, withGap, resultDrive, finalCode, isGone, usesImage, delivered, fitting}
-use Rattle.controller.specs.Records.{resultGiven, zeroedWords, dataDone, resultBody, resultDone}
+use Rattle.controller.specs.Stores.{orderMove}
+use Rattle.transfers.specs.Data.{recordBytes, writeImage, settleData}
+use Rattle.transfers.specs.Results.{Result, isGone, verdictOf, deliveredBytes, delivered, fitting, resultGap, settleResult}
+use Rattle.controller.specs.Records.{wordsOf, withStatus, withAfter, dataDone, resultDone}
 use Rattle.controller.specs.Machine.{reportNoted, Call, plain}
 use Rattle.controller.specs.Machine.Call.{byte, report, hostData, result}
 use Rattle.controller.specs.Lists.{asksFor}
 use Rattle.controller.specs.Separation.{Output, isOf, awaitsGo, eventOf, ordersFor, bytesGiven, transferOf}
 use Rattle.controller.specs.Separation.Event.{reportCame, goAnswered, dataCame, resultCame}
 use Rattle.controller.specs.Separation.Output.{motion, image, delivery}
-use Rattle.controller.proofs.DrivesAreSeparate.OneDrive.{Hand, View, resting, handAfterGo, handAfterData, givenAtData, driveAfterResult, givenAtResult, told, gives}
+use Rattle.controller.proofs.DrivesAreSeparate.OneDrive.{Hand, View, resting, handAfterGo, handAfterData, givenAtData, moved, driveAfterResult, givenAtResult, told, gives}
 use Rattle.controller.proofs.DrivesAreSeparate.OneDrive.Hand.{empty, goOffered, dataAwaited, resultAwaited}
 use Rattle.controller.proofs.Steps.Resting.{seen, go-refused-rests, ending-rests}
 use Rattle.controller.proofs.DrivesAreSeparate.Views.{Follows, Held, InHand, bare, does-follows, free-held, handIn, none-for, owned-follows, passes-follows, rests-view, viewOf}
-use Rattle.controller.proofs.DrivesAreSeparate.Stores.{Leaves, Starts, ordered-other, ordered-own, other-number, other-view, own-number, own-view, set-other, set-own}
+use Rattle.controller.proofs.DrivesAreSeparate.Stores.{ordered-other, ordered-own, other-number, other-view, own-number, own-view, set-other, set-own}
 
 -- ---- a report
 
@@ -50,7 +51,7 @@ module _ (d : ℕ) (low : d ≤ 3) (last : Store) (c : Controller) (n r : ℕ) w
       n ≤ 3
       → InHand last (c .body .selected) (c .phase)
       → Follows d (viewOf d last c) last c (record { call = report n r; answer = plain (carried (reportNoted c n r)) })
-  unfolding reportNoted eventOf transferOf ordersFor told gives reported
+  unfolding reportNoted eventOf transferOf ordersFor told gives withReport
   report-follows within held =
       by-test (eqb n d)
       (λ same. does-follows d last c _ _ (reportCame r) (pick-yes (reportCame r ∷ []) [] same)
@@ -58,7 +59,7 @@ module _ (d : ℕ) (low : d ≤ 3) (last : Store) (c : Controller) (n r : ℕ) w
         done = refl;
         view =
             ap (λ (drive : Drive). record { drive = drive; hand = viewOf d last c .hand })
-            (set-own d low (c .body) n (λ (x : Drive). reported x r) (eqb-true n d same));
+            (set-own d low (c .body) n (λ (x : Drive). withReport x r) (eqb-true n d same));
         given = refl;
       })
       held)
@@ -66,7 +67,7 @@ module _ (d : ℕ) (low : d ≤ 3) (last : Store) (c : Controller) (n r : ℕ) w
       (record {
         view =
             ap (λ (drive : Drive). record { drive = drive; hand = viewOf d last c .hand })
-            (set-other d low (setSelected (c .body) n) (reported (driveOf (c .body .drives) n) r) within (eqb-false n d other));
+            (set-other d low (withSelected (c .body) n) (withReport (driveOf (c .body .drives) n) r) within (eqb-false n d other));
         transfer = refl;
         quiet = refl;
       })
@@ -80,12 +81,12 @@ module _ (d : ℕ) (low : d ≤ 3) (last : Store) (b : Body) (store : Store) whe
 
   pub go-taken-follows :
       (value : ℕ)
-      → eqb value 0x06 ≡ true
+      → eqb value ack ≡ true
       → Held last (b .selected) Write store
-      → Follows d (viewOf d last offered) last offered (record { call = byte value; answer = plain (carried (goTaken b store)) })
-  unfolding eventOf awaitsGo transferOf ordersFor told gives goTaken handIn handAfterGo InHand
+      → Follows d (viewOf d last offered) last offered (record { call = byte value; answer = plain (carried (yesToGo b store)) })
+  unfolding eventOf awaitsGo transferOf ordersFor told gives yesToGo handIn handAfterGo InHand
   go-taken-follows value accepts held =
-      owned-follows d last offered _ _ (goAnswered (eqb value 0x06)) refl
+      owned-follows d last offered _ _ (goAnswered (eqb value ack)) refl
       (λ own. record {
         done = refl;
         view =
@@ -108,7 +109,7 @@ module _ (d : ℕ) (low : d ≤ 3) (last : Store) (b : Body) (store : Store) whe
       → eventOf d last offered call ≡ pick (isOf d last) (goAnswered accepts ∷ []) []
       → transferOf d last [] call ≡ []
       → accepts ≡ false
-      → Follows d (viewOf d last offered) last offered (record { call = call; answer = plain (carried (goRefused b store)) })
+      → Follows d (viewOf d last offered) last offered (record { call = call; answer = plain (carried (noToGo b store)) })
   unfolding told gives handAfterGo bytesGiven
   go-refused-follows call accepts made nothing refuses =
       let rests = go-refused-rests b store in
@@ -125,46 +126,22 @@ module _ (d : ℕ) (low : d ≤ 3) (last : Store) (b : Body) (store : Store) whe
 
 -- ---- the data call
 
-module _ (d : ℕ) (last : Store) (b : Body) (store : Store) where
-  abbrev writing : View
-  writing = record { drive = seen d b; hand = resultAwaited Write (bare store) }
-
-  -- the zeroing of the words concerns no drive
-  write-own :
-      (zeroes : Bool)
-      → b .selected ≡ d
-      → Starts d writing (motion (orderOf (orderByte Write) d (seen d b .track) (seen d b .density) (store .third) (store .fourth)) ∷ []) (ordered (zeroedWords b zeroes) Write store)
-  unfolding zeroedWords pick
-  write-own true e = ordered-own d store (zeroedWords b true) Write e
-  write-own false e = ordered-own d store b Write e
-
-  write-other : (zeroes : Bool) → (b .selected ≡ d → ⊥) → Leaves d (seen d b) (ordered (zeroedWords b zeroes) Write store)
-  unfolding zeroedWords pick
-  write-other true other = ordered-other d store (zeroedWords b true) Write other
-  write-other false other = ordered-other d store b Write other
-
-  write-held : (zeroes : Bool) → Held last (b .selected) Write store → Held last (zeroedWords b zeroes .selected) Write store
-  unfolding zeroedWords pick
-  write-held true held = held
-  write-held false held = held
-
 module _ (d : ℕ) (last : Store) (b : Body) (store : Store) (host space check : List ℕ) where
   abbrev awaiting : Controller
   awaiting = record { body = b; phase = DataAwaited store }
 
   pub data-follows :
       Held last (b .selected) Write store
-      → Follows d (viewOf d last awaiting) last awaiting (record { call = hostData host space check; answer = dataDone b (current b) store host space check })
-  unfolding eventOf transferOf bytesGiven told gives dataDone handIn handAfterData givenAtData recordBytes thrownAway heldCount InHand ordered
+      → Follows d (viewOf d last awaiting) last awaiting (record { call = hostData host space check; answer = dataDone b (currentDrive b) store host space check })
+  unfolding eventOf transferOf bytesGiven told gives dataDone settleData handIn handAfterData givenAtData recordBytes thrownAway heldCount InHand orderMove
   data-follows held =
-      let body = setOutcome b (withUnderflow (b .outcome) (runsShort store host)) in
-      let zeroes = isGcr (current b) in
-      let written = imageOf (recordBytes store host) (current b .density) in
-      let next = carried (ordered (zeroedWords body zeroes) Write store) .controller in
+      let body = withStatus b (settleData (wordsOf b) (currentDrive b) store host .words) in
+      let written = writeImage store host (currentDrive b .density) in
+      let next = carried (orderMove body Write store) .controller in
       owned-follows d last awaiting _ _ (dataCame host) refl
       (λ own.
       let e : b .selected ≡ d = held .selects ∙ own-number d last (held .names) own in
-      let starts = write-own d last body store zeroes e in
+      let starts = ordered-own d store body Write e in
       let hand = pick-yes (dataAwaited (bare store)) empty own in
       record {
         done = refl;
@@ -177,21 +154,21 @@ module _ (d : ℕ) (last : Store) (b : Body) (store : Store) (host space check :
             ∙ sym (ap (givenAtData d (seen d b) host) hand);
       })
       (λ other.
-      let leaves = write-other d last body store zeroes (λ e. other-number d last (held .names) other (sym (held .selects) ∙ e)) in
+      let leaves = ordered-other d store body Write (λ e. other-number d last (held .names) other (sym (held .selects) ∙ e)) in
       record {
         view = other-view d last next _ other (leaves .same) ∙ sym (other-view d last awaiting _ other refl);
         transfer = pick-no _ [] other;
         quiet = leaves .quiet;
       })
-      (write-held d last body store zeroes held)
+      held
 
 -- ---- the result
 
 -- a read's bytes depend on the drive's report and on nothing else of the state
 read-seen :
     (operation : Operation) (drive : Drive) (r : Result) (check : List ℕ) (space : ℕ)
-    → pick (sameOperation operation Read) (delivery (fitting (delivered drive operation r check) space) ∷ []) [] ≡ pick (sameOperation operation Read) (delivery (fitting (delivered (copied drive) operation r []) space) ∷ []) []
-unfolding delivered usesImage isGone pick
+    → pick (sameOperation operation Read) (delivery (fitting (delivered drive operation r check) space) ∷ []) [] ≡ pick (sameOperation operation Read) (delivery (fitting (delivered (copyReport drive) operation r []) space) ∷ []) []
+unfolding deliveredBytes verdictOf isGone pick
 read-seen Read drive r check space = refl
 read-seen CheckBytes drive r check space = refl
 read-seen Write drive r check space = refl
@@ -210,11 +187,11 @@ module _ (d : ℕ) (low : d ≤ 3) (last : Store) (b : Body) (operation : Operat
 
   pub result-follows :
       Held last (b .selected) operation store
-      → Follows d (viewOf d last moving) last moving (record { call = result r space check; answer = resultDone b (current b) operation store r space check })
-  unfolding eventOf transferOf bytesGiven told gives resultDone resultGiven resultBody resultDrive withGap finalCode isGone handIn driveAfterResult givenAtResult asksFor
+      → Follows d (viewOf d last moving) last moving (record { call = result r space check; answer = resultDone b (currentDrive b) operation store r space check })
+  unfolding eventOf transferOf bytesGiven told gives resultDone settleResult verdictOf resultGap isGone handIn driveAfterResult givenAtResult asksFor
   result-follows held =
-      let bytes = delivered (current b) operation r check in
-      let body = resultBody b (current b) operation store r (length bytes) (length space) in
+      let bytes = delivered (currentDrive b) operation r check in
+      let body = withAfter b (settleResult (wordsOf b) (currentDrive b) operation store r (length space) check) in
       let rests = ending-rests body operation store in
       let fits = fitting bytes (length space) in
       owned-follows d last moving _ _ (resultCame r (length space)) refl
@@ -225,7 +202,7 @@ module _ (d : ℕ) (low : d ≤ 3) (last : Store) (b : Body) (operation : Operat
         done = refl;
         view =
             rests-view d low last body _ rests
-            ∙ ap resting (set-own d low b (b .selected) (λ (x : Drive). resultDrive x operation r) e)
+            ∙ ap resting (set-own d low b (b .selected) (λ (x : Drive). moved x operation r) e)
             ∙ sym (ap (λ (h : Hand). resting (driveAfterResult (seen d b) r h)) hand);
         given =
             ap₂ (λ (l m : List Output). l ++ m)
@@ -243,9 +220,9 @@ module _ (d : ℕ) (low : d ≤ 3) (last : Store) (b : Body) (operation : Operat
       record {
         view =
             rests-view d low last body _ rests
-            ∙ ap resting (set-other d low b (resultDrive (current b) operation r) within differs)
+            ∙ ap resting (set-other d low b (moved (currentDrive b) operation r) within differs)
             ∙ sym (other-view d last moving _ other refl);
-        transfer = pick-no _ [] (ap (λ (t : Bool). t && asksFor Read (asked last)) other);
+        transfer = pick-no _ [] (ap (λ (t : Bool). t && asksFor Read (askedFor last)) other);
         quiet = none-for d _ (rests .quiet);
       })
       (free-held last _ _ (rests .free))

@@ -14,11 +14,13 @@ use Rattle.link.specs.declared.state.Phase.{Phase}
 use Rattle.link.specs.declared.state.Phase.the-variants.{AckOffered}
 use Rattle.link.specs.declared.state.Turn.{Turn}
 use Rattle.controller.specs.declared.controller.Controller.{Controller}
+use Rattle.link.specs.Bytes.{ack}
 use Rattle.controller.specs.Controller.{carried}
-use Rattle.controller.specs.Stores.{storeOf, carriedOut}
+use Rattle.link.specs.State.{storeOf, offered}
+use Rattle.controller.specs.Stores.{carryOut}
 use Rattle.controller.specs.Machine.{dataIn, resultIn, Call, Exchange, plain, step}
 use Rattle.controller.specs.Machine.Call.{byte, taken, broken, report, hostData, result, tick, reset}
-use Rattle.controller.specs.Lists.{notRefused, isTaken, holdsStore, carriesOut, lastStore}
+use Rattle.controller.specs.Lists.{notRefused, isTaken, holdsStore, carriesOut, heldStore, lastStore}
 use Rattle.controller.specs.Separation.{isOf, storeEvent, awaitsGo, eventOf, bytesGiven, transferOf, isReset, resets, admits}
 use Rattle.controller.specs.Separation.Event.{goAnswered}
 use Rattle.controller.proofs.Steps.Resting.{by-free, Free, Rests}
@@ -30,7 +32,7 @@ use Rattle.controller.proofs.DrivesAreSeparate.Calls.{report-follows, g
 -- with nothing in hand no answer to GO is awaited
 free-goes : (phase : Phase) → Free phase → awaitsGo phase ≡ false
 unfolding awaitsGo
-free-goes = by-free (λ (phase : Phase). awaitsGo phase ≡ false) refl refl (λ s. refl) (λ interrupt. refl)
+free-goes = by-free (λ (phase : Phase). awaitsGo phase ≡ false) (λ s. refl) (λ s. refl) (λ s. refl) (λ interrupt. refl)
 
 module _ (d : ℕ) (low : d ≤ 3) where
   -- what is claimed of a call: it is followed, whatever store came last
@@ -45,11 +47,11 @@ module _ (d : ℕ) (low : d ≤ 3) where
       → Follows d (viewOf d last c) last c x
       → Follows d (viewOf d last c) (lastStore last c x) c x
   unfolding lastStore
-  kept c x last none = subst (λ (next : Store). Follows d (viewOf d last c) next c x) (sym (pick-no (storeOf (c .body .collected)) last none))
+  kept c x last none = subst (λ (next : Store). Follows d (viewOf d last c) next c x) (sym (pick-no (heldStore c) last none))
 
   refusals-case : OfRefusals Followed
   unfolding carriesOut notRefused
-  refusals-case c call number space check some last held admitted =
+  refusals-case c call number space check some at-space at-check last held admitted =
       kept c _ last (ap (λ (t : Bool). isTaken call && (t && holdsStore c)) some ∙ and-false (isTaken call))
       (refused-follows d last c call number 0 space check some held)
 
@@ -70,7 +72,7 @@ module _ (d : ℕ) (low : d ≤ 3) where
   link-case : OfLink Followed
   unfolding LinkCall eventOf transferOf holdsStore lastStore carriesOut isTaken pick
   link-case c (byte value) t free rests strings last held admitted =
-      rest-follows c (byte value) t last free rests (pick-no (goAnswered (eqb value 0x06) ∷ []) [] (ap (λ (go : Bool). go && isOf d last) (free-goes (c .phase) free))) refl
+      rest-follows c (byte value) t last free rests (pick-no (goAnswered (eqb value ack) ∷ []) [] (ap (λ (go : Bool). go && isOf d last) (free-goes (c .phase) free))) refl
   link-case c broken t free rests strings last held admitted =
       rest-follows c broken t last free rests (pick-no (goAnswered false ∷ []) [] (ap (λ (go : Bool). go && isOf d last) (free-goes (c .phase) free))) refl
   link-case c tick t free rests strings last held admitted = rest-follows c tick t last free rests refl refl
@@ -85,11 +87,11 @@ module _ (d : ℕ) (low : d ≤ 3) where
   link-case c reset t links rests strings last held admitted = absurd links
 
   stores-case : OfStores Followed
-  unfolding lastStore carriesOut isTaken notRefused holdsStore admits Free
-  stores-case b lead last held admitted =
-      let c = stated b AckOffered in
-      let taking = storeOf (b .collected) in
-      let x : Exchange = exchanged taken (plain (carried (carriedOut b taking))) in
+  unfolding lastStore carriesOut isTaken notRefused holdsStore offered admits Free
+  stores-case b s lead last held admitted =
+      let c = stated b (AckOffered s) in
+      let taking = storeOf s in
+      let x : Exchange = exchanged taken (plain (carried (carryOut b taking))) in
       let holds = ap not lead in
       let (names, keeps) = both-hold (namesDrive taking) (not (resets taking)) (sym (pick-yes _ _ holds) ∙ admitted) in
       subst (λ (next : Store). Follows d (viewOf d last c) next c x) (sym (pick-yes taking last holds))
@@ -97,7 +99,7 @@ module _ (d : ℕ) (low : d ≤ 3) where
 
   no-case : OfNo Followed
   unfolding SaysNo InHand eventOf awaitsGo transferOf lastStore carriesOut isTaken pick
-  no-case b held (byte value) refuses last mine admitted = go-refused-follows d low last b held (byte value) (eqb value 0x06) refl refl refuses
+  no-case b held (byte value) refuses last mine admitted = go-refused-follows d low last b held (byte value) (eqb value ack) refl refl refuses
   no-case b held broken refuses last mine admitted = go-refused-follows d low last b held broken false refl refl refl
   no-case b held taken refuses last mine admitted = absurd refuses
   no-case b held (report drive r) refuses last mine admitted = absurd refuses

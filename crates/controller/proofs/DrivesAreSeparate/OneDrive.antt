@@ -2,11 +2,11 @@
 -- copy, and what its last store has in hand. A means of the proof of separation, and no part of what is claimed.
 -- Assumes nothing.
 use Prim.Native.Nat.{ℕ}
-use mathlib.Core.Bool.{Bool, true, false}
+use mathlib.Core.Bool.{Bool, true, false, _||_}
 use mathlib.Core.List.{List, [], _∷_, _++_}
 use Rattle.common.specs.Pick.{pick}
 use Rattle.operations.specs.declared.operation.Operation.{Operation}
-use Rattle.operations.specs.declared.operation.Operation.the-variants.{Read, CheckBytes, Write, Erase, Rewind, FastForward, SkipForward, SkipReverse, SearchForward, SearchReverse, WriteMark}
+use Rattle.operations.specs.declared.operation.Operation.the-variants.{Read, CheckBytes, Write}
 use Rattle.operations.specs.declared.decode.Decoded.{Decoded}
 use Rattle.operations.specs.declared.decode.Decoded.the-variants.{Reset, Code, Track, Enable, Density, Operate}
 use Rattle.operations.specs.Operation.{moveOf, orderByte, sameOperation}
@@ -14,12 +14,11 @@ use Rattle.operations.specs.Decode.{decodeOf}
 use Rattle.operations.specs.Test.{mayMove}
 use Rattle.records.specs.Image.{imageOf}
 use Rattle.status.specs.declared.drives.Drive.{Drive}
-use Rattle.status.specs.Drives.{reported, copied}
+use Rattle.status.specs.Drives.{withGap, withReport, copyReport, withTrack, withDensity}
 use Rattle.status.specs.Strings.{orderOf}
 use Rattle.operations.specs.declared.store.Store.{Store}
-use Rattle.controller.specs.Stores.{tracked, withDensity}
 use Rattle.transfers.specs.Data.{recordBytes}
-use Rattle.transfers.specs.Results.{Result, resultDrive, delivered, fitting}
+use Rattle.transfers.specs.Results.{Result, verdictOf, delivered, fitting, resultGap}
 use Rattle.controller.specs.Separation.{Event, Output}
 use Rattle.controller.specs.Separation.Event.{reportCame, storeCame, goAnswered, dataCame, resultCame}
 use Rattle.controller.specs.Separation.Output.{motion, image, delivery}
@@ -46,24 +45,14 @@ operand first second third fourth = record { address = 0; first = first; second 
 -- ---- a store
 
 unfoldable pub handFor : Operation → Store → Hand
-handFor Write store = goOffered store
-handFor Read store = resultAwaited Read store
-handFor CheckBytes store = resultAwaited CheckBytes store
-handFor Erase store = resultAwaited Erase store
-handFor Rewind store = resultAwaited Rewind store
-handFor FastForward store = resultAwaited FastForward store
-handFor SkipForward store = resultAwaited SkipForward store
-handFor SkipReverse store = resultAwaited SkipReverse store
-handFor SearchForward store = resultAwaited SearchForward store
-handFor SearchReverse store = resultAwaited SearchReverse store
-handFor WriteMark store = resultAwaited WriteMark store
+handFor operation store = pick (sameOperation operation Write) (goOffered store) (resultAwaited operation store)
 
 unfoldable pub begins : Drive → Store → Decoded → View
 begins drive store Reset = resting drive
 begins drive store (Code code) = resting drive
-begins drive store (Track track) = resting (copied (tracked drive track))
+begins drive store (Track track) = resting (copyReport (withTrack drive track))
 begins drive store (Enable enable) = resting drive
-begins drive store (Density density) = resting (copied (withDensity drive density))
+begins drive store (Density density) = resting (copyReport (withDensity drive density))
 begins drive store (Operate operation) =
     record { drive = drive; hand = pick (mayMove (moveOf operation) (drive .report)) (handFor operation store) empty }
 
@@ -73,17 +62,8 @@ orderTo d drive operation store =
 
 -- a write is ordered by its data call, and check bytes never are
 unfoldable pub firstOrder : ℕ → Drive → Store → Operation → List Output
-firstOrder d drive store Write = []
-firstOrder d drive store CheckBytes = []
-firstOrder d drive store Read = orderTo d drive Read store
-firstOrder d drive store Erase = orderTo d drive Erase store
-firstOrder d drive store Rewind = orderTo d drive Rewind store
-firstOrder d drive store FastForward = orderTo d drive FastForward store
-firstOrder d drive store SkipForward = orderTo d drive SkipForward store
-firstOrder d drive store SkipReverse = orderTo d drive SkipReverse store
-firstOrder d drive store SearchForward = orderTo d drive SearchForward store
-firstOrder d drive store SearchReverse = orderTo d drive SearchReverse store
-firstOrder d drive store WriteMark = orderTo d drive WriteMark store
+firstOrder d drive store operation =
+    pick (sameOperation operation Write || sameOperation operation CheckBytes) [] (orderTo d drive operation store)
 
 unfoldable pub givenAtStore : ℕ → Drive → Store → Decoded → List Output
 givenAtStore d drive store Reset = []
@@ -115,8 +95,12 @@ givenAtData d drive host empty = []
 givenAtData d drive host (goOffered store) = []
 givenAtData d drive host (resultAwaited operation store) = []
 
+-- the drive with the gap that a result leaves
+abbrev pub moved : Drive → Operation → Result → Drive
+moved drive operation r = withGap drive (resultGap drive operation (verdictOf drive operation r .code))
+
 unfoldable pub driveAfterResult : Drive → Result → Hand → Drive
-driveAfterResult drive r (resultAwaited operation store) = copied (resultDrive drive operation r)
+driveAfterResult drive r (resultAwaited operation store) = copyReport (moved drive operation r)
 driveAfterResult drive r empty = drive
 driveAfterResult drive r (goOffered store) = drive
 driveAfterResult drive r (dataAwaited store) = drive
@@ -131,7 +115,7 @@ givenAtResult drive r space (dataAwaited store) = []
 -- ---- an event and a history
 
 unfoldable pub told : View → Event → View
-told v (reportCame r) = record { drive = copied (reported (v .drive) r); hand = v .hand }
+told v (reportCame r) = record { drive = copyReport (withReport (v .drive) r); hand = v .hand }
 told v (storeCame operation first second third fourth) =
     begins (v .drive) (operand first second third fourth) (decodeOf operation first third fourth)
 told v (goAnswered answer) = record { drive = v .drive; hand = handAfterGo answer (v .hand) }

@@ -12,13 +12,14 @@ use Rattle.common.specs.Given.{given}
 use Rattle.common.proofs.PickLaws.{by-test, pick-by, pick-yes, pick-no}
 use Rattle.operations.specs.declared.operation.Operation.{Operation}
 use Rattle.operations.specs.declared.operation.Operation.the-variants.{Read, CheckBytes, Write, Erase, Rewind, FastForward, SkipForward, SkipReverse, SearchForward, SearchReverse, WriteMark}
+use Rattle.operations.specs.declared.course.Course.{Course}
 use Rattle.operations.specs.declared.decode.Decoded.{Decoded}
 use Rattle.operations.specs.declared.decode.Decoded.the-variants.{Reset, Code, Track, Enable, Density, Operate}
 use Rattle.operations.specs.Operation.{moveOf, orderByte}
 use Rattle.operations.specs.Test.{mayMove}
 use Rattle.status.specs.declared.drives.Drive.{Drive}
 use Rattle.status.specs.declared.drives.Drives.{Drives}
-use Rattle.status.specs.Drives.{driveOf, copied}
+use Rattle.status.specs.Drives.{driveOf, copyReport, withTrack, withDensity}
 use Rattle.status.specs.Strings.{orderOf}
 use Rattle.status.proofs.DriveLaws.{put-same, put-other}
 use Rattle.operations.specs.declared.store.Store.{Store}
@@ -26,10 +27,12 @@ use Rattle.link.specs.declared.state.Body.{Body}
 use Rattle.controller.specs.declared.controller.Controller.{Controller}
 use Rattle.link.specs.declared.state.Action.the-variants.{Order}
 use Rattle.link.specs.declared.state.Turn.{Turn}
-use Rattle.link.specs.State.{setSelected, setFlags, setCurrent}
-use Rattle.operations.specs.Store.{namesDrive, named, asked}
+use Rattle.link.specs.State.{withSelected, withFlags, withCurrentDrive}
+use Rattle.operations.specs.Codes.{illegalDrive, illegalMotion}
+use Rattle.operations.specs.Store.{namesDrive, namedDrive, namesUnknown, selectedBy, askedFor}
+use Rattle.operations.specs.Course.{testOf, courseBy, courseOf}
 use Rattle.controller.specs.Controller.{carried}
-use Rattle.controller.specs.Stores.{endedBy, tracked, withDensity, motionOrder, pastTest, ordered, begun, operated, decoded, cleared, namesUnknown, selectedBy, carriedOut}
+use Rattle.controller.specs.Stores.{endWith, motionOrder, pastTest, orderMove, begin, follow, clearOutcome, carryOutOn, carryOut}
 use Rattle.controller.specs.Machine.{plain}
 use Rattle.controller.specs.Machine.Call.{taken, report}
 use Rattle.controller.specs.Lists.{holdsStore}
@@ -37,6 +40,7 @@ use Rattle.controller.specs.Separation.{Output, isOf, storeEvent, eventO
 use Rattle.controller.specs.Separation.Output.{motion}
 use Rattle.controller.proofs.DrivesAreSeparate.OneDrive.{Hand, View, resting, handFor, begins, firstOrder, givenAtStore, told, gives}
 use Rattle.controller.proofs.DrivesAreSeparate.OneDrive.Hand.{empty, resultAwaited}
+use Rattle.controller.proofs.Courses.{decoded, by-test-of}
 use Rattle.controller.proofs.Steps.Resting.{seen, Rests, ended-rests, settled-rests}
 use Rattle.controller.proofs.DrivesAreSeparate.Views.{Follows, Held, InHand, bare, free-hand, free-held, handIn, none-for, owned-follows, rests-view, viewOf}
 
@@ -64,13 +68,13 @@ module _ (d : ℕ) (low : d ≤ 3) (b : Body) (t : Turn) (rests : Rests b t) whe
       }
 
 choose-start :
-    (d : ℕ) (may : Bool) (drive : Drive) (hand : Hand) (out : List Output) (t other : Turn)
-    → Starts d (record { drive = drive; hand = hand }) out t
-    → Starts d (resting drive) [] other
-    → Starts d (record { drive = drive; hand = pick may hand empty }) (pick may out []) (pick may t other)
+    (d : ℕ) (may : Bool) (drive : Drive) (hand : Hand) (out : List Output) (b : Body) (store : Store) (course other : Course)
+    → Starts d (record { drive = drive; hand = hand }) out (follow b store course)
+    → Starts d (resting drive) [] (follow b store other)
+    → Starts d (record { drive = drive; hand = pick may hand empty }) (pick may out []) (follow b store (pick may course other))
 unfolding pick
-choose-start d true drive hand out t other moves ends = moves
-choose-start d false drive hand out t other moves ends = ends
+choose-start d true drive hand out b store course other moves ends = moves
+choose-start d false drive hand out b store course other moves ends = ends
 
 -- an order is given to the drive whose number it bears
 order-own :
@@ -87,51 +91,51 @@ module _ (d : ℕ) (store : Store) where
   pub ordered-own :
       (b : Body) (operation : Operation)
       → b .selected ≡ d
-      → Starts d (record { drive = seen d b; hand = resultAwaited operation (bare store) }) (motion (orderOf (orderByte operation) d (seen d b .track) (seen d b .density) (store .third) (store .fourth)) ∷ []) (ordered b operation store)
-  unfolding ordered motionOrder handIn
+      → Starts d (record { drive = seen d b; hand = resultAwaited operation (bare store) }) (motion (orderOf (orderByte operation) d (seen d b .track) (seen d b .density) (store .third) (store .fourth)) ∷ []) (orderMove b operation store)
+  unfolding orderMove motionOrder handIn
   ordered-own b operation e =
       record { view = refl; given = order-own d (b .drives) (b .selected) (orderByte operation) (store .third) (store .fourth) e }
 
-  pub ordered-other : (b : Body) (operation : Operation) → (b .selected ≡ d → ⊥) → Leaves d (seen d b) (ordered b operation store)
-  unfolding ordered motionOrder ordersFor orderOf
+  pub ordered-other : (b : Body) (operation : Operation) → (b .selected ≡ d → ⊥) → Leaves d (seen d b) (orderMove b operation store)
+  unfolding orderMove motionOrder ordersFor orderOf
   ordered-other b operation other = record { same = refl; quiet = pick-no _ [] (ne-eqb (b .selected) d other) }
 
   module _ (b : Body) (n : ℕ) where
     begun-own :
         n ≡ d → (operation : Operation)
-        → Starts d (record { drive = seen d b; hand = handFor operation (bare store) }) (firstOrder d (seen d b) (bare store) operation) (begun (pastTest (setSelected b n) operation) operation store)
-    unfolding begun pastTest pick handFor firstOrder handIn ordersFor
+        → Starts d (record { drive = seen d b; hand = handFor operation (bare store) }) (firstOrder d (seen d b) (bare store) operation) (begin (withSelected b n) operation store)
+    unfolding begin pastTest pick handFor firstOrder handIn ordersFor
     begun-own e Write = record { view = refl; given = refl }
     begun-own e CheckBytes = record { view = refl; given = refl }
-    begun-own e Read = ordered-own (pastTest (setSelected b n) Read) Read e
-    begun-own e Erase = ordered-own (setSelected b n) Erase e
-    begun-own e Rewind = ordered-own (setSelected b n) Rewind e
-    begun-own e FastForward = ordered-own (setSelected b n) FastForward e
-    begun-own e SkipForward = ordered-own (pastTest (setSelected b n) SkipForward) SkipForward e
-    begun-own e SkipReverse = ordered-own (pastTest (setSelected b n) SkipReverse) SkipReverse e
-    begun-own e SearchForward = ordered-own (setSelected b n) SearchForward e
-    begun-own e SearchReverse = ordered-own (setSelected b n) SearchReverse e
-    begun-own e WriteMark = ordered-own (setSelected b n) WriteMark e
+    begun-own e Read = ordered-own (pastTest (withSelected b n) Read) Read e
+    begun-own e Erase = ordered-own (withSelected b n) Erase e
+    begun-own e Rewind = ordered-own (withSelected b n) Rewind e
+    begun-own e FastForward = ordered-own (withSelected b n) FastForward e
+    begun-own e SkipForward = ordered-own (pastTest (withSelected b n) SkipForward) SkipForward e
+    begun-own e SkipReverse = ordered-own (pastTest (withSelected b n) SkipReverse) SkipReverse e
+    begun-own e SearchForward = ordered-own (withSelected b n) SearchForward e
+    begun-own e SearchReverse = ordered-own (withSelected b n) SearchReverse e
+    begun-own e WriteMark = ordered-own (withSelected b n) WriteMark e
 
-    begun-other : (n ≡ d → ⊥) → (operation : Operation) → Leaves d (seen d b) (begun (pastTest (setSelected b n) operation) operation store)
-    unfolding begun pastTest pick ordersFor
+    begun-other : (n ≡ d → ⊥) → (operation : Operation) → Leaves d (seen d b) (begin (withSelected b n) operation store)
+    unfolding begin pastTest pick ordersFor
     begun-other other Write = record { same = refl; quiet = refl }
     begun-other other CheckBytes = record { same = refl; quiet = refl }
-    begun-other other Read = ordered-other (pastTest (setSelected b n) Read) Read other
-    begun-other other Erase = ordered-other (setSelected b n) Erase other
-    begun-other other Rewind = ordered-other (setSelected b n) Rewind other
-    begun-other other FastForward = ordered-other (setSelected b n) FastForward other
-    begun-other other SkipForward = ordered-other (pastTest (setSelected b n) SkipForward) SkipForward other
-    begun-other other SkipReverse = ordered-other (pastTest (setSelected b n) SkipReverse) SkipReverse other
-    begun-other other SearchForward = ordered-other (setSelected b n) SearchForward other
-    begun-other other SearchReverse = ordered-other (setSelected b n) SearchReverse other
-    begun-other other WriteMark = ordered-other (setSelected b n) WriteMark other
+    begun-other other Read = ordered-other (pastTest (withSelected b n) Read) Read other
+    begun-other other Erase = ordered-other (withSelected b n) Erase other
+    begun-other other Rewind = ordered-other (withSelected b n) Rewind other
+    begun-other other FastForward = ordered-other (withSelected b n) FastForward other
+    begun-other other SkipForward = ordered-other (pastTest (withSelected b n) SkipForward) SkipForward other
+    begun-other other SkipReverse = ordered-other (pastTest (withSelected b n) SkipReverse) SkipReverse other
+    begun-other other SearchForward = ordered-other (withSelected b n) SearchForward other
+    begun-other other SearchReverse = ordered-other (withSelected b n) SearchReverse other
+    begun-other other WriteMark = ordered-other (withSelected b n) WriteMark other
 
     begun-held :
         (operation : Operation)
         → Held store n operation store
-        → InHand store (begun (pastTest (setSelected b n) operation) operation store .body .selected) (begun (pastTest (setSelected b n) operation) operation store .phase)
-    unfolding begun pastTest pick ordered InHand
+        → InHand store (begin (withSelected b n) operation store .body .selected) (begin (withSelected b n) operation store .phase)
+    unfolding begin pastTest pick orderMove InHand
     begun-held Write held = held
     begun-held CheckBytes held = held
     begun-held Read held = held
@@ -145,12 +149,12 @@ module _ (d : ℕ) (store : Store) where
     begun-held WriteMark held = held
 
 -- a track and a density are set alike whatever the reviewed copy is
-tracked-seen : (drive : Drive) (track : ℕ) → copied (tracked drive track) ≡ copied (tracked (copied drive) track)
-unfolding tracked
+tracked-seen : (drive : Drive) (track : ℕ) → copyReport (withTrack drive track) ≡ copyReport (withTrack (copyReport drive) track)
+unfolding withTrack
 tracked-seen drive track =
-    let seen-of : Drive → Drive = λ (x : Drive). copied x in
-    by-test (eqb (drive .track) track) (λ same. ap seen-of (pick-yes drive _ same) ∙ sym (ap seen-of (pick-yes (copied drive) _ same)))
-    (λ new. ap seen-of (pick-no drive _ new) ∙ sym (ap seen-of (pick-no (copied drive) _ new)))
+    let seen-of : Drive → Drive = λ (x : Drive). copyReport x in
+    by-test (eqb (drive .track) track) (λ same. ap seen-of (pick-yes drive _ same) ∙ sym (ap seen-of (pick-yes (copyReport drive) _ same)))
+    (λ new. ap seen-of (pick-no drive _ new) ∙ sym (ap seen-of (pick-no (copyReport drive) _ new)))
 
 -- the record that is set is the selected drive's
 pub set-own :
@@ -158,75 +162,75 @@ pub set-own :
     → d ≤ 3
     → (b : Body) (n : ℕ) (set : Drive → Drive)
     → n ≡ d
-    → seen d (setCurrent (setSelected b n) (set (driveOf (b .drives) n))) ≡ copied (set (driveOf (b .drives) d))
+    → seen d (withCurrentDrive (withSelected b n) (set (driveOf (b .drives) n))) ≡ copyReport (set (driveOf (b .drives) d))
 set-own d low b n set e =
-    subst (λ (m : ℕ). seen d (setCurrent (setSelected b m) (set (driveOf (b .drives) m))) ≡ copied (set (driveOf (b .drives) d))) (sym e)
-    (ap (λ (x : Drive). copied x) (put-same (b .drives) (set (driveOf (b .drives) d)) d low))
+    subst (λ (m : ℕ). seen d (withCurrentDrive (withSelected b m) (set (driveOf (b .drives) m))) ≡ copyReport (set (driveOf (b .drives) d))) (sym e)
+    (ap (λ (x : Drive). copyReport x) (put-same (b .drives) (set (driveOf (b .drives) d)) d low))
 
-pub set-other : (d : ℕ) → d ≤ 3 → (b : Body) (drive : Drive) → b .selected ≤ 3 → (b .selected ≡ d → ⊥) → seen d (setCurrent b drive) ≡ seen d b
-set-other d low b drive within other = ap (λ (x : Drive). copied x) (put-other (b .drives) drive (b .selected) d within low other)
+pub set-other : (d : ℕ) → d ≤ 3 → (b : Body) (drive : Drive) → b .selected ≤ 3 → (b .selected ≡ d → ⊥) → seen d (withCurrentDrive b drive) ≡ seen d b
+set-other d low b drive within other = ap (λ (x : Drive). copyReport x) (put-other (b .drives) drive (b .selected) d within low other)
 
 module _ (d : ℕ) (low : d ≤ 3) (store : Store) (b : Body) (n : ℕ) where
   abbrev selecting : Body
-  selecting = setSelected b n
+  selecting = withSelected b n
 
   decoded-own :
       n ≡ d → (decode : Decoded)
       → asksReset decode ≡ false
       → Starts d (begins (seen d b) (bare store) decode) (givenAtStore d (seen d b) (bare store) decode) (decoded selecting store decode)
-  unfolding decoded begins givenAtStore asksReset operated withDensity
+  unfolding follow courseBy testOf begins givenAtStore asksReset
   decoded-own e Reset keeps = absurd (true≢false keeps)
   decoded-own e (Code code) keeps = rests-start d low _ _ (ended-rests selecting store code)
   decoded-own e (Track track) keeps =
       subst (λ (drive : Drive). Starts d (resting drive) [] (decoded selecting store (Track track)))
-      (set-own d low b n (λ (x : Drive). tracked x track) e ∙ tracked-seen (driveOf (b .drives) d) track)
-      (rests-start d low _ _ (settled-rests (setCurrent selecting (tracked (driveOf (b .drives) n) track)) store))
-  decoded-own e (Enable enable) keeps = rests-start d low _ _ (settled-rests (setFlags selecting (b .changed) enable) store)
+      (set-own d low b n (λ (x : Drive). withTrack x track) e ∙ tracked-seen (driveOf (b .drives) d) track)
+      (rests-start d low _ _ (settled-rests (withCurrentDrive selecting (withTrack (driveOf (b .drives) n) track)) store))
+  decoded-own e (Enable enable) keeps = rests-start d low _ _ (settled-rests (withFlags selecting (b .changed) enable) store)
   decoded-own e (Density density) keeps =
       subst (λ (drive : Drive). Starts d (resting drive) [] (decoded selecting store (Density density)))
       (set-own d low b n (λ (x : Drive). withDensity x density) e)
-      (rests-start d low _ _ (settled-rests (setCurrent selecting (withDensity (driveOf (b .drives) n) density)) store))
+      (rests-start d low _ _ (settled-rests (withCurrentDrive selecting (withDensity (driveOf (b .drives) n) density)) store))
   decoded-own e (Operate operation) keeps =
       subst
-      (λ (m : ℕ). Starts d (record { drive = seen d b; hand = pick (mayMove (moveOf operation) (driveOf (b .drives) m .report)) (handFor operation (bare store)) empty }) (pick (mayMove (moveOf operation) (driveOf (b .drives) m .report)) (firstOrder d (seen d b) (bare store) operation) []) (operated selecting operation store))
+      (λ (m : ℕ). Starts d (record { drive = seen d b; hand = pick (mayMove (moveOf operation) (driveOf (b .drives) m .report)) (handFor operation (bare store)) empty }) (pick (mayMove (moveOf operation) (driveOf (b .drives) m .report)) (firstOrder d (seen d b) (bare store) operation) []) (decoded selecting store (Operate operation)))
       e
-      (choose-start d (mayMove (moveOf operation) (driveOf (b .drives) n .report)) (seen d b) (handFor operation (bare store)) (firstOrder d (seen d b) (bare store) operation) _ _
-      (begun-own d store b n e operation) (rests-start d low _ _ (ended-rests selecting store 0x04)))
+      (choose-start d (mayMove (moveOf operation) (driveOf (b .drives) n .report)) (seen d b) (handFor operation (bare store)) (firstOrder d (seen d b) (bare store) operation) _ _ _ _
+      (begun-own d store b n e operation) (rests-start d low _ _ (ended-rests selecting store illegalMotion)))
 
   decoded-other :
       n ≤ 3 → (n ≡ d → ⊥) → (decode : Decoded) → asksReset decode ≡ false → Leaves d (seen d b) (decoded selecting store decode)
-  unfolding decoded asksReset operated
+  unfolding follow courseBy asksReset
   decoded-other within other Reset keeps = absurd (true≢false keeps)
   decoded-other within other (Code code) keeps = rests-leave d low _ _ (ended-rests selecting store code)
   decoded-other within other (Track track) keeps =
       subst (λ (drive : Drive). Leaves d drive (decoded selecting store (Track track)))
-      (set-other d low selecting (tracked (driveOf (b .drives) n) track) within other)
-      (rests-leave d low _ _ (settled-rests (setCurrent selecting (tracked (driveOf (b .drives) n) track)) store))
-  decoded-other within other (Enable enable) keeps = rests-leave d low _ _ (settled-rests (setFlags selecting (b .changed) enable) store)
+      (set-other d low selecting (withTrack (driveOf (b .drives) n) track) within other)
+      (rests-leave d low _ _ (settled-rests (withCurrentDrive selecting (withTrack (driveOf (b .drives) n) track)) store))
+  decoded-other within other (Enable enable) keeps = rests-leave d low _ _ (settled-rests (withFlags selecting (b .changed) enable) store)
   decoded-other within other (Density density) keeps =
       subst (λ (drive : Drive). Leaves d drive (decoded selecting store (Density density)))
       (set-other d low selecting (withDensity (driveOf (b .drives) n) density) within other)
-      (rests-leave d low _ _ (settled-rests (setCurrent selecting (withDensity (driveOf (b .drives) n) density)) store))
+      (rests-leave d low _ _ (settled-rests (withCurrentDrive selecting (withDensity (driveOf (b .drives) n) density)) store))
   decoded-other within other (Operate operation) keeps =
-      pick-by (Leaves d (seen d b)) (mayMove (moveOf operation) (driveOf (b .drives) n .report)) (λ may. begun-other d store b n other operation)
-      (λ not. rests-leave d low _ _ (ended-rests selecting store 0x04))
+      by-test-of (Leaves d (seen d b)) selecting store operation (begun-other d store b n other operation)
+      (rests-leave d low _ _ (ended-rests selecting store illegalMotion))
 
   decoded-held :
       (decode : Decoded)
       → asksReset decode ≡ false
       → ((operation : Operation) → decode ≡ Operate operation → Held store n operation store)
       → InHand store (decoded selecting store decode .body .selected) (decoded selecting store decode .phase)
-  unfolding decoded asksReset operated
+  unfolding follow courseBy asksReset
   decoded-held Reset keeps held = absurd (true≢false keeps)
   decoded-held (Code code) keeps held = free-held store _ _ (ended-rests selecting store code .free)
   decoded-held (Track track) keeps held =
-      free-held store _ _ (settled-rests (setCurrent selecting (tracked (driveOf (b .drives) n) track)) store .free)
-  decoded-held (Enable enable) keeps held = free-held store _ _ (settled-rests (setFlags selecting (b .changed) enable) store .free)
+      free-held store _ _ (settled-rests (withCurrentDrive selecting (withTrack (driveOf (b .drives) n) track)) store .free)
+  decoded-held (Enable enable) keeps held = free-held store _ _ (settled-rests (withFlags selecting (b .changed) enable) store .free)
   decoded-held (Density density) keeps held =
-      free-held store _ _ (settled-rests (setCurrent selecting (withDensity (driveOf (b .drives) n) density)) store .free)
+      free-held store _ _ (settled-rests (withCurrentDrive selecting (withDensity (driveOf (b .drives) n) density)) store .free)
   decoded-held (Operate operation) keeps held =
-      pick-by (λ (t : Turn). InHand store (t .body .selected) (t .phase)) (mayMove (moveOf operation) (driveOf (b .drives) n .report))
-      (λ may. begun-held d store b n operation (held operation refl)) (λ not. free-held store _ _ (ended-rests selecting store 0x04 .free))
+      by-test-of (λ (t : Turn). InHand store (t .body .selected) (t .phase)) selecting store operation (begun-held d store b n operation (held operation refl))
+      (free-held store _ _ (ended-rests selecting store illegalMotion .free))
 
 -- ---- the calls that belong to a store
 
@@ -239,13 +243,13 @@ module _ (d : ℕ) (store : Store) (c : Controller) where
       ap₂ (λ (x : Drive) (hand : Hand). record { drive = x; hand = hand }) same (pick-no (handIn (c .phase)) empty other)
 
 -- the drive that a store names
-pub own-number : (d : ℕ) (store : Store) → namesDrive store ≡ true → isOf d store ≡ true → named store ≡ d
+pub own-number : (d : ℕ) (store : Store) → namesDrive store ≡ true → isOf d store ≡ true → namedDrive store ≡ d
 unfolding isOf
-own-number d store names own = eqb-true (named store) d (subst (λ (t : Bool). (t && eqb (named store) d) ≡ true) names own)
+own-number d store names own = eqb-true (namedDrive store) d (subst (λ (t : Bool). (t && eqb (namedDrive store) d) ≡ true) names own)
 
-pub other-number : (d : ℕ) (store : Store) → namesDrive store ≡ true → isOf d store ≡ false → named store ≡ d → ⊥
+pub other-number : (d : ℕ) (store : Store) → namesDrive store ≡ true → isOf d store ≡ false → namedDrive store ≡ d → ⊥
 unfolding isOf
-other-number d store names other = eqb-false (named store) d (subst (λ (t : Bool). (t && eqb (named store) d) ≡ false) names other)
+other-number d store names other = eqb-false (namedDrive store) d (subst (λ (t : Bool). (t && eqb (namedDrive store) d) ≡ false) names other)
 
 -- ---- taken
 
@@ -262,50 +266,50 @@ module _ (d : ℕ) (low : d ≤ 3) (c : Controller) (store : Store) (holds : hol
   answered t = Follows d (resting (seen d (c .body))) store c (record { call = taken; answer = plain (carried t) })
 
   -- no drive of this number: no drive is concerned
-  unknown-follows : (b : Body) → b .drives ≡ c .body .drives → 4 ≤ named store → answered (endedBy b store 0x01)
+  unknown-follows : (b : Body) → b .drives ≡ c .body .drives → 4 ≤ namedDrive store → answered (endWith b store illegalDrive)
   unfolding transferOf
   unknown-follows b same high =
-      let rests = ended-rests b store 0x01 in
-      let differs : named store ≡ d → ⊥ = λ e. omega arith in
+      let rests = ended-rests b store illegalDrive in
+      let differs : namedDrive store ≡ d → ⊥ = λ e. omega arith in
       owned-follows d store c _ _ (storeEvent store) (carried-event d store c holds) (λ own. absurd (differs (own-number d store names own)))
       (λ other. record {
-        view = rests-view d low store _ _ rests ∙ ap (λ (drives : Drives). resting (copied (driveOf drives d))) same;
+        view = rests-view d low store _ _ rests ∙ ap (λ (drives : Drives). resting (copyReport (driveOf drives d))) same;
         transfer = refl;
         quiet = none-for d _ (rests .quiet);
       })
       (free-held store _ _ (rests .free))
 
   decoded-follows :
-      named store ≤ 3
-      → asksReset (asked store) ≡ false
-      → answered (decoded (setSelected (cleared (c .body)) (named store)) store (asked store))
-  unfolding cleared transferOf told gives storeEvent asked
+      namedDrive store ≤ 3
+      → asksReset (askedFor store) ≡ false
+      → answered (decoded (withSelected (clearOutcome (c .body)) (namedDrive store)) store (askedFor store))
+  unfolding clearOutcome transferOf told gives storeEvent askedFor
   decoded-follows within keeps =
-      let b = cleared (c .body) in
-      let next = carried (decoded (setSelected b (named store)) store (asked store)) .controller in
+      let b = clearOutcome (c .body) in
+      let next = carried (decoded (withSelected b (namedDrive store)) store (askedFor store)) .controller in
       owned-follows d store c _ _ (storeEvent store) (carried-event d store c holds)
-      (λ own. let starts = decoded-own d low store b (named store) (own-number d store names own) (asked store) keeps in
+      (λ own. let starts = decoded-own d low store b (namedDrive store) (own-number d store names own) (askedFor store) keeps in
       record { done = refl; view = own-view d store next _ own (starts .view); given = starts .given })
-      (λ other. let leaves = decoded-other d low store b (named store) within (other-number d store names other) (asked store) keeps in
+      (λ other. let leaves = decoded-other d low store b (namedDrive store) within (other-number d store names other) (askedFor store) keeps in
       record { view = other-view d store next _ other (leaves .same); transfer = refl; quiet = leaves .quiet })
-      (decoded-held d low store b (named store) (asked store) keeps
-      (λ (operation : Operation) (asks : asked store ≡ Operate operation). record { same = refl; selects = refl; names = names; low = within; asks = asks }))
+      (decoded-held d low store b (namedDrive store) (askedFor store) keeps
+      (λ (operation : Operation) (asks : askedFor store ≡ Operate operation). record { same = refl; selects = refl; names = names; low = within; asks = asks }))
 
   -- the drive is named
   choose-follows :
       (naming above : Bool) (ended : Turn) (turned : ℕ → Turn) (selected : ℕ)
       → naming ≡ true
       → (above ≡ true → answered ended)
-      → (above ≡ false → answered (turned (named store)))
-      → answered (pick (naming && above) ended (turned (pick naming (named store) selected)))
+      → (above ≡ false → answered (turned (namedDrive store)))
+      → answered (pick (naming && above) ended (turned (pick naming (namedDrive store) selected)))
   unfolding pick
   choose-follows true true ended turned selected e ends turns = ends refl
   choose-follows true false ended turned selected e ends turns = turns refl
   choose-follows false above ended turned selected e ends turns = absurd (false≢true e)
 
-  pub carried-follows : resets store ≡ false → answered (carriedOut (c .body) store)
-  unfolding carriedOut cleared namesUnknown selectedBy resets
+  pub carried-follows : resets store ≡ false → answered (carryOut (c .body) store)
+  unfolding carryOut carryOutOn courseOf clearOutcome namesUnknown selectedBy resets
   carried-follows keeps =
-      choose-follows (namesDrive store) (leb 4 (named store)) _ (λ n. decoded (setSelected (cleared (c .body)) n) store (asked store)) _ names
-      (λ high. unknown-follows _ refl (leb-true 4 (named store) high))
-      (λ few. let below = leb-false 4 (named store) few in decoded-follows (omega arith) (subst (λ (t : Bool). (not t && asksReset (asked store)) ≡ false) few keeps))
+      choose-follows (namesDrive store) (leb 4 (namedDrive store)) _ (λ n. decoded (withSelected (clearOutcome (c .body)) n) store (askedFor store)) _ names
+      (λ high. unknown-follows _ refl (leb-true 4 (namedDrive store) high))
+      (λ few. let below = leb-false 4 (namedDrive store) few in decoded-follows (omega arith) (subst (λ (t : Bool). (not t && asksReset (askedFor store)) ≡ false) few keeps))

@@ -20,7 +20,7 @@ use Rattle.controller.specs.declared.controller.Controller.{Controller}
 use Rattle.link.specs.declared.state.Action.{Action}
 use Rattle.link.specs.declared.state.Action.the-variants.{Nothing, Byte, Text, Order}
 use Rattle.link.specs.declared.state.Turn.{Turn}
-use Rattle.operations.specs.Store.{namesDrive, named, asked}
+use Rattle.operations.specs.Store.{namesDrive, namedDrive, askedFor}
 use Rattle.controller.specs.Controller.{carried, refused}
 use Rattle.controller.specs.Machine.{Call, Exchange}
 use Rattle.controller.specs.Lists.{notRefused}
@@ -36,8 +36,8 @@ abbrev pub bare : Store → Store
 bare store = operand (store .first) (store .second) (store .third) (store .fourth)
 
 unfoldable pub handIn : Phase → Hand
-handIn Collecting = empty
-handIn AckOffered = empty
+handIn (Collecting s) = empty
+handIn (AckOffered s) = empty
 handIn (Sending s) = empty
 handIn (EndOffered interrupt) = empty
 handIn (GoOffered store) = goOffered (bare store)
@@ -51,14 +51,14 @@ viewOf d last c = record { drive = seen d (c .body); hand = pick (isOf d last) (
 -- what is in hand is the last store's, whose drive is selected
 pub record Held (last : Store) (selected : ℕ) (operation : Operation) (store : Store) : Type 0 where
   pub same : store ≡ last
-  pub selects : selected ≡ named last
+  pub selects : selected ≡ namedDrive last
   pub names : namesDrive last ≡ true
-  pub low : named last ≤ 3
-  pub asks : asked last ≡ Operate operation
+  pub low : namedDrive last ≤ 3
+  pub asks : askedFor last ≡ Operate operation
 
 unfoldable pub InHand : Store → ℕ → Phase → Type 0
-InHand last selected Collecting = Unit
-InHand last selected AckOffered = Unit
+InHand last selected (Collecting s) = Unit
+InHand last selected (AckOffered s) = Unit
 InHand last selected (Sending s) = Unit
 InHand last selected (EndOffered interrupt) = Unit
 InHand last selected (GoOffered store) = Held last selected Write store
@@ -68,11 +68,11 @@ InHand last selected (ResultAwaited operation store) = Held last selected operat
 -- where nothing is in hand
 pub free-held : (last : Store) (selected : ℕ) (phase : Phase) → Free phase → InHand last selected phase
 unfolding InHand
-free-held last selected = by-free (InHand last selected) tt tt (λ s. tt) (λ interrupt. tt)
+free-held last selected = by-free (InHand last selected) (λ s. tt) (λ s. tt) (λ s. tt) (λ interrupt. tt)
 
 pub free-hand : (phase : Phase) → Free phase → handIn phase ≡ empty
 unfolding handIn
-free-hand = by-free (λ (phase : Phase). handIn phase ≡ empty) refl refl (λ s. refl) (λ interrupt. refl)
+free-hand = by-free (λ (phase : Phase). handIn phase ≡ empty) (λ s. refl) (λ s. refl) (λ s. refl) (λ interrupt. refl)
 
 pub free-view : (d : ℕ) (last : Store) (c : Controller) → Free (c .phase) → viewOf d last c ≡ resting (seen d (c .body))
 free-view d last c free =

@@ -9,21 +9,20 @@ use Rattle.common.proofs.PickLaws.{by-test, pick-yes, pick-no}
 use Rattle.status.specs.declared.drives.Drive.{Drive}
 use Rattle.status.specs.declared.drives.Drives.{Drives}
 use Rattle.status.specs.declared.strings.Six.{Six}
-use Rattle.status.specs.Drives.{driveOf, withDrive, copied}
+use Rattle.status.specs.Drives.{driveOf, withDrive, copyReport}
 use Rattle.status.specs.Strings.{orderOf}
 use Rattle.status.proofs.DriveLaws.{put-same, put-other}
 use Rattle.operations.specs.declared.operation.Operation.{Operation}
 use Rattle.operations.specs.declared.operation.Operation.the-variants.{Write}
 use Rattle.operations.specs.declared.store.Store.{Store}
 use Rattle.operations.specs.Operation.{orderByte}
-use Rattle.operations.specs.Store.{asked}
 use Rattle.link.specs.declared.state.Phase.{Phase}
 use Rattle.link.specs.declared.state.Phase.the-variants.{Collecting, AckOffered, Sending, GoOffered, DataAwaited, ResultAwaited, EndOffered}
 use Rattle.link.specs.declared.state.Body.{Body}
 use Rattle.link.specs.declared.state.Action.{Action}
 use Rattle.link.specs.declared.state.Action.the-variants.{Nothing, Byte, Text, Order}
 use Rattle.link.specs.declared.state.Turn.{Turn}
-use Rattle.link.specs.State.{setDrives, current}
+use Rattle.link.specs.State.{withDrives, currentDrive}
 use Rattle.controller.specs.declared.controller.Controller.{Controller}
 use Rattle.controller.specs.Stores.{motionOrder}
 use Rattle.controller.specs.Machine.{Exchange}
@@ -43,7 +42,7 @@ pub record Matches (last chosen dense : ℕ) (drive : Drive) : Type 0 where
 pub record Agrees (said : ℕ) (last chosen dense : ℕ → ℕ) (now : ℕ) (drives : Drives) : Type 0 where
   pub selected : now ≡ said
   pub low : now ≤ 3
-  pub drive : (d : ℕ) → d ≤ 3 → Matches (last d) (chosen d) (dense d) (copied (driveOf drives d))
+  pub drive : (d : ℕ) → d ≤ 3 → Matches (last d) (chosen d) (dense d) (copyReport (driveOf drives d))
 
 abbrev pub Agreeing : Settings → Body → Type 0
 Agreeing a b = Agrees (a .selected) (a .report) (a .track) (a .density) (b .selected) (b .drives)
@@ -55,8 +54,8 @@ orderBy a operation store =
 
 -- the order of a write in hand is pending
 unfoldable pub Pending : Settings → Phase → Type 0
-Pending a Collecting = Unit
-Pending a AckOffered = Unit
+Pending a (Collecting s) = Unit
+Pending a (AckOffered s) = Unit
 Pending a (Sending s) = Unit
 Pending a (EndOffered interrupt) = Unit
 Pending a (GoOffered store) = a .pending ≡ orderBy a Write store ∷ []
@@ -65,7 +64,7 @@ Pending a (ResultAwaited operation store) = Unit
 
 free-pending : (a : Settings) (phase : Phase) → Free phase → Pending a phase
 unfolding Pending
-free-pending a = by-free (Pending a) tt tt (λ s. tt) (λ interrupt. tt)
+free-pending a = by-free (Pending a) (λ s. tt) (λ s. tt) (λ s. tt) (λ interrupt. tt)
 
 -- the controller's order is that of the settings
 pub same-order :
@@ -74,7 +73,7 @@ pub same-order :
     → orderBy a operation store ≡ motionOrder b operation store
 unfolding motionOrder
 same-order a b operation store agrees =
-    let (selected, track, density) : ((b .selected ≡ a .selected) × (current b .track ≡ a .track (b .selected)) × (current b .density ≡ a .density (b .selected))) =
+    let (selected, track, density) : ((b .selected ≡ a .selected) × (currentDrive b .track ≡ a .track (b .selected)) × (currentDrive b .density ≡ a .density (b .selected))) =
     (agrees .selected, agrees .drive (b .selected) (agrees .low) .track, agrees .drive (b .selected) (agrees .low) .density) in
     subst (λ (d : ℕ). orderOf (orderByte operation) d (a .track d) (a .density d) (store .third) (store .fourth) ≡ motionOrder b operation store) selected
     (sym (ap₂ (λ (t n : ℕ). orderOf (orderByte operation) (b .selected) t n (store .third) (store .fourth)) track density))
@@ -137,7 +136,7 @@ pub put-agrees :
     → Agreeing a b
     → Matches (later .report n) (later .track n) (later .density n) drive
     → ((d : ℕ) → (d ≡ n → ⊥) → Matches (a .report d) (a .track d) (a .density d) (seen d b) → Matches (later .report d) (later .track d) (later .density d) (seen d b))
-    → Agreeing later (setDrives b (withDrive (b .drives) n drive))
+    → Agreeing later (withDrives b (withDrive (b .drives) n drive))
 put-agrees a later b n drive within selected agrees own others =
     record {
       selected = agrees .selected ∙ sym selected;
@@ -145,12 +144,12 @@ put-agrees a later b n drive within selected agrees own others =
       drive =
           λ d low. by-test (eqb d n)
           (λ same.
-          subst (λ (m : ℕ). Matches (later .report m) (later .track m) (later .density m) (copied (driveOf (withDrive (b .drives) n drive) m)))
+          subst (λ (m : ℕ). Matches (later .report m) (later .track m) (later .density m) (copyReport (driveOf (withDrive (b .drives) n drive) m)))
           (sym (eqb-true d n same))
-          (subst (λ (x : Drive). Matches (later .report n) (later .track n) (later .density n) (copied x)) (sym (put-same (b .drives) drive n within))
+          (subst (λ (x : Drive). Matches (later .report n) (later .track n) (later .density n) (copyReport x)) (sym (put-same (b .drives) drive n within))
           (record { report = own .report; track = own .track; density = own .density })))
           (λ other.
           let apart : d ≡ n → ⊥ = eqb-false d n other in
-          subst (λ (x : Drive). Matches (later .report d) (later .track d) (later .density d) (copied x))
+          subst (λ (x : Drive). Matches (later .report d) (later .track d) (later .density d) (copyReport x))
           (sym (put-other (b .drives) drive n d within low (λ e. apart (sym e)))) (others d apart (agrees .drive d low)));
     }

@@ -8,7 +8,8 @@ use lib.Dec.{eqb}
 use Rattle.common.proofs.PickLaws.{pick-by}
 use Rattle.status.specs.declared.drives.Drive.{Drive}
 use Rattle.status.specs.declared.words.Word.{Word}
-use Rattle.status.specs.Drives.{driveOf, copied}
+use Rattle.status.specs.Drives.{driveOf, copyReport}
+use Rattle.status.specs.Words.{withCode}
 use Rattle.status.proofs.DriveLaws.{reviewed-drive}
 use Rattle.operations.specs.declared.operation.Operation.{Operation}
 use Rattle.operations.specs.Operation.{offersEnd}
@@ -23,19 +24,20 @@ use Rattle.link.specs.declared.state.Body.{Body}
 use Rattle.link.specs.declared.state.Action.{Action}
 use Rattle.link.specs.declared.state.Action.the-variants.{Nothing, Byte, Text, Order}
 use Rattle.link.specs.declared.state.Turn.{Turn}
-use Rattle.link.specs.State.{setFlags, setCollected, review, idle}
-use Rattle.link.specs.Completion.{sent, interrupts, completed, coded}
+use Rattle.link.specs.State.{withFlags, withOutcome, review, idle}
+use Rattle.link.specs.Bytes.{ack, nack, loadLead, storeLead, mostNoes}
+use Rattle.link.specs.Completion.{sendWord, sendInterrupt, complete}
+use Rattle.operations.specs.Codes.{noGo}
 use Rattle.operations.specs.Store.{asksInterrupt}
-use Rattle.link.specs.Link.{wholeLength, appended, checks, firstByte, lastByte, nextByte, accepted, givenUp, saidNo, goRefused, collectedByte, sendAnswered, tickWith, idleTick}
-use Rattle.link.specs.Loads.{loaded}
-use Rattle.controller.specs.Stores.{endedBy, settled}
-use Rattle.controller.specs.Records.{ending}
+use Rattle.link.specs.Link.{wholeLength, appendByte, isGoodString, firstByte, lastByte, nextByte, yesToSend, giveUp, noToSend, noToGo, collectByte, answerToSend, tickAfterReview, idleTick}
+use Rattle.link.specs.Loads.{carryOutLoad}
+use Rattle.controller.specs.Stores.{endWith, settle, endOperation}
 
 -- ---- what counts of a state
 
 -- what counts of a drive: all but the reviewed copy
 abbrev pub seen : ℕ → Body → Drive
-seen d b = copied (driveOf (b .drives) d)
+seen d b = copyReport (driveOf (b .drives) d)
 
 -- the drives, the selection, and the count with its bit are as before
 pub record Same (b later : Body) : Type 0 where
@@ -46,8 +48,8 @@ pub record Same (b later : Body) : Type 0 where
 
 -- nothing in hand
 unfoldable pub Free : Phase → Type 0
-Free Collecting = Unit
-Free AckOffered = Unit
+Free (Collecting s) = Unit
+Free (AckOffered s) = Unit
 Free (Sending s) = Unit
 Free (EndOffered interrupt) = Unit
 Free (GoOffered store) = ⊥
@@ -57,16 +59,16 @@ Free (ResultAwaited operation store) = ⊥
 -- a claim of such a phase, from the claim of each
 pub by-free :
     (P : Phase → Type 0)
-    → P Collecting
-    → P AckOffered
+    → ((s : Collected) → P (Collecting s))
+    → ((s : Collected) → P (AckOffered s))
     → ((s : Send) → P (Sending s))
     → ((interrupt : Bool) → P (EndOffered interrupt))
     → (phase : Phase)
     → Free phase
     → P phase
 unfolding Free
-by-free P collecting offered sends ends Collecting free = collecting
-by-free P collecting offered sends ends AckOffered free = offered
+by-free P collecting offered sends ends (Collecting s) free = collecting s
+by-free P collecting offered sends ends (AckOffered s) free = offered s
 by-free P collecting offered sends ends (Sending s) free = sends s
 by-free P collecting offered sends ends (EndOffered interrupt) free = ends interrupt
 by-free P collecting offered sends ends (GoOffered store) free = absurd free
@@ -100,7 +102,7 @@ untouched b = record { drive = λ d low. refl; selected = refl; counted = refl; 
 reviewed-same : (b : Body) → Same b (review b)
 unfolding review
 reviewed-same b =
-    record { drive = λ d low. ap (λ (x : Drive). copied x) (reviewed-drive (b .drives) d low); selected = refl; counted = refl; secondary = refl }
+    record { drive = λ d low. ap (λ (x : Drive). copyReport x) (reviewed-drive (b .drives) d low); selected = refl; counted = refl; secondary = refl }
 
 -- ---- steps
 
@@ -118,106 +120,100 @@ idle-rests b action quiet =
       quiet = quiet;
     }
 
-sent-rests : (b : Body) (kind : Kind) (lead : ℕ) (word : Word) → Rests b (sent b kind lead word)
-unfolding sent Free NoOrder
+sent-rests : (b : Body) (kind : Kind) (lead : ℕ) (word : Word) → Rests b (sendWord b kind lead word)
+unfolding sendWord Free NoOrder
 sent-rests b kind lead word = record { same = untouched b; free = tt; quiet = tt }
 
-interrupts-rests : (b : Body) → Rests b (interrupts b)
-unfolding interrupts
+interrupts-rests : (b : Body) → Rests b (sendInterrupt b)
+unfolding sendInterrupt
 interrupts-rests b = pick-by (Rests b) (b .outcome .counted) (λ counted. sent-rests b Secondary _ _) (λ none. sent-rests b Completion _ _)
 
 -- with other flags
-flagged : (b : Body) (changed enable : Bool) → Same b (setFlags b changed enable)
+flagged : (b : Body) (changed enable : Bool) → Same b (withFlags b changed enable)
 flagged b changed enable = record { drive = λ d low. refl; selected = refl; counted = refl; secondary = refl }
 
-pub completed-rests : (b : Body) (interrupt : Bool) → Rests b (completed b interrupt)
-unfolding completed NoOrder
+pub completed-rests : (b : Body) (interrupt : Bool) → Rests b (complete b interrupt)
+unfolding complete NoOrder
 completed-rests b interrupt =
     let reviewed = review b in
     pick-by (Rests b) interrupt
     (λ asked. rests-from b reviewed _ (reviewed-same b)
-    (rests-from reviewed (setFlags reviewed (reviewed .changed) false) _ (flagged reviewed (reviewed .changed) false) (interrupts-rests _)))
+    (rests-from reviewed (withFlags reviewed (reviewed .changed) false) _ (flagged reviewed (reviewed .changed) false) (interrupts-rests _)))
     (λ silent. idle-rests b _ tt)
 
-coded-same : (b : Body) (code : ℕ) → Same b (coded b code)
-unfolding coded
+coded-same : (b : Body) (code : ℕ) → Same b (withOutcome b (withCode (b .outcome) code))
 coded-same b code = record { drive = λ d low. refl; selected = refl; counted = refl; secondary = refl }
 
-pub ended-rests : (b : Body) (store : Store) (code : ℕ) → Rests b (endedBy b store code)
-unfolding endedBy
-ended-rests b store code = rests-from b (coded b code) _ (coded-same b code) (completed-rests (coded b code) (asksInterrupt store))
+pub ended-rests : (b : Body) (store : Store) (code : ℕ) → Rests b (endWith b store code)
+unfolding endWith
+ended-rests b store code = rests-from b _ _ (coded-same b code) (completed-rests (withOutcome b (withCode (b .outcome) code)) (asksInterrupt store))
 
-pub settled-rests : (b : Body) (store : Store) → Rests b (settled b store)
-unfolding settled
+pub settled-rests : (b : Body) (store : Store) → Rests b (settle b store)
+unfolding settle
 settled-rests b store = completed-rests b (asksInterrupt store)
 
-pub ending-rests : (b : Body) (operation : Operation) (store : Store) → Rests b (ending b operation store)
-unfolding ending Free NoOrder
+pub ending-rests : (b : Body) (operation : Operation) (store : Store) → Rests b (endOperation b operation store)
+unfolding endOperation Free NoOrder
 ending-rests b operation store =
     pick-by (Rests b) (offersEnd operation) (λ offered. record { same = untouched b; free = tt; quiet = tt })
     (λ ended. completed-rests b (asksInterrupt store))
 
-pub go-refused-rests : (b : Body) (store : Store) → Rests b (goRefused b store)
-unfolding goRefused Free NoOrder
-go-refused-rests b store = record { same = coded-same b 0x05; free = tt; quiet = tt }
+pub go-refused-rests : (b : Body) (store : Store) → Rests b (noToGo b store)
+unfolding noToGo Free NoOrder
+go-refused-rests b store = record { same = coded-same b noGo; free = tt; quiet = tt }
 
-pub given-up-rests : (b : Body) (kind : Kind) → Rests b (givenUp b kind)
-unfolding givenUp NoOrder
+pub given-up-rests : (b : Body) (kind : Kind) → Rests b (giveUp b kind)
+unfolding giveUp NoOrder
 given-up-rests b Load = idle-rests b _ tt
 given-up-rests b Secondary = idle-rests b _ tt
 given-up-rests b Completion = idle-rests b _ tt
-given-up-rests b Change = rests-from b (setFlags b (b .changed) false) _ (flagged b (b .changed) false) (idle-rests _ _ tt)
+given-up-rests b Change = rests-from b (withFlags b (b .changed) false) _ (flagged b (b .changed) false) (idle-rests _ _ tt)
 
-accepted-rests : (b : Body) (kind : Kind) → Rests b (accepted b kind)
-unfolding accepted NoOrder
+accepted-rests : (b : Body) (kind : Kind) → Rests b (yesToSend b kind)
+unfolding yesToSend NoOrder
 accepted-rests b Load = idle-rests b _ tt
 accepted-rests b Secondary = sent-rests b Completion _ _
-accepted-rests b Completion = rests-from b (setFlags b false (b .enable)) _ (flagged b false (b .enable)) (idle-rests _ _ tt)
-accepted-rests b Change = rests-from b (setFlags b false false) _ (flagged b false false) (idle-rests _ _ tt)
+accepted-rests b Completion = rests-from b (withFlags b false (b .enable)) _ (flagged b false (b .enable)) (idle-rests _ _ tt)
+accepted-rests b Change = rests-from b (withFlags b false false) _ (flagged b false false) (idle-rests _ _ tt)
 
-said-no-rests : (b : Body) (s : Send) → Rests b (saidNo b s)
-unfolding saidNo Free NoOrder
+said-no-rests : (b : Body) (s : Send) → Rests b (noToSend b s)
+unfolding noToSend Free NoOrder
 said-no-rests b s =
-    pick-by (Rests b) (eqb (s .noes) 4) (λ fifth. given-up-rests b (s .kind)) (λ again. record { same = untouched b; free = tt; quiet = tt })
+    pick-by (Rests b) (eqb (s .noes) mostNoes) (λ fifth. given-up-rests b (s .kind)) (λ again. record { same = untouched b; free = tt; quiet = tt })
 
--- with another string collected
-collected-same : (b : Body) (collected : Collected) → Same b (setCollected b collected)
-collected-same b collected = record { drive = λ d low. refl; selected = refl; counted = refl; secondary = refl }
-
-first-byte-rests : (b : Body) (byte : ℕ) → Rests b (firstByte b byte)
+first-byte-rests : (b : Body) (s : Collected) (byte : ℕ) → Rests b (firstByte b s byte)
 unfolding firstByte Free NoOrder
-first-byte-rests b byte =
-    pick-by (Rests b) (eqb byte 0x62 || eqb byte 0x64) (λ lead. record { same = collected-same b _; free = tt; quiet = tt })
-    (λ none. pick-by (Rests b) (eqb byte 0x15) (λ nack. record { same = untouched b; free = tt; quiet = tt }) (λ other. idle-rests b _ tt))
+first-byte-rests b s byte =
+    pick-by (Rests b) (eqb byte loadLead || eqb byte storeLead) (λ lead. record { same = untouched b; free = tt; quiet = tt })
+    (λ none. pick-by (Rests b) (eqb byte nack) (λ ignored. record { same = untouched b; free = tt; quiet = tt }) (λ other. idle-rests b _ tt))
 
-last-byte-rests : (b : Body) → Rests b (lastByte b)
+last-byte-rests : (b : Body) (s : Collected) → Rests b (lastByte b s)
 unfolding lastByte Free NoOrder
-last-byte-rests b =
-    pick-by (Rests b) (checks (b .collected)) (λ good. record { same = untouched b; free = tt; quiet = tt }) (λ bad. idle-rests b _ tt)
+last-byte-rests b s =
+    pick-by (Rests b) (isGoodString s) (λ good. record { same = untouched b; free = tt; quiet = tt }) (λ bad. idle-rests b _ tt)
 
-next-byte-rests : (b : Body) (byte : ℕ) → Rests b (nextByte b byte)
+next-byte-rests : (b : Body) (s : Collected) (byte : ℕ) → Rests b (nextByte b s byte)
 unfolding nextByte Free NoOrder
-next-byte-rests b byte =
-    let longer = setCollected b (appended (b .collected) byte) in
-    pick-by (Rests b) (eqb (b .collected .length + 1) (wholeLength (b .collected .c0))) (λ whole. rests-from b longer _ (collected-same b _) (last-byte-rests longer))
-    (λ part. record { same = collected-same b _; free = tt; quiet = tt })
+next-byte-rests b s byte =
+    pick-by (Rests b) (eqb (s .length + 1) (wholeLength (s .c0))) (λ whole. last-byte-rests b (appendByte s byte))
+    (λ part. record { same = untouched b; free = tt; quiet = tt })
 
-pub byte-rests : (b : Body) (byte : ℕ) → Rests b (collectedByte b byte)
-unfolding collectedByte
-byte-rests b byte = pick-by (Rests b) (eqb (b .collected .length) 0) (λ first. first-byte-rests b byte) (λ further. next-byte-rests b byte)
+pub byte-rests : (b : Body) (s : Collected) (byte : ℕ) → Rests b (collectByte b s byte)
+unfolding collectByte
+byte-rests b s byte = pick-by (Rests b) (eqb (s .length) 0) (λ first. first-byte-rests b s byte) (λ further. next-byte-rests b s byte)
 
-pub send-rests : (b : Body) (byte : ℕ) (s : Send) → Rests b (sendAnswered b byte s)
-unfolding sendAnswered
-send-rests b byte s = pick-by (Rests b) (eqb byte 0x06) (λ yes. accepted-rests b (s .kind)) (λ no. said-no-rests b s)
+pub send-rests : (b : Body) (byte : ℕ) (s : Send) → Rests b (answerToSend b byte s)
+unfolding answerToSend
+send-rests b byte s = pick-by (Rests b) (eqb byte ack) (λ yes. accepted-rests b (s .kind)) (λ no. said-no-rests b s)
 
-pub tick-rests : (b : Body) → Rests b (idleTick b)
-unfolding idleTick tickWith Free NoOrder
-tick-rests b =
+pub tick-rests : (b : Body) (s : Collected) → Rests b (idleTick b s)
+unfolding idleTick tickAfterReview Free NoOrder
+tick-rests b s =
     pick-by (Rests b) (review b .changed && review b .enable) (λ due. rests-from b (review b) _ (reviewed-same b) (sent-rests (review b) Change _ _))
     (λ none. record { same = reviewed-same b; free = tt; quiet = tt })
 
-pub loaded-rests : (b : Body) (address : ℕ) → Rests b (loaded b address)
-unfolding loaded NoOrder
+pub loaded-rests : (b : Body) (address : ℕ) → Rests b (carryOutLoad b address)
+unfolding carryOutLoad NoOrder
 loaded-rests b address =
     pick-by (Rests b) (eqb (address / 16 % 8) 6) (λ six. idle-rests b _ tt)
     (λ below. pick-by (Rests b) (eqb (address / 16 % 8) 7) (λ seven. idle-rests b _ tt) (λ other. sent-rests b Load _ _))

@@ -14,12 +14,13 @@ use Rattle.status.specs.declared.drives.Drive.{Drive}
 use Rattle.status.specs.declared.words.Outcome.{Outcome}
 use Rattle.status.specs.declared.words.Word.{Word}
 use Rattle.status.specs.declared.strings.Six.{Six}
-use Rattle.status.specs.Words.{bit, primaryOf, secondaryWord}
+use Rattle.status.specs.Words.{withCode, bitOf, primaryOf, secondaryWord}
 use Rattle.status.specs.Strings.{stringOf}
 use Rattle.operations.specs.declared.operation.Operation.{Operation}
 use Rattle.operations.specs.Operation.{offersEnd}
 use Rattle.operations.specs.declared.store.Store.{Store}
 use Rattle.operations.specs.Store.{asksInterrupt}
+use Rattle.link.specs.declared.state.Collected.{Collected}
 use Rattle.link.specs.declared.state.Kind.{Kind}
 use Rattle.link.specs.declared.state.Kind.the-variants.{Load, Secondary, Completion, Change}
 use Rattle.link.specs.declared.state.Send.{Send}
@@ -29,32 +30,32 @@ use Rattle.link.specs.declared.state.Body.{Body}
 use Rattle.link.specs.declared.state.Action.{Action}
 use Rattle.link.specs.declared.state.Action.the-variants.{Nothing, Byte, Text, Order}
 use Rattle.link.specs.declared.state.Turn.{Turn}
-use Rattle.link.specs.State.{setFlags, setCollected, current, review, idle}
-use Rattle.link.specs.Completion.{primaryNow, sent, interrupts, completed, coded}
-use Rattle.link.specs.Link.{wholeLength, appended, checks, firstByte, lastByte, nextByte, accepted, givenUp, saidNo, goRefused, collectedByte, sendAnswered, tickWith, idleTick}
-use Rattle.link.specs.Loads.{loaded, loadWord}
-use Rattle.controller.specs.Stores.{endedBy, settled}
-use Rattle.controller.specs.Records.{ending}
+use Rattle.link.specs.State.{withFlags, withOutcome, currentDrive, review, idle}
+use Rattle.link.specs.Bytes.{ack, nack, loadLead, storeLead, loadReply, secondaryUpdate, interrupt, mostNoes}
+use Rattle.link.specs.Completion.{primaryNow, sendWord, sendInterrupt, complete}
+use Rattle.link.specs.Link.{wholeLength, appendByte, isGoodString, firstByte, lastByte, nextByte, yesToSend, giveUp, noToSend, noToGo, collectByte, answerToSend, tickAfterReview, idleTick}
+use Rattle.link.specs.Loads.{carryOutLoad, loadWord}
+use Rattle.controller.specs.Stores.{endWith, settle, endOperation}
 use Rattle.controller.specs.Counts.{bit22, wordIn}
 
 -- ---- bit 22 of the word
 
-quarter : (set : Bool) (weight : ℕ) → bit set (4 * weight) ≡ 4 * bit set weight
-unfolding bit pick
+quarter : (set : Bool) (weight : ℕ) → bitOf set (4 * weight) ≡ 4 * bitOf set weight
+unfolding bitOf pick
 quarter true weight = refl
 quarter false weight = refl
 
 -- the bits above bit 22 in the third byte, as a number
 abbrev above : Outcome → ℕ
-above o = bit (o .parity) 32 + bit (o .overflow) 16 + bit (o .underflow) 8 + bit (o .wdl) 4 + bit (o .rdl) 2 + bit (o .supplied) 1
+above o = bitOf (o .parity) 32 + bitOf (o .overflow) 16 + bitOf (o .underflow) 8 + bitOf (o .wdl) 4 + bitOf (o .rdl) 2 + bitOf (o .supplied) 1
 
 -- the third byte by its last two bits
 third-byte :
     (o : Outcome) (density : ℕ)
-    → bit (o .parity) 128 + bit (o .overflow) 64 + bit (o .underflow) 32 + bit (o .wdl) 16 + bit (o .rdl) 8 + bit (o .supplied) 4 + bit false 2
+    → bitOf (o .parity) 128 + bitOf (o .overflow) 64 + bitOf (o .underflow) 32 + bitOf (o .wdl) 16 + bitOf (o .rdl) 8 + bitOf (o .supplied) 4 + bitOf false 2
     + density % 2
     ≡ (above o * 2 + 0) * 2 + density % 2
-unfolding bit pick
+unfolding bitOf pick
 third-byte o density =
     let parity = quarter (o .parity) 32 in
     let overflow = quarter (o .overflow) 16 in
@@ -72,7 +73,7 @@ clear :
 unfolding bit22 primaryOf
 clear changed enable o selected drive none =
     ap
-    (λ (counted : Bool). eqb ((bit (o .parity) 128 + bit (o .overflow) 64 + bit (o .underflow) 32 + bit (o .wdl) 16 + bit (o .rdl) 8 + bit (o .supplied) 4 + bit counted 2 + drive .density % 2) / 2 % 2) 1)
+    (λ (counted : Bool). eqb ((bitOf (o .parity) 128 + bitOf (o .overflow) 64 + bitOf (o .underflow) 32 + bitOf (o .wdl) 16 + bitOf (o .rdl) 8 + bitOf (o .supplied) 4 + bitOf counted 2 + drive .density % 2) / 2 % 2) 1)
     none
     ∙ ap (λ (n : ℕ). eqb (n / 2 % 2) 1) (third-byte o (drive .density))
     ∙ ap (λ (n : ℕ). eqb (n % 2) 1) (digits-div (above o * 2 + 0) (mod-lt (drive .density) (zero-lt-suc 1)))
@@ -82,20 +83,20 @@ pub marked : (b : Body) → bit22 (primaryNow b) ≡ true → b .outcome .counte
 unfolding primaryNow
 marked b set =
     by-test (b .outcome .counted) (λ yes. yes)
-    (λ none. absurd (false≢true (sym (clear (b .changed) (b .enable) (b .outcome) (b .selected) (current b) none) ∙ set)))
+    (λ none. absurd (false≢true (sym (clear (b .changed) (b .enable) (b .outcome) (b .selected) (currentDrive b) none) ∙ set)))
 
 -- ---- what a string may say
 
 -- where `counted` is bit 22 of the state and `count` its secondary
 pub record UpToDate (counted : Bool) (count : ℕ) (string : Six) : Type 0 where
-  pub brings : string .b0 ≡ 0x68 → (counted ≡ true) × (string ≡ stringOf 0x68 (secondaryWord count))
-  pub marks : string .b0 ≡ 0x69 → bit22 (wordIn string) ≡ true → counted ≡ true
+  pub brings : string .b0 ≡ secondaryUpdate → (counted ≡ true) × (string ≡ stringOf secondaryUpdate (secondaryWord count))
+  pub marks : string .b0 ≡ interrupt → bit22 (wordIn string) ≡ true → counted ≡ true
 
 -- a string that is held, and one that goes out
 unfoldable pub HeldUpToDate : Bool → ℕ → Phase → Type 0
 HeldUpToDate counted count (Sending s) = UpToDate counted count (s .bytes)
-HeldUpToDate counted count Collecting = Unit
-HeldUpToDate counted count AckOffered = Unit
+HeldUpToDate counted count (Collecting s) = Unit
+HeldUpToDate counted count (AckOffered s) = Unit
 HeldUpToDate counted count (GoOffered store) = Unit
 HeldUpToDate counted count (DataAwaited store) = Unit
 HeldUpToDate counted count (ResultAwaited operation store) = Unit
@@ -116,102 +117,102 @@ pub record StringsUpToDate (t : Turn) : Type 0 where
 sent-strings :
     (b : Body) (kind : Kind) (lead : ℕ) (word : Word)
     → UpToDate (b .outcome .counted) (b .secondary) (stringOf lead word)
-    → StringsUpToDate (sent b kind lead word)
-unfolding sent HeldUpToDate SentUpToDate
+    → StringsUpToDate (sendWord b kind lead word)
+unfolding sendWord HeldUpToDate SentUpToDate
 sent-strings b kind lead word honest = record { holds = honest; says = honest }
 
-load-strings : (b : Body) (word : Word) → StringsUpToDate (sent b Load 0x66 word)
+load-strings : (b : Body) (word : Word) → StringsUpToDate (sendWord b Load loadReply word)
 unfolding stringOf
-load-strings b word = sent-strings b Load 0x66 word (record { brings = λ e. absurd (omega arith); marks = λ e set. absurd (omega arith) })
+load-strings b word = sent-strings b Load loadReply word (record { brings = λ e. absurd (omega arith); marks = λ e set. absurd (omega arith) })
 
-primary-strings : (b : Body) (kind : Kind) → StringsUpToDate (sent b kind 0x69 (primaryNow b))
+primary-strings : (b : Body) (kind : Kind) → StringsUpToDate (sendWord b kind interrupt (primaryNow b))
 unfolding stringOf bit22 wordIn
-primary-strings b kind = sent-strings b kind 0x69 (primaryNow b) (record { brings = λ e. absurd (omega arith); marks = λ e set. marked b set })
+primary-strings b kind = sent-strings b kind interrupt (primaryNow b) (record { brings = λ e. absurd (omega arith); marks = λ e set. marked b set })
 
-secondary-strings : (b : Body) → b .outcome .counted ≡ true → StringsUpToDate (sent b Secondary 0x68 (secondaryWord (b .secondary)))
+secondary-strings : (b : Body) → b .outcome .counted ≡ true → StringsUpToDate (sendWord b Secondary secondaryUpdate (secondaryWord (b .secondary)))
 unfolding stringOf
-secondary-strings b counted = sent-strings b Secondary 0x68 _ (record { brings = λ e. (counted, refl); marks = λ e set. absurd (omega arith) })
+secondary-strings b counted = sent-strings b Secondary secondaryUpdate _ (record { brings = λ e. (counted, refl); marks = λ e set. absurd (omega arith) })
 
-interrupts-strings : (b : Body) → StringsUpToDate (interrupts b)
-unfolding interrupts
+interrupts-strings : (b : Body) → StringsUpToDate (sendInterrupt b)
+unfolding sendInterrupt
 interrupts-strings b = pick-by StringsUpToDate (b .outcome .counted) (λ counted. secondary-strings b counted) (λ none. primary-strings b Completion)
 
 pub idle-strings : (b : Body) (action : Action) → SentUpToDate (b .outcome .counted) (b .secondary) action → StringsUpToDate (idle b action)
 unfolding idle review HeldUpToDate
 idle-strings b action says = record { holds = tt; says = says }
 
-pub completed-strings : (b : Body) (interrupt : Bool) → StringsUpToDate (completed b interrupt)
-unfolding completed SentUpToDate
-completed-strings b interrupt = pick-by StringsUpToDate interrupt (λ asked. interrupts-strings _) (λ silent. idle-strings b _ tt)
+pub completed-strings : (b : Body) (asked : Bool) → StringsUpToDate (complete b asked)
+unfolding complete SentUpToDate
+completed-strings b asked = pick-by StringsUpToDate asked (λ due. interrupts-strings _) (λ silent. idle-strings b _ tt)
 
-pub ended-strings : (b : Body) (store : Store) (code : ℕ) → StringsUpToDate (endedBy b store code)
-unfolding endedBy
-ended-strings b store code = completed-strings (coded b code) (asksInterrupt store)
+pub ended-strings : (b : Body) (store : Store) (code : ℕ) → StringsUpToDate (endWith b store code)
+unfolding endWith
+ended-strings b store code = completed-strings (withOutcome b (withCode (b .outcome) code)) (asksInterrupt store)
 
-pub settled-strings : (b : Body) (store : Store) → StringsUpToDate (settled b store)
-unfolding settled
+pub settled-strings : (b : Body) (store : Store) → StringsUpToDate (settle b store)
+unfolding settle
 settled-strings b store = completed-strings b (asksInterrupt store)
 
-pub ending-strings : (b : Body) (operation : Operation) (store : Store) → StringsUpToDate (ending b operation store)
-unfolding ending HeldUpToDate SentUpToDate
+pub ending-strings : (b : Body) (operation : Operation) (store : Store) → StringsUpToDate (endOperation b operation store)
+unfolding endOperation HeldUpToDate SentUpToDate
 ending-strings b operation store =
     pick-by StringsUpToDate (offersEnd operation) (λ offered. record { holds = tt; says = tt }) (λ ended. completed-strings b (asksInterrupt store))
 
-pub go-refused-strings : (b : Body) (store : Store) → StringsUpToDate (goRefused b store)
-unfolding goRefused HeldUpToDate SentUpToDate
+pub go-refused-strings : (b : Body) (store : Store) → StringsUpToDate (noToGo b store)
+unfolding noToGo HeldUpToDate SentUpToDate
 go-refused-strings b store = record { holds = tt; says = tt }
 
-pub given-up-strings : (b : Body) (kind : Kind) → StringsUpToDate (givenUp b kind)
-unfolding givenUp SentUpToDate
+pub given-up-strings : (b : Body) (kind : Kind) → StringsUpToDate (giveUp b kind)
+unfolding giveUp SentUpToDate
 given-up-strings b Load = idle-strings b _ tt
 given-up-strings b Secondary = idle-strings b _ tt
 given-up-strings b Completion = idle-strings b _ tt
-given-up-strings b Change = idle-strings (setFlags b (b .changed) false) _ tt
+given-up-strings b Change = idle-strings (withFlags b (b .changed) false) _ tt
 
-accepted-strings : (b : Body) (kind : Kind) → StringsUpToDate (accepted b kind)
-unfolding accepted SentUpToDate
+accepted-strings : (b : Body) (kind : Kind) → StringsUpToDate (yesToSend b kind)
+unfolding yesToSend SentUpToDate
 accepted-strings b Load = idle-strings b _ tt
 accepted-strings b Secondary = primary-strings b Completion
-accepted-strings b Completion = idle-strings (setFlags b false (b .enable)) _ tt
-accepted-strings b Change = idle-strings (setFlags b false false) _ tt
+accepted-strings b Completion = idle-strings (withFlags b false (b .enable)) _ tt
+accepted-strings b Change = idle-strings (withFlags b false false) _ tt
 
 -- the same string goes again
-said-no-strings : (b : Body) (s : Send) → UpToDate (b .outcome .counted) (b .secondary) (s .bytes) → StringsUpToDate (saidNo b s)
-unfolding saidNo HeldUpToDate SentUpToDate
+said-no-strings : (b : Body) (s : Send) → UpToDate (b .outcome .counted) (b .secondary) (s .bytes) → StringsUpToDate (noToSend b s)
+unfolding noToSend HeldUpToDate SentUpToDate
 said-no-strings b s held =
-    pick-by StringsUpToDate (eqb (s .noes) 4) (λ fifth. given-up-strings b (s .kind)) (λ again. record { holds = held; says = held })
+    pick-by StringsUpToDate (eqb (s .noes) mostNoes) (λ fifth. given-up-strings b (s .kind)) (λ again. record { holds = held; says = held })
 
-pub send-strings : (b : Body) (byte : ℕ) (s : Send) → UpToDate (b .outcome .counted) (b .secondary) (s .bytes) → StringsUpToDate (sendAnswered b byte s)
-unfolding sendAnswered
-send-strings b byte s held = pick-by StringsUpToDate (eqb byte 0x06) (λ yes. accepted-strings b (s .kind)) (λ no. said-no-strings b s held)
+pub send-strings : (b : Body) (byte : ℕ) (s : Send) → UpToDate (b .outcome .counted) (b .secondary) (s .bytes) → StringsUpToDate (answerToSend b byte s)
+unfolding answerToSend
+send-strings b byte s held = pick-by StringsUpToDate (eqb byte ack) (λ yes. accepted-strings b (s .kind)) (λ no. said-no-strings b s held)
 
-first-byte-strings : (b : Body) (byte : ℕ) → StringsUpToDate (firstByte b byte)
+first-byte-strings : (b : Body) (s : Collected) (byte : ℕ) → StringsUpToDate (firstByte b s byte)
 unfolding firstByte HeldUpToDate SentUpToDate
-first-byte-strings b byte =
-    pick-by StringsUpToDate (eqb byte 0x62 || eqb byte 0x64) (λ lead. record { holds = tt; says = tt })
-    (λ none. pick-by StringsUpToDate (eqb byte 0x15) (λ nack. record { holds = tt; says = tt }) (λ other. idle-strings b _ tt))
+first-byte-strings b s byte =
+    pick-by StringsUpToDate (eqb byte loadLead || eqb byte storeLead) (λ lead. record { holds = tt; says = tt })
+    (λ none. pick-by StringsUpToDate (eqb byte nack) (λ ignored. record { holds = tt; says = tt }) (λ other. idle-strings b _ tt))
 
-last-byte-strings : (b : Body) → StringsUpToDate (lastByte b)
+last-byte-strings : (b : Body) (s : Collected) → StringsUpToDate (lastByte b s)
 unfolding lastByte HeldUpToDate SentUpToDate
-last-byte-strings b = pick-by StringsUpToDate (checks (b .collected)) (λ good. record { holds = tt; says = tt }) (λ bad. idle-strings b _ tt)
+last-byte-strings b s = pick-by StringsUpToDate (isGoodString s) (λ good. record { holds = tt; says = tt }) (λ bad. idle-strings b _ tt)
 
-next-byte-strings : (b : Body) (byte : ℕ) → StringsUpToDate (nextByte b byte)
+next-byte-strings : (b : Body) (s : Collected) (byte : ℕ) → StringsUpToDate (nextByte b s byte)
 unfolding nextByte HeldUpToDate SentUpToDate
-next-byte-strings b byte =
-    pick-by StringsUpToDate (eqb (b .collected .length + 1) (wholeLength (b .collected .c0)))
-    (λ whole. last-byte-strings (setCollected b (appended (b .collected) byte))) (λ part. record { holds = tt; says = tt })
+next-byte-strings b s byte =
+    pick-by StringsUpToDate (eqb (s .length + 1) (wholeLength (s .c0))) (λ whole. last-byte-strings b (appendByte s byte))
+    (λ part. record { holds = tt; says = tt })
 
-pub byte-strings : (b : Body) (byte : ℕ) → StringsUpToDate (collectedByte b byte)
-unfolding collectedByte
-byte-strings b byte = pick-by StringsUpToDate (eqb (b .collected .length) 0) (λ first. first-byte-strings b byte) (λ further. next-byte-strings b byte)
+pub byte-strings : (b : Body) (s : Collected) (byte : ℕ) → StringsUpToDate (collectByte b s byte)
+unfolding collectByte
+byte-strings b s byte = pick-by StringsUpToDate (eqb (s .length) 0) (λ first. first-byte-strings b s byte) (λ further. next-byte-strings b s byte)
 
-pub tick-strings : (b : Body) → StringsUpToDate (idleTick b)
-unfolding idleTick tickWith HeldUpToDate SentUpToDate
-tick-strings b =
+pub tick-strings : (b : Body) (s : Collected) → StringsUpToDate (idleTick b s)
+unfolding idleTick tickAfterReview HeldUpToDate SentUpToDate
+tick-strings b s =
     pick-by StringsUpToDate (review b .changed && review b .enable) (λ due. primary-strings (review b) Change) (λ none. record { holds = tt; says = tt })
 
-pub loaded-strings : (b : Body) (address : ℕ) → StringsUpToDate (loaded b address)
-unfolding loaded SentUpToDate
+pub loaded-strings : (b : Body) (address : ℕ) → StringsUpToDate (carryOutLoad b address)
+unfolding carryOutLoad SentUpToDate
 loaded-strings b address =
     pick-by StringsUpToDate (eqb (address / 16 % 8) 6) (λ six. idle-strings b _ tt)
     (λ below. pick-by StringsUpToDate (eqb (address / 16 % 8) 7) (λ seven. idle-strings b _ tt) (λ other. load-strings b (loadWord b (address / 16 % 8))))

@@ -13,7 +13,7 @@ use lib.ListN.{length, getD, drop, length-drop, drop-of-length-le}
 use lib.Seq.{drop-cons}
 use Rattle.common.specs.Pick.{pick}
 use Rattle.marks.specs.Marks.{isError}
-use Rattle.marks.specs.Scan.{scanFrom, scanOf}
+use Rattle.marks.specs.Scan.{scanFrom, scanMarks}
 use Rattle.marks.proofs.scan_marks.Statement.{statement}
 use Rattle.marks.proofs.scan_marks.Tie as tie
 
@@ -51,13 +51,13 @@ module _ (marks : List ℕ) (at odd even : ℕ) (below : at < length marks) wher
       scan-even-second one = rw (drop-cons marks at 0, ne-eqb _ _ bad, after, ne-eqb _ _ parity, lt-ltb _ _ one)
 
 abbrev Inv-loop : tie.InvT-loop
-Inv-loop marks end odd₀ even₀ at₀ odd even at = (at ≤ length marks) × (scanFrom (drop at marks) at (length marks) odd even ≡ scanOf marks)
+Inv-loop marks end odd₀ even₀ at₀ odd even at = (at ≤ length marks) × (scanFrom (drop at marks) at (length marks) odd even ≡ scanMarks marks)
 
 abbrev μ-loop : tie.MeasureT-loop
 μ-loop marks end odd₀ even₀ at₀ odd even at = length marks - at
 
 loop-holds : tie.Need-loop-holds Inv-loop μ-loop
-unfolding scanOf
+unfolding scanMarks
 loop-holds c = (omega arith, refl)
 
 sub-left : tie.Need-sub-left Inv-loop μ-loop

@@ -23,9 +23,12 @@ slice-reshare-prefix-write-last c = search needs
 
 slice-aggregate-write-last : tie.Need-slice-aggregate-write-last
 slice-aggregate-write-last c =
-    let a = c .before .before .before .answer-next in
-    let within : a .result .count ≤ length (a .last .1 .1 .1 .1 .1 .1 .0) = omega (arith, a .ensures, a .kept .1 .1 .1 .1 .1 .1 .0, c .before .before .before .before .before .before .before .before .before .before .before .before .before .before .before .pre) in
-    sym (length-take-le (a .result .count) (a .last .1 .1 .1 .1 .1 .1 .0) within)
+    let n = c .before .before .before in
+    let e = n .before .before .before .before .before .before .before .before .before .before .before .before in
+    let a = n .answer-next in
+    let out = a .last .1 .1 .1 .1 .1 .1 .0 in
+    let within : a .result .count ≤ length out = omega (arith, a .ensures, a .kept .1 .1 .1 .1 .1 .1 .0, e .pre) in
+    sym (length-take-le (a .result .count) out within)
 
 write-last-requires : tie.Need-write-last-requires
 write-last-requires c κs = search needs

@@ -31,43 +31,52 @@ slice-reshare-prefix-write-all c = search needs
 
 slice-aggregate-write-all : tie.Need-slice-aggregate-write-all
 slice-aggregate-write-all c =
-    let r = c .before .before .before .before .answer-lines in
-    let within : r .result .work .count ≤ length (r .last .1 .1 .1 .1 .1 .1 .1 .1 .0) = omega (arith, r .ensures, r .kept .1 .1 .1 .1 .1 .1 .1 .1 .0, c .before .before .before .before .before .before .before .before .before .before .before .before .before .pre) in
-    sym (length-take-le (r .result .work .count) (r .last .1 .1 .1 .1 .1 .1 .1 .1 .0) within)
+    let n = c .before .before .before .before in
+    let e = n .before .before .before .before .before .before .before .before .before in
+    let r = n .answer-lines in
+    let out = r .last .1 .1 .1 .1 .1 .1 .1 .1 .0 in
+    let within : r .result .work .count ≤ length out = omega (arith, r .ensures, r .kept .1 .1 .1 .1 .1 .1 .1 .1 .0, e .pre) in
+    sym (length-take-le (r .result .work .count) out within)
 
 write-all-requires : tie.Need-write-all-requires
 write-all-requires c κs = search needs
 
 move-to-start-requires : tie.Need-move-to-start-requires
 move-to-start-requires c κs =
-    let e = c .before .before .before .before .before .before .before .before .before .before .before .before .before .before .before in
-    omega (arith, in-hand e, c .before .before .before .before .before .before .answer-lines .ensures, e .pre)
+    let n = c .before .before .before .before .before .before in
+    let e = n .before .before .before .before .before .before .before .before .before in
+    omega (arith, in-hand e, n .answer-lines .ensures, e .pre)
 
-sub-held-line : tie.Need-sub-held-line
-sub-held-line c =
-    let e = c .before .before .before .before .before .before .before .before .before .before .before .before .before .before .before .before .before .before .before .before in
-    omega (arith, in-hand e, c .before .before .before .before .before .before .before .before .before .before .before .answer-lines .ensures, e .pre)
+sub-hold-line : tie.Need-sub-hold-line
+sub-hold-line c =
+    let n = c .before .before .before .before .before .before .before .before .before .before .before in
+    let e = n .before .before .before .before .before .before .before .before .before in
+    omega (arith, in-hand e, n .answer-lines .ensures, e .pre)
 
-held-line-requires : tie.Need-held-line-requires
-held-line-requires c κs = search needs
+hold-line-requires : tie.Need-hold-line-requires
+hold-line-requires c κs = search needs
 
 same-length : tie.Need-same-length
 same-length c = search needs
 
 same-length-2 : tie.Need-same-length-2
-same-length-2 c = c .before .before .before .before .before .before .before .before .before .before .before .before .answer-lines .kept .1 .1 .1 .1 .1 .1 .1 .1 .0
+same-length-2 c =
+    let n = c .before .before .before .before .before .before .before .before .before .before .before .before in
+    n .answer-lines .kept .1 .1 .1 .1 .1 .1 .1 .1 .0
 
 returns : tie.Need-returns
 returns c = search needs
 
-unwritten-requires : tie.Need-unwritten-requires
-unwritten-requires c κs = search needs
+give-up-writing-requires : tie.Need-give-up-writing-requires
+give-up-writing-requires c κs = search needs
 
 same-length-3 : tie.Need-same-length-3
 same-length-3 c = search needs
 
 same-length-4 : tie.Need-same-length-4
-same-length-4 c = c .before .before .before .before .before .before .before .before .before .before .before .before .answer-lines .kept .1 .1 .1 .1 .1 .1 .1 .1 .0
+same-length-4 c =
+    let n = c .before .before .before .before .before .before .before .before .before .before .before .before in
+    n .answer-lines .kept .1 .1 .1 .1 .1 .1 .1 .1 .0
 
 returns-2 : tie.Need-returns-2
 returns-2 c = search needs
@@ -83,12 +92,12 @@ answer-read-spec =
     slice-aggregate-write-all
     write-all-requires
     move-to-start-requires
-    sub-held-line
-    held-line-requires
+    sub-hold-line
+    hold-line-requires
     same-length
     same-length-2
     returns
-    unwritten-requires
+    give-up-writing-requires
     same-length-3
     same-length-4
     returns-2)

@@ -2,11 +2,12 @@
 -- Assumes nothing.
 use borrow.Author.Needs.{needs}
 use Prim.Native.Nat.{_<_}
+use Rattle.session.specs.Buffers.{inputSize}
 use Rattle.session.proofs.main.Statement.{statement}
 use Rattle.session.proofs.main.Tie as tie
 
 abbrev Inv-loop : tie.InvT-loop
-Inv-loop input₀ bytes₀ marks₀ space₀ check₀ out₀ session₀ reads₀ input bytes marks space check out session reads = session .held < 65536
+Inv-loop input₀ bytes₀ marks₀ space₀ check₀ out₀ session₀ reads₀ input bytes marks space check out session reads = session .held < inputSize
 
 abbrev μ-loop : tie.MeasureT-loop
 μ-loop input₀ bytes₀ marks₀ space₀ check₀ out₀ session₀ reads₀ input bytes marks space check out session reads = reads

@@ -2,7 +2,7 @@
 -- Assumes nothing.
 use borrow.Author.Needs.{needs}
 use Rattle.common.specs.Pick.{pick}
-use Rattle.controller.specs.Records.{ending}
+use Rattle.controller.specs.Stores.{endOperation}
 use Rattle.controller.proofs.stores.end_operation.Statement.{statement}
 use Rattle.controller.proofs.stores.end_operation.Tie as tie
 
@@ -13,7 +13,7 @@ offers-end-requires : tie.Need-offers-end-requires
 offers-end-requires c κs = search needs
 
 returns : tie.Need-returns
-unfolding ending pick
+unfolding endOperation pick
 returns c = simp (
   c .if1 .taken,
   ← c .before .offers-end .ensures,
@@ -24,7 +24,7 @@ complete-requires : tie.Need-complete-requires
 complete-requires c κs = search needs
 
 returns-2 : tie.Need-returns-2
-unfolding ending pick
+unfolding endOperation pick
 returns-2 c = simp (
   c .complete .ensures,
   c .before .if1 .left,

@@ -5,8 +5,8 @@ use Rattle.controller.specs.Stores.{motionOrder}
 use Rattle.controller.proofs.stores.motion_order.Statement.{statement}
 use Rattle.controller.proofs.stores.motion_order.Tie as tie
 
-current-drive-requires : tie.Need-current-drive-requires
-current-drive-requires c κs = search needs
+drive-of-requires : tie.Need-drive-of-requires
+drive-of-requires c κs = search needs
 
 order-byte-requires : tie.Need-order-byte-requires
 order-byte-requires c κs = search needs
@@ -19,9 +19,9 @@ unfolding motionOrder
 returns c = simp (
   c .order-of .ensures,
   c .before .order-byte .ensures,
-  c .before .before .current-drive .ensures,
+  c .before .before .drive-of .ensures,
 )
 
 pub motion-order-spec : {M : Type 1} → statement M
 motion-order-spec =
-    tie.close (tie.spec current-drive-requires order-byte-requires order-of-requires returns)
+    tie.close (tie.spec drive-of-requires order-byte-requires order-of-requires returns)

@@ -6,16 +6,17 @@ use mathlib.Core.Path.{_≡_, refl, _∙_}
 use Prim.Native.Nat.{ℕ, _≤_, _<_, _-_, min}
 use native.Mathlib.Omega.{arith}
 use lib.ListN.{length, drop, drop-of-length-le}
+use Rattle.lines.specs.Limits.{fieldCap}
 use Rattle.lines.specs.Digits.{decimalFrom, decimalOf}
 use Rattle.lines.proofs.DigitLaws.{decimal-next}
 use Rattle.lines.proofs.digits.capped_decimal.Statement.{statement}
 use Rattle.lines.proofs.digits.capped_decimal.Tie as tie
 
-uncut : (value : ℕ) → value ≤ 65535 → value ≡ min value 65535
+uncut : (value : ℕ) → value ≤ fieldCap → value ≡ min value fieldCap
 uncut value h = omega arith
 
 abbrev Inv-loop : tie.InvT-loop
-Inv-loop s end value₀ at₀ value at = (at ≤ length s) × (value ≤ 65535) × (min (decimalFrom value (drop at s)) 65535 ≡ min (decimalOf s) 65535)
+Inv-loop s end value₀ at₀ value at = (at ≤ length s) × (value ≤ fieldCap) × (min (decimalFrom value (drop at s)) fieldCap ≡ min (decimalOf s) fieldCap)
 
 abbrev μ-loop : tie.MeasureT-loop
 μ-loop s end value₀ at₀ value at = length s - at
@@ -52,8 +53,11 @@ loop-again : tie.Need-loop-again Inv-loop μ-loop
 loop-again c =
     let l = c .before .before .before .before .loop in
     let s = c .before .before .before .before .before .before .args .s .now in
-    let below : l .at < length s = omega arith in
-    (omega arith, omega (arith, c .least .ensures), rw (c .least .ensures, c .before .digit-value .ensures .0) (decimal-next s (l .at) (l .value) below) ∙ l .inv .2)
+    let below : l .at < length s = omega arith in (
+      omega arith,
+      omega (arith, c .least .ensures),
+      rw (c .least .ensures, c .before .digit-value .ensures .0) (decimal-next s (l .at) (l .value) below) ∙ l .inv .2,
+    )
 
 returns : tie.Need-returns Inv-loop μ-loop
 unfolding decimalFrom

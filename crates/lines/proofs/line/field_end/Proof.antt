@@ -3,15 +3,20 @@
 
 use borrow.Author.Needs.{needs}
 use borrow.Author.Tests.{eq-eqb, ne-eqb}
-use mathlib.Core.Path.{_≡_, refl, _∙_}
-use mathlib.Core.List.{_++_}
-use Prim.Native.Nat.{_≤_, _<_, _-_}
+use mathlib.Core.Path.{_≡_, refl, sym, ap, _∙_}
+use mathlib.Core.List.{List, _++_}
+use Prim.Native.Nat.{ℕ, _≤_, _<_, _-_}
 use native.Mathlib.Omega.{arith}
 use lib.ListN.{length, take, drop}
-use Rattle.lines.specs.Line.{fieldOf}
+use lib.Seq.{length-take-le}
+use Rattle.lines.specs.Line.{fieldOf, fieldEnd}
 use Rattle.lines.proofs.FieldLaws.{field-stop, field-pass, field-all}
 use Rattle.lines.proofs.line.field_end.Statement.{statement}
 use Rattle.lines.proofs.line.field_end.Tie as tie
+
+-- what stands before the place is the field, so that the place is its end
+place : (s : List ℕ) (at : ℕ) → at ≤ length s → take at s ≡ fieldOf s → at ≡ fieldEnd s
+place s at inside e = sym (length-take-le at s inside) ∙ ap length e
 
 abbrev Inv-loop : tie.InvT-loop
 Inv-loop s end at₀ at = (at ≤ length s) × (take at s ++ fieldOf (drop at s) ≡ fieldOf s)
@@ -30,7 +35,7 @@ returns c =
     let l = c .before .before .before .loop in
     let s = c .before .before .before .before .args .s .now in
     let below : l .at < length s = omega arith in
-    (field-stop s (l .at) below (eq-eqb _ _ (c .if1 .taken)) ∙ l .inv .1, l .inv .0)
+    place s (l .at) (l .inv .0) (field-stop s (l .at) below (eq-eqb _ _ (c .if1 .taken)) ∙ l .inv .1)
 
 add-at : tie.Need-add-at Inv-loop μ-loop
 add-at c = search needs
@@ -50,7 +55,7 @@ returns-2 c =
     let l = c .before .loop in
     let s = c .before .before .args .s .now in
     let all : l .at ≡ length s = omega arith in
-    (field-all s (l .at) all (l .inv .1), omega arith)
+    place s (length s) (omega arith) (field-all s (l .at) all (l .inv .1))
 
 pub field-end-spec : {M : Type 1} → statement M
 field-end-spec =

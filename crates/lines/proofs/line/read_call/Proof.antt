@@ -38,7 +38,13 @@ returns-4 c = rw (c .before .before .before .match .keys4) (c .read-result .ensu
 
 returns-5 : tie.Need-returns-5
 unfolding callLine lineRead pick
-returns-5 c = simp (ne-eqb _ _ (c .match .rest .0 .0 .0 .1), ne-eqb _ _ (c .match .rest .0 .0 .1), ne-eqb _ _ (c .match .rest .0 .1), ne-eqb _ _ (c .match .rest .1))
+returns-5 c =
+    simp (
+      ne-eqb _ _ (c .match .rest .0 .0 .0 .1),
+      ne-eqb _ _ (c .match .rest .0 .0 .1),
+      ne-eqb _ _ (c .match .rest .0 .1),
+      ne-eqb _ _ (c .match .rest .1),
+    )
 
 pub read-call-spec : {M : Type 1} → statement M
 read-call-spec =

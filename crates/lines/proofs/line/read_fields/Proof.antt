@@ -4,8 +4,9 @@ use mathlib.Core.Path.{_≡_, sym, _∙_}
 use mathlib.Core.Bool.{true}
 use native.Mathlib.Omega.{arith}
 use Rattle.common.specs.Pick.{pick}
+use Rattle.lines.specs.Limits.{hostLimit, imageLimit, marksLimit, byteLimit, flagLimit}
 use Rattle.lines.specs.Digits.{isByte, isBytes, isDecimal}
-use Rattle.lines.specs.Line.{resultFields, lineRead}
+use Rattle.lines.specs.Line.{fieldsLine, callRead, lineRead}
 use Rattle.lines.proofs.DigitLaws.{and-six, is-bytes-length, bytes-given}
 use borrow.Author.Needs.{needs}
 use Rattle.lines.proofs.line.read_fields.Statement.{statement}
@@ -13,20 +14,29 @@ use Rattle.lines.proofs.line.read_fields.Tie as tie
 
 -- each field is as its test says
 readable : (i : tie.Then1)
-    → (isByte (i .before .before .before .before .before .before .before .before .before .before .before .before .before .args .code .now) ≡ true)
-    × (isDecimal 1 (i .before .before .before .before .before .before .before .before .before .before .before .before .before .args .mark .now) ≡ true)
-    × (isDecimal 255 (i .before .before .before .before .before .before .before .before .before .before .before .before .before .args .late .now) ≡ true)
-    × (isBytes 16898 (i .before .before .before .before .before .before .before .before .before .before .before .before .before .args .image .now) ≡ true)
-    × (isBytes 66 (i .before .before .before .before .before .before .before .before .before .before .before .before .before .args .errors .now) ≡ true)
-    × (isDecimal 16384 (i .before .before .before .before .before .before .before .before .before .before .before .before .before .args .space .now) ≡ true)
+    → let a = i .before .before .before .before .before .before .before .before .before .before .before .before .before .args in
+    (isByte (a .code .now) ≡ true)
+    × (isDecimal flagLimit (a .mark .now) ≡ true)
+    × (isDecimal byteLimit (a .late .now) ≡ true)
+    × (isBytes imageLimit (a .image .now) ≡ true)
+    × (isBytes marksLimit (a .errors .now) ≡ true)
+    × (isDecimal hostLimit (a .space .now) ≡ true)
 readable i =
-    let h = and-six (i .before .before .before .before .before .before .is-byte .result) (i .before .before .before .before .before .is-decimal .result) (i .before .before .before .before .is-decimal2 .result) (i .before .before .before .is-bytes .result) (i .before .before .is-bytes2 .result) (i .before .is-decimal3 .result) (i .if1 .taken) in (
-      sym (i .before .before .before .before .before .before .is-byte .ensures) ∙ h .0,
-      sym (i .before .before .before .before .before .is-decimal .ensures) ∙ h .1,
-      sym (i .before .before .before .before .is-decimal2 .ensures) ∙ h .2,
-      sym (i .before .before .before .is-bytes .ensures) ∙ h .3,
-      sym (i .before .before .is-bytes2 .ensures) ∙ h .4,
-      sym (i .before .is-decimal3 .ensures) ∙ h .5,
+    let space = i .before in
+    let errors = space .before in
+    let image = errors .before in
+    let late = image .before in
+    let mark = late .before in
+    let code = mark .before in
+    let h = and-six (code .is-byte .result) (mark .is-decimal .result) (late .is-decimal2 .result)
+    (image .is-bytes .result) (errors .is-bytes2 .result) (space .is-decimal3 .result) (i .if1 .taken)
+    in (
+      sym (code .is-byte .ensures) ∙ h .0,
+      sym (mark .is-decimal .ensures) ∙ h .1,
+      sym (late .is-decimal2 .ensures) ∙ h .2,
+      sym (image .is-bytes .ensures) ∙ h .3,
+      sym (errors .is-bytes2 .ensures) ∙ h .4,
+      sym (space .is-decimal3 .ensures) ∙ h .5,
     )
 
 is-byte-requires : tie.Need-is-byte-requires
@@ -47,11 +57,17 @@ is-bytes-requires-2 c κs = search needs
 is-decimal-requires-3 : tie.Need-is-decimal-requires-3
 is-decimal-requires-3 c κs = search needs
 
-put-bytes-requires : tie.Need-put-bytes-requires
-put-bytes-requires c κs = omega (arith, is-bytes-length 16898 (c .before .before .before .before .before .before .before .before .before .before .before .before .before .before .args .image .now) (readable (c .before) .3))
+put-bytes-of-requires : tie.Need-put-bytes-of-requires
+put-bytes-of-requires c κs =
+    let i = c .before in
+    let a = i .before .before .before .before .before .before .before .before .before .before .before .before .before .args in
+    omega (arith, is-bytes-length imageLimit (a .image .now) (readable i .3))
 
-put-bytes-requires-2 : tie.Need-put-bytes-requires-2
-put-bytes-requires-2 c κs = omega (arith, is-bytes-length 66 (c .before .before .before .before .before .before .before .before .before .before .before .before .before .before .before .before .args .errors .now) (readable (c .before .before .before) .4))
+put-bytes-of-requires-2 : tie.Need-put-bytes-of-requires-2
+put-bytes-of-requires-2 c κs =
+    let i = c .before .before .before in
+    let a = i .before .before .before .before .before .before .before .before .before .before .before .before .before .args in
+    omega (arith, is-bytes-length marksLimit (a .errors .now) (readable i .4))
 
 decimal-of-requires : tie.Need-decimal-of-requires
 decimal-of-requires c κs = (omega arith, readable (c .before .before .before .before) .1)
@@ -69,17 +85,18 @@ byte-of-requires : tie.Need-byte-of-requires
 byte-of-requires c κs = readable (c .before .before .before .before .before .before .before) .0
 
 returns : tie.Need-returns
-unfolding resultFields lineRead pick
+unfolding fieldsLine lineRead callRead pick
 returns c =
-    let a = c .before .before .before .before .before .before .before .before .before .before .before .before .before .before .before .before .before .before .before .before .before .args in
-    let h = readable (c .before .before .before .before .before .before .before .before) in
+    let i = c .before .before .before .before .before .before .before .before in
+    let a = i .before .before .before .before .before .before .before .before .before .before .before .before .before .args in
+    let h = readable i in
     simp (
       c .byte-of .ensures,
       c .before .decimal-of3 .ensures .0,
       c .before .before .decimal-of2 .ensures .0,
       c .before .before .before .decimal-of .ensures .0,
-      c .before .before .before .before .put-bytes2 .ensures,
-      c .before .before .before .before .before .before .put-bytes .ensures,
+      c .before .before .before .before .put-bytes-of2 .ensures,
+      c .before .before .before .before .before .before .put-bytes-of .ensures,
       bytes-given (a .image .now) (a .bytes .now),
       bytes-given (a .errors .now) (a .marks .now),
       h .0,
@@ -91,7 +108,7 @@ returns c =
     )
 
 returns-2 : tie.Need-returns-2
-unfolding resultFields lineRead pick
+unfolding fieldsLine lineRead callRead pick
 returns-2 c = simp (
   ← c .before .before .before .before .before .before .is-byte .ensures,
   ← c .before .before .before .before .before .is-decimal .ensures,
@@ -112,8 +129,8 @@ read-fields-spec =
     is-bytes-requires
     is-bytes-requires-2
     is-decimal-requires-3
-    put-bytes-requires
-    put-bytes-requires-2
+    put-bytes-of-requires
+    put-bytes-of-requires-2
     decimal-of-requires
     decimal-of-requires-2
     cast-flags

@@ -48,9 +48,10 @@ read-call-requires c κs = search needs
 returns-3 : tie.Need-returns-3
 unfolding lineOf pick
 returns-3 c =
-    let line = c .before .before .before .before .before .before .before .before .before .args .line .now in
+    let second = c .before .before .before .before .before in
+    let line = second .before .before .before .before .args .line .now in
     let all : take (length line - 2) (drop 2 line) ≡ drop 2 line = take-all (length line - 2) (drop 2 line) (simp length-drop (omega arith)) in
-    simp (le-ltb _ _ (c .before .before .before .before .before .before .before .if1 .left), eq-eqb _ _ (c .before .before .before .before .before .if3 .taken)) (c .read-call .ensures ∙ ap (callLine _) all)
+    simp (le-ltb _ _ (second .before .before .if1 .left), eq-eqb _ _ (second .if3 .taken)) (c .read-call .ensures ∙ ap (callLine _) all)
 
 returns-4 : tie.Need-returns-4
 unfolding lineOf lineRead pick

@@ -3,18 +3,18 @@
 use mathlib.Core.Path.{_≡_, sym, _∙_}
 use native.Mathlib.Omega.{arith}
 use Rattle.common.specs.Pick.{pick}
-use Rattle.lines.specs.Line.{fieldOf, afterField, reportLine, lineRead}
+use Rattle.lines.specs.Line.{fieldOf, afterField, reportLine, plainLine, callRead, lineRead}
 use Rattle.common.proofs.PickLaws.{both-hold}
 use Rattle.lines.proofs.FieldLaws.{field-fits, after-is}
 use borrow.Author.Needs.{needs}
 use Rattle.lines.proofs.line.read_report.Statement.{statement}
 use Rattle.lines.proofs.line.read_report.Tie as tie
 
-field-requires : tie.Need-field-requires
-field-requires c κs = search needs
+field-of-requires : tie.Need-field-of-requires
+field-of-requires c κs = search needs
 
 after-requires : tie.Need-after-requires
-after-requires c κs = field-fits _ (c .field .ensures)
+after-requires c κs = field-fits _ (c .field-of .ensures)
 
 is-decimal-requires : tie.Need-is-decimal-requires
 is-decimal-requires c κs = search needs
@@ -32,11 +32,13 @@ byte-of-requires : tie.Need-byte-of-requires
 byte-of-requires c κs = sym (c .before .before .is-byte .ensures) ∙ both-hold (c .before .before .before .is-decimal .result) _ (c .before .if1 .taken) .1
 
 returns : tie.Need-returns
-unfolding reportLine lineRead pick
+unfolding reportLine lineRead callRead plainLine pick
 returns c bytes marks =
+    let r = c .before .before .before .before .before .after in
+    let f = c .before .before .before .before .before .before .field-of in
     let s = c .before .before .before .before .before .before .before .before .args .s .now in
-    let drive : c .before .before .before .before .before .before .field .result .now ≡ fieldOf s = c .before .before .before .before .before .before .field .ensures in
-    let rest : c .before .before .before .before .before .after .result .now ≡ afterField s = after-is s (c .before .before .before .before .before .before .field .result .now) drive (c .before .before .before .before .before .after .ensures) in
+    let drive : f .result .now ≡ fieldOf s = f .ensures in
+    let rest : r .result .now ≡ afterField s = after-is s (f .result .now) drive (r .ensures) in
     simp (
       c .byte-of .ensures,
       c .before .decimal-of .ensures .0,
@@ -48,18 +50,20 @@ returns c bytes marks =
     )
 
 returns-2 : tie.Need-returns-2
-unfolding reportLine lineRead pick
+unfolding reportLine lineRead callRead plainLine pick
 returns-2 c bytes marks =
+    let r = c .before .before .before .after in
+    let f = c .before .before .before .before .field-of in
     let s = c .before .before .before .before .before .before .args .s .now in
-    let drive : c .before .before .before .before .field .result .now ≡ fieldOf s = c .before .before .before .before .field .ensures in
-    let rest : c .before .before .before .after .result .now ≡ afterField s = after-is s (c .before .before .before .before .field .result .now) drive (c .before .before .before .after .ensures) in
+    let drive : f .result .now ≡ fieldOf s = f .ensures in
+    let rest : r .result .now ≡ afterField s = after-is s (f .result .now) drive (r .ensures) in
     simp (← drive, ← rest, ← c .before .before .is-decimal .ensures, ← c .before .is-byte .ensures, c .if1 .left)
 
 pub read-report-spec : {M : Type 1} → statement M
 read-report-spec =
     tie.close
     (tie.spec
-    field-requires
+    field-of-requires
     after-requires
     is-decimal-requires
     is-byte-requires

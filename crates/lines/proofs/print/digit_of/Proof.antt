@@ -17,9 +17,12 @@ returns c = simp (lt-ltb _ _ (c .if1 .taken))
 add-result-2 : tie.Need-add-result-2
 add-result-2 c = search needs
 
+sub-result : tie.Need-sub-result
+sub-result c = search needs
+
 returns-2 : tie.Need-returns-2
 unfolding digitOf pick
 returns-2 c = simp (le-ltb _ _ (c .if1 .left))
 
 pub digit-of-spec : {M : Type 1} → statement M
-digit-of-spec = tie.close (tie.spec add-result returns add-result-2 returns-2)
+digit-of-spec = tie.close (tie.spec add-result returns add-result-2 sub-result returns-2)

@@ -2,7 +2,7 @@
 -- Assumes nothing.
 use mathlib.Core.Path.{_∙_}
 use native.Mathlib.Omega.{arith}
-use Rattle.lines.specs.Print.{refusalText, actionBytes, bytesText}
+use Rattle.lines.specs.Print.{refusalText, actionText, headText}
 use Rattle.lines.proofs.TextLaws.{head-text}
 use borrow.Author.Needs.{needs}
 use Rattle.lines.proofs.print.print_head.Statement.{statement}
@@ -33,17 +33,33 @@ same-length : tie.Need-same-length
 same-length c = search needs
 
 returns : tie.Need-returns
+unfolding headText
 returns c =
-    let a = c .before .before .before .before .before .before .before .before .before .before .before .before .before .before .before .before .before .before .before .before .before .before .before .before .before .before .args in (
-      omega (arith, c .before .before .put4 .ensures .0, c .before .before .before .before .before .before .put-action .ensures .0, c .before .before .before .before .before .before .before .before .before .before .put3 .ensures .0, c .before .before .before .before .before .before .before .before .before .before .before .before .before .before .put2 .ensures .0, c .before .before .before .before .before .before .before .before .before .before .before .before .before .before .before .before .before .before .before .put .ensures .0, c .before .before .before .before .before .before .before .before .before .before .before .before .before .before .before .before .before .before .before .before .before .before .before .put-refusal .ensures .0),
-      head-text (refusalText (a .refusal)) (bytesText (actionBytes (a .action))) (c .before .before .before .before .before .before .before .before .before .before .before .before .before .before .before .before .action-letter .result)
-          (c .before .before .before .before .before .before .before .before .before .before .before .before .before .before .before .before .before .before .before .before .before .before .before .put-refusal .ensures .1)
-          (c .before .before .before .before .before .before .before .before .before .before .before .before .before .before .before .before .before .before .before .put .ensures .1)
-          (c .before .before .before .before .before .before .before .before .before .before .before .before .before .before .put2 .ensures .1)
-          (c .before .before .before .before .before .before .before .before .before .before .put3 .ensures .1)
-          (c .before .before .before .before .before .before .put-action .ensures .1)
-          (c .before .before .put4 .ensures .1)
-          ∙ simp (c .before .before .before .before .before .before .before .before .before .before .before .before .before .before .before .before .action-letter .ensures),
+    let last = c .before .before in
+    let bytes = last .before .before .before .before in
+    let second = bytes .before .before .before .before in
+    let letter = second .before .before .before .before in
+    let sign = letter .before .before in
+    let first = sign .before .before .before in
+    let number = first .before .before .before .before in
+    let a = number .before .before .before .args in (
+      omega (
+        arith,
+        last .put4 .ensures .0,
+        bytes .put-action .ensures .0,
+        second .put3 .ensures .0,
+        letter .put2 .ensures .0,
+        first .put .ensures .0,
+        number .put-refusal .ensures .0,
+      ),
+      head-text (refusalText (a .refusal)) (actionText (a .action)) (sign .action-letter .result)
+          (number .put-refusal .ensures .1)
+          (first .put .ensures .1)
+          (letter .put2 .ensures .1)
+          (second .put3 .ensures .1)
+          (bytes .put-action .ensures .1)
+          (last .put4 .ensures .1)
+          ∙ simp (sign .action-letter .ensures),
     )
 
 pub print-head-spec : {M : Type 1} → statement M

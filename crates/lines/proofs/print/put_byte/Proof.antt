@@ -28,10 +28,16 @@ same-length c = search needs
 returns : tie.Need-returns
 unfolding byteText
 returns c =
-    let a = c .before .before .before .before .before .before .before .before .before .before .before .args in (
-      omega (arith, c .before .before .put2 .ensures .0, c .before .before .before .before .before .before .before .put .ensures .0),
-      after-text (take (a .at) (a .out .now)) (c .before .before .before .before .before .before .before .before .before .digit-of .result ∷ []) (c .before .before .before .before .digit-of2 .result ∷ []) (c .before .before .put2 .ensures .1) (c .before .before .before .before .before .before .before .put .ensures .1)
-          ∙ simp (c .before .before .before .before .digit-of2 .ensures, c .before .before .before .before .before .before .before .before .before .digit-of .ensures),
+    let last = c .before .before in
+    let low = last .before .before in
+    let first = low .before .before .before in
+    let high = first .before .before in
+    let a = high .before .before .args in (
+      omega (arith, last .put2 .ensures .0, first .put .ensures .0),
+      after-text (take (a .at) (a .out .now)) (high .digit-of .result ∷ []) (low .digit-of2 .result ∷ [])
+          (last .put2 .ensures .1)
+          (first .put .ensures .1)
+          ∙ simp (low .digit-of2 .ensures, high .digit-of .ensures),
     )
 
 pub put-byte-spec : {M : Type 1} → statement M

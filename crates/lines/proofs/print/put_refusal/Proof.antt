@@ -31,9 +31,16 @@ same-length c = search needs
 returns : tie.Need-returns
 unfolding refusalText pick
 returns c =
-    let n = c .before .before .before .before .before .before .before .args .number in (
-      omega (arith, c .before .before .put .ensures .0),
-      simp (c .before .before .put .ensures .1, lt-ltb _ _ (c .before .before .before .before .if1 .taken), c .before .before .before .before .before .digit-of .ensures, below-ten n (c .before .before .before .before .if1 .taken)),
+    let p = c .before .before in
+    let branch = p .before .before in
+    let n = branch .before .before .before .args .number in (
+      omega (arith, p .put .ensures .0),
+      simp (
+        p .put .ensures .1,
+        lt-ltb _ _ (branch .if1 .taken),
+        branch .before .digit-of .ensures,
+        below-ten n (branch .if1 .taken),
+      ),
     )
 
 cast-digit-of-2 : tie.Need-cast-digit-of-2
@@ -54,10 +61,17 @@ same-length-2 c = search needs
 returns-2 : tie.Need-returns-2
 unfolding refusalText pick
 returns-2 c =
-    let a = c .before .before .before .before .before .before .before .before .before .before .before .before .args in (
-      omega (arith, c .before .before .put3 .ensures .0, c .before .before .before .before .before .before .put2 .ensures .0),
-      after-text (take (a .at) (a .out .now)) (c .before .before .before .before .before .before .before .before .digit-of2 .result ∷ []) (c .before .before .before .before .before .before .before .before .before .before .digit-of .result ∷ []) (c .before .before .put3 .ensures .1) (c .before .before .before .before .before .before .put2 .ensures .1)
-          ∙ simp (le-ltb _ _ (c .before .before .before .before .before .before .before .before .before .if1 .left), c .before .before .before .before .before .before .before .before .before .before .digit-of .ensures, c .before .before .before .before .before .before .before .before .digit-of2 .ensures),
+    let last = c .before .before in
+    let first = last .before .before .before .before in
+    let tens = first .before .before in
+    let branch = tens .before in
+    let ones = branch .before in
+    let a = ones .before .before .args in (
+      omega (arith, last .put3 .ensures .0, first .put2 .ensures .0),
+      after-text (take (a .at) (a .out .now)) (tens .digit-of2 .result ∷ []) (ones .digit-of .result ∷ [])
+          (last .put3 .ensures .1)
+          (first .put2 .ensures .1)
+          ∙ simp (le-ltb _ _ (branch .if1 .left), ones .digit-of .ensures, tens .digit-of2 .ensures),
     )
 
 pub put-refusal-spec : {M : Type 1} → statement M

@@ -11,17 +11,13 @@ no-outcome-requires c κs = search needs
 zero-word-requires : tie.Need-zero-word-requires
 zero-word-requires c κs = search needs
 
-no-string-requires : tie.Need-no-string-requires
-no-string-requires c κs = search needs
-
 returns : tie.Need-returns
 unfolding startBody
 returns c = simp (
-  c .no-string .ensures,
-  c .before .zero-word .ensures,
-  c .before .before .no-outcome .ensures,
+  c .zero-word .ensures,
+  c .before .no-outcome .ensures,
 )
 
 pub start-body-spec : {M : Type 1} → statement M
 start-body-spec =
-    tie.close (tie.spec no-outcome-requires zero-word-requires no-string-requires returns)
+    tie.close (tie.spec no-outcome-requires zero-word-requires returns)

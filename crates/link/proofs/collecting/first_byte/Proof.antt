@@ -6,11 +6,11 @@ use Rattle.link.specs.Link.{firstByte}
 use Rattle.link.proofs.collecting.first_byte.Statement.{statement}
 use Rattle.link.proofs.collecting.first_byte.Tie as tie
 
-no-string-requires : tie.Need-no-string-requires
-no-string-requires c κs = search needs
+nothing-collected-requires : tie.Need-nothing-collected-requires
+nothing-collected-requires c κs = search needs
 
-append-requires : tie.Need-append-requires
-append-requires c κs = rw (c .no-string .ensures) (search needs)
+append-byte-requires : tie.Need-append-byte-requires
+append-byte-requires c κs = rw (c .nothing-collected .ensures) (search needs)
 
 keep-collecting-requires : tie.Need-keep-collecting-requires
 keep-collecting-requires c κs = search needs
@@ -19,8 +19,8 @@ returns : tie.Need-returns
 unfolding firstByte pick
 returns c = simp (
   c .keep-collecting .ensures,
-  c .before .append .ensures,
-  c .before .before .no-string .ensures,
+  c .before .append-byte .ensures,
+  c .before .before .nothing-collected .ensures,
   c .before .before .before .if1 .taken,
 )
 
@@ -35,13 +35,13 @@ returns-2 c = simp (
   c .before .before .if1 .left,
 )
 
-go-idle-requires : tie.Need-go-idle-requires
-go-idle-requires c κs = search needs
+idle-requires : tie.Need-idle-requires
+idle-requires c κs = search needs
 
 returns-3 : tie.Need-returns-3
 unfolding firstByte pick
 returns-3 c = simp (
-  c .go-idle .ensures,
+  c .idle .ensures,
   c .before .if2 .left,
   c .before .before .if1 .left,
 )
@@ -50,11 +50,11 @@ pub first-byte-spec : {M : Type 1} → statement M
 first-byte-spec =
     tie.close
     (tie.spec
-    no-string-requires
-    append-requires
+    nothing-collected-requires
+    append-byte-requires
     keep-collecting-requires
     returns
     keep-collecting-requires-2
     returns-2
-    go-idle-requires
+    idle-requires
     returns-3)

@@ -5,18 +5,18 @@ use Rattle.link.specs.Link.{idleTick}
 use Rattle.link.proofs.collecting.idle_tick.Statement.{statement}
 use Rattle.link.proofs.collecting.idle_tick.Tie as tie
 
-review-drives-requires : tie.Need-review-drives-requires
-review-drives-requires c κs = search needs
+review-requires : tie.Need-review-requires
+review-requires c κs = search needs
 
-tick-with-requires : tie.Need-tick-with-requires
-tick-with-requires c κs = search needs
+tick-after-review-requires : tie.Need-tick-after-review-requires
+tick-after-review-requires c κs = search needs
 
 returns : tie.Need-returns
 unfolding idleTick
 returns c = simp (
-  c .tick-with .ensures,
-  c .before .review-drives .ensures,
+  c .tick-after-review .ensures,
+  c .before .review .ensures,
 )
 
 pub idle-tick-spec : {M : Type 1} → statement M
-idle-tick-spec = tie.close (tie.spec review-drives-requires tick-with-requires returns)
+idle-tick-spec = tie.close (tie.spec review-requires tick-after-review-requires returns)

@@ -6,26 +6,26 @@ use Rattle.link.specs.Link.{lastByte}
 use Rattle.link.proofs.collecting.last_byte.Statement.{statement}
 use Rattle.link.proofs.collecting.last_byte.Tie as tie
 
-string-checks-requires : tie.Need-string-checks-requires
-string-checks-requires c κs = search needs
+is-good-string-requires : tie.Need-is-good-string-requires
+is-good-string-requires c κs = search needs
 
 returns : tie.Need-returns
 unfolding lastByte pick
 returns c = simp (
   c .if1 .taken,
-  ← c .before .string-checks .ensures,
+  ← c .before .is-good-string .ensures,
 )
 
-go-idle-requires : tie.Need-go-idle-requires
-go-idle-requires c κs = search needs
+idle-requires : tie.Need-idle-requires
+idle-requires c κs = search needs
 
 returns-2 : tie.Need-returns-2
 unfolding lastByte pick
 returns-2 c = simp (
-  c .go-idle .ensures,
+  c .idle .ensures,
   c .before .if1 .left,
-  ← c .before .before .string-checks .ensures,
+  ← c .before .before .is-good-string .ensures,
 )
 
 pub last-byte-spec : {M : Type 1} → statement M
-last-byte-spec = tie.close (tie.spec string-checks-requires returns go-idle-requires returns-2)
+last-byte-spec = tie.close (tie.spec is-good-string-requires returns idle-requires returns-2)

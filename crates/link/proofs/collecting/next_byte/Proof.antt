@@ -12,8 +12,8 @@ whole-length-requires c κs = search needs
 add-last : tie.Need-add-last
 add-last c = search needs
 
-append-requires : tie.Need-append-requires
-append-requires c κs = search needs
+append-byte-requires : tie.Need-append-byte-requires
+append-byte-requires c κs = search needs
 
 last-byte-requires : tie.Need-last-byte-requires
 last-byte-requires c κs = search needs
@@ -23,7 +23,7 @@ unfolding nextByte pick
 returns c = simp (
   c .last-byte .ensures,
   c .before .if1 .taken,
-  c .before .before .append .ensures,
+  c .before .before .append-byte .ensures,
   ← c .before .before .before .before .whole-length .ensures,
 )
 
@@ -35,7 +35,7 @@ unfolding nextByte pick
 returns-2 c = simp (
   c .keep-collecting .ensures,
   c .before .if1 .left,
-  c .before .before .append .ensures,
+  c .before .before .append-byte .ensures,
   ← c .before .before .before .before .whole-length .ensures,
 )
 
@@ -45,7 +45,7 @@ next-byte-spec =
     (tie.spec
     whole-length-requires
     add-last
-    append-requires
+    append-byte-requires
     last-byte-requires
     returns
     keep-collecting-requires

@@ -5,18 +5,18 @@ use Rattle.link.specs.Completion.{primaryNow}
 use Rattle.link.proofs.completion.primary_now.Statement.{statement}
 use Rattle.link.proofs.completion.primary_now.Tie as tie
 
-current-drive-requires : tie.Need-current-drive-requires
-current-drive-requires c κs = search needs
+drive-of-requires : tie.Need-drive-of-requires
+drive-of-requires c κs = search needs
 
-primary-requires : tie.Need-primary-requires
-primary-requires c κs = search needs
+primary-of-requires : tie.Need-primary-of-requires
+primary-of-requires c κs = search needs
 
 returns : tie.Need-returns
 unfolding primaryNow
 returns c = simp (
-  c .primary .ensures,
-  c .before .before .current-drive .ensures,
+  c .primary-of .ensures,
+  c .before .before .drive-of .ensures,
 )
 
 pub primary-now-spec : {M : Type 1} → statement M
-primary-now-spec = tie.close (tie.spec current-drive-requires primary-requires returns)
+primary-now-spec = tie.close (tie.spec drive-of-requires primary-of-requires returns)

@@ -1,7 +1,7 @@
 -- `link::completion::send_word` meets its contract: the string of the word, with no noes.
 -- Assumes nothing.
 use borrow.Author.Needs.{needs}
-use Rattle.link.specs.Completion.{sent}
+use Rattle.link.specs.Completion.{sendWord}
 use Rattle.link.proofs.completion.send_word.Statement.{statement}
 use Rattle.link.proofs.completion.send_word.Tie as tie
 
@@ -9,7 +9,7 @@ string-of-requires : tie.Need-string-of-requires
 string-of-requires c κs = search needs
 
 returns : tie.Need-returns
-unfolding sent
+unfolding sendWord
 returns c = simp
     (c .string-of .ensures)
 

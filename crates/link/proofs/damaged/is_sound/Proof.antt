@@ -1,7 +1,7 @@
 -- `link::damaged::is_sound` meets its contract: it is its definition.
 -- Assumes nothing.
 use borrow.Author.Needs.{needs}
-use Rattle.link.specs.Damaged.{sound}
+use Rattle.link.specs.Damaged.{isSound}
 use Rattle.link.proofs.damaged.is_sound.Statement.{statement}
 use Rattle.link.proofs.damaged.is_sound.Tie as tie
 
@@ -12,7 +12,7 @@ sound-phase-requires : tie.Need-sound-phase-requires
 sound-phase-requires c κs = search needs
 
 returns : tie.Need-returns
-unfolding sound
+unfolding isSound
 returns c = simp (
   c .sound-phase .ensures,
   c .before .sound-body .ensures,

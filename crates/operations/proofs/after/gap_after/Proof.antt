@@ -7,16 +7,16 @@ use Rattle.operations.specs.After.{gapAfter}
 use Rattle.operations.proofs.after.gap_after.Statement.{statement}
 use Rattle.operations.proofs.after.gap_after.Tie as tie
 
-motion-requires : tie.Need-motion-requires
-motion-requires c κs = search needs
+motion-of-requires : tie.Need-motion-of-requires
+motion-of-requires c κs = search needs
 
 returns : tie.Need-returns
 unfolding gapAfter pick
-returns c = simp (← c .before .motion .ensures, c .if1 .taken)
+returns c = simp (← c .before .motion-of .ensures, c .if1 .taken)
 
 returns-2 : tie.Need-returns-2
 unfolding gapAfter pick
-returns-2 c = simp (← c .before .before .motion .ensures, c .if2 .taken)
+returns-2 c = simp (← c .before .before .motion-of .ensures, c .if2 .taken)
 
 gap-of-requires : tie.Need-gap-of-requires
 gap-of-requires c κs = search needs
@@ -26,10 +26,10 @@ unfolding gapAfter pick
 returns-3 c =
     simp (
       c .gap-of .ensures,
-      ← c .before .before .before .motion .ensures,
+      ← c .before .before .before .motion-of .ensures,
       ne-eqb _ _ (c .before .if2 .left),
       ne-eqb _ _ (c .before .before .if1 .left),
     )
 
 pub gap-after-spec : {M : Type 1} → statement M
-gap-after-spec = tie.close (tie.spec motion-requires returns returns-2 gap-of-requires returns-3)
+gap-after-spec = tie.close (tie.spec motion-of-requires returns returns-2 gap-of-requires returns-3)

@@ -12,7 +12,7 @@ use Rattle.common.proofs.GivenLaws.{filled-self}
 use Rattle.common.proofs.PickLaws.{not-refused, where-refused, where-done}
 use Rattle.records.specs.Count.{limit}
 use Rattle.records.specs.Image.{imageLength, imageOf}
-use Rattle.records.specs.Build.{buildRefusal, builtInto}
+use Rattle.records.specs.Build.{buildRefusal, buildInto}
 use Rattle.records.proofs.ImageLaws.{image-length}
 use Rattle.records.proofs.build.build.Statement.{statement}
 use Rattle.records.proofs.build.build.Tie as tie
@@ -37,7 +37,7 @@ build-refusal-requires : tie.Need-build-refusal-requires
 build-refusal-requires c κs = search needs
 
 returns : tie.Need-returns
-unfolding builtInto
+unfolding buildInto
 returns c =
     let r = c .before .build-refusal .ensures in
     (r, sym (where-refused _ _ _ (λ z. c .if1 .taken (r ∙ z))))
@@ -60,7 +60,7 @@ same-length : tie.Need-same-length
 same-length c = search needs
 
 returns-2 : tie.Need-returns-2
-unfolding builtInto given
+unfolding buildInto given
 returns-2 c =
     let p = c .before .before in
     let i = p .before .before in

@@ -16,14 +16,14 @@ use Rattle.records.proofs.build.put_blockettes.Tie as tie
 mul-data : tie.Need-mul-data
 mul-data c = search needs
 
-slice-relend-prefix-give-filled : tie.Need-slice-relend-prefix-give-filled
-slice-relend-prefix-give-filled c = search needs
+slice-relend-prefix-put-filled : tie.Need-slice-relend-prefix-put-filled
+slice-relend-prefix-put-filled c = search needs
 
-slice-aggregate-give-filled : tie.Need-slice-aggregate-give-filled
-slice-aggregate-give-filled c = simp length-take (omega arith)
+slice-aggregate-put-filled : tie.Need-slice-aggregate-put-filled
+slice-aggregate-put-filled c = simp length-take (omega arith)
 
-give-filled-requires : tie.Need-give-filled-requires
-give-filled-requires c κs = simp length-take (omega arith)
+put-filled-requires : tie.Need-put-filled-requires
+put-filled-requires c κs = simp length-take (omega arith)
 
 sub-put-checks : tie.Need-sub-put-checks
 sub-put-checks c = search needs
@@ -48,10 +48,10 @@ returns c =
     let e = g .before .before .before .before in
     let bytes = e .args .bytes .now in
     let n = e .args .n in
-    let front = g .give-filled .last .1 .0 in
+    let front = g .put-filled .last .1 .0 in
     let part : length (take (256 * n) (e .args .space .now)) ≡ 256 * n = simp length-take (omega arith) in
-    two-parts (e .args .space .now) front (k .put-checks .last .1 .1 .0) (256 * n) (g .give-filled .kept .1 .0 ∙ part)
-    ∙ ap₂ _++_ (g .give-filled .ensures ∙ ap (λ (m : ℕ). filled bytes m) part)
+    two-parts (e .args .space .now) front (k .put-checks .last .1 .1 .0) (256 * n) (g .put-filled .kept .1 .0 ∙ part)
+    ∙ ap₂ _++_ (g .put-filled .ensures ∙ ap (λ (m : ℕ). filled bytes m) part)
     (k .put-checks .ensures ∙ sym (ap₂ _++_ (check-filled bytes (256 * n) n 1) (check-filled bytes (256 * n) n 0)))
 
 pub put-blockettes-spec : {M : Type 1} → statement M
@@ -59,9 +59,9 @@ put-blockettes-spec =
     tie.close
     (tie.spec
     mul-data
-    slice-relend-prefix-give-filled
-    slice-aggregate-give-filled
-    give-filled-requires
+    slice-relend-prefix-put-filled
+    slice-aggregate-put-filled
+    put-filled-requires
     sub-put-checks
     part-put-checks-start
     part-put-checks-end

@@ -34,8 +34,8 @@ put-blockettes-requires c κs =
     let whole : imageLength count density ≡ 2 + 256 * (blocketteCount count + 2) = length-gcr count density gcr in
     (omega arith, (omega arith, omega arith))
 
-give-filled-requires : tie.Need-give-filled-requires
-give-filled-requires c κs =
+put-filled-requires : tie.Need-put-filled-requires
+put-filled-requires c κs =
     let i = c .before in
     let e = i .before .before .before .before in
     let count = e .args .count in
@@ -80,7 +80,7 @@ returns-2 c =
     let plain : hasBlockettes count density ≡ false = sym (i .before .has-blockettes .ensures) ∙ i .if1 .left in
     let whole : imageLength count density ≡ 2 + count = length-plain count density plain in
     let room : length (e .args .space .now) ≡ count = omega arith in
-    g .give-filled .ensures ∙ ap (λ (k : ℕ). filled bytes k) room ∙ sym (body-plain (filled bytes count) density (simp all plain))
+    g .put-filled .ensures ∙ ap (λ (k : ℕ). filled bytes k) room ∙ sym (body-plain (filled bytes count) density (simp all plain))
 
 pub put-body-spec : {M : Type 1} → statement M
 put-body-spec =
@@ -89,7 +89,7 @@ put-body-spec =
     has-blockettes-requires
     blockette-count-requires
     put-blockettes-requires
-    give-filled-requires
+    put-filled-requires
     same-length
     returns
     same-length-2

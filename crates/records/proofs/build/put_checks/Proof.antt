@@ -9,26 +9,26 @@ use Rattle.common.proofs.Parts.{two-parts}
 use Rattle.records.proofs.build.put_checks.Statement.{statement}
 use Rattle.records.proofs.build.put_checks.Tie as tie
 
-slice-relend-prefix-check : tie.Need-slice-relend-prefix-check
-slice-relend-prefix-check c = search needs
+slice-relend-prefix-put-check : tie.Need-slice-relend-prefix-put-check
+slice-relend-prefix-put-check c = search needs
 
-slice-aggregate-check : tie.Need-slice-aggregate-check
-slice-aggregate-check c = simp length-take (omega arith)
+slice-aggregate-put-check : tie.Need-slice-aggregate-put-check
+slice-aggregate-put-check c = simp length-take (omega arith)
 
-check-requires : tie.Need-check-requires
-check-requires c κs = (simp length-take (omega arith), search needs)
+put-check-requires : tie.Need-put-check-requires
+put-check-requires c κs = (simp length-take (omega arith), search needs)
 
-sub-check : tie.Need-sub-check
-sub-check c = search needs
+sub-put-check : tie.Need-sub-put-check
+sub-put-check c = search needs
 
-part-check-start : tie.Need-part-check-start
-part-check-start c = search needs
+part-put-check-start : tie.Need-part-put-check-start
+part-put-check-start c = search needs
 
-part-check-end : tie.Need-part-check-end
-part-check-end c = search needs
+part-put-check-end : tie.Need-part-put-check-end
+part-put-check-end c = search needs
 
-check-requires-2 : tie.Need-check-requires-2
-check-requires-2 c κs = search needs
+put-check-requires-2 : tie.Need-put-check-requires-2
+put-check-requires-2 c κs = search needs
 
 same-length : tie.Need-same-length
 same-length c = search needs
@@ -38,20 +38,21 @@ returns c =
     let k0 = c .before .before in
     let k1 = k0 .before .before .before .before in
     let e = k1 .before .before .before .before in
-    let front = k1 .check .last .0 in
+    let front = k1 .put-check .last .0 in
     let half : length (take 256 (e .args .space .now)) ≡ 256 = simp length-take (omega arith) in
-    two-parts (e .args .space .now) front (k0 .check2 .last .0) 256 (k1 .check .kept .0 ∙ half) ∙ ap₂ _++_ (k1 .check .ensures) (k0 .check2 .ensures)
+    two-parts (e .args .space .now) front (k0 .put-check2 .last .0) 256 (k1 .put-check .kept .0 ∙ half)
+    ∙ ap₂ _++_ (k1 .put-check .ensures) (k0 .put-check2 .ensures)
 
 pub put-checks-spec : {M : Type 1} → statement M
 put-checks-spec =
     tie.close
     (tie.spec
-    slice-relend-prefix-check
-    slice-aggregate-check
-    check-requires
-    sub-check
-    part-check-start
-    part-check-end
-    check-requires-2
+    slice-relend-prefix-put-check
+    slice-aggregate-put-check
+    put-check-requires
+    sub-put-check
+    part-put-check-start
+    part-put-check-end
+    put-check-requires-2
     same-length
     returns)

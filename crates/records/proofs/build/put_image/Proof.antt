@@ -21,14 +21,14 @@ room c =
     let two : 2 ≤ imageLength (e .args .count) (e .args .density) = length-two (e .args .count) (e .args .density) in
     omega arith
 
-slice-relend-prefix-put-count : tie.Need-slice-relend-prefix-put-count
-slice-relend-prefix-put-count c = room c
+slice-relend-prefix-put-count-bytes : tie.Need-slice-relend-prefix-put-count-bytes
+slice-relend-prefix-put-count-bytes c = room c
 
-slice-aggregate-put-count : tie.Need-slice-aggregate-put-count
-slice-aggregate-put-count c = simp length-take (omega (arith, room (c .before)))
+slice-aggregate-put-count-bytes : tie.Need-slice-aggregate-put-count-bytes
+slice-aggregate-put-count-bytes c = simp length-take (omega (arith, room (c .before)))
 
-put-count-requires : tie.Need-put-count-requires
-put-count-requires c κs = (search needs, simp length-take (omega (arith, room (c .before))))
+put-count-bytes-requires : tie.Need-put-count-bytes-requires
+put-count-bytes-requires c κs = (search needs, simp length-take (omega (arith, room (c .before))))
 
 sub-put-body : tie.Need-sub-put-body
 sub-put-body c = omega (arith, room (c .before .before .before .before))
@@ -45,8 +45,8 @@ put-body-requires c κs =
     let p = c .before .before .before in
     let e = p .before .before .before .before in
     let image = e .args .image .now in
-    let front = p .put-count .last .1 .0 in
-    let two : length front ≡ 2 = ap (λ (x : List ℕ). length x) (p .put-count .ensures) in
+    let front = p .put-count-bytes .last .1 .0 in
+    let two : length front ≡ 2 = ap (λ (x : List ℕ). length x) (p .put-count-bytes .ensures) in
     (search needs, (search needs, omega (arith, second-length image front 2 two (room (p .before .before)), room (p .before .before))))
 
 same-length : tie.Need-same-length
@@ -59,18 +59,18 @@ returns c =
     let p = b .before .before .before .before in
     let e = p .before .before .before .before in
     let bytes = e .args .bytes .now in
-    let front = p .put-count .last .1 .0 in
-    let two : length front ≡ 2 = ap (λ (x : List ℕ). length x) (p .put-count .ensures) in
+    let front = p .put-count-bytes .last .1 .0 in
+    let two : length front ≡ 2 = ap (λ (x : List ℕ). length x) (p .put-count-bytes .ensures) in
     two-parts (e .args .image .now) front (b .put-body .last .1 .1 .1 .0) 2 two
-    ∙ ap₂ _++_ (p .put-count .ensures ∙ sym (ap countBytes (filled-length bytes (e .args .count) (e .pre .1 .0)))) (b .put-body .ensures)
+    ∙ ap₂ _++_ (p .put-count-bytes .ensures ∙ sym (ap countBytes (filled-length bytes (e .args .count) (e .pre .1 .0)))) (b .put-body .ensures)
 
 pub put-image-spec : {M : Type 1} → statement M
 put-image-spec =
     tie.close
     (tie.spec
-    slice-relend-prefix-put-count
-    slice-aggregate-put-count
-    put-count-requires
+    slice-relend-prefix-put-count-bytes
+    slice-aggregate-put-count-bytes
+    put-count-bytes-requires
     sub-put-body
     part-put-body-start
     part-put-body-end

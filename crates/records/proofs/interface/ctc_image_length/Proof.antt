@@ -4,12 +4,12 @@ use native.Mathlib.Omega.{arith}
 use borrow.Author.Tests.{lt-ltb, le-ltb}
 use Rattle.common.specs.Pick.{pick}
 use Rattle.records.specs.Count.{limit}
-use Rattle.records.specs.Interface.{lengthWithin}
+use Rattle.records.specs.Interface.{imageLengthWithin}
 use Rattle.records.proofs.interface.ctc_image_length.Statement.{statement}
 use Rattle.records.proofs.interface.ctc_image_length.Tie as tie
 
 returns : tie.Need-returns
-unfolding lengthWithin limit pick
+unfolding imageLengthWithin limit pick
 returns c = simp (lt-ltb _ _ (c .if1 .taken))
 
 image-length-requires : tie.Need-image-length-requires
@@ -17,7 +17,7 @@ unfolding limit
 image-length-requires c κs = omega arith
 
 returns-2 : tie.Need-returns-2
-unfolding lengthWithin limit pick
+unfolding imageLengthWithin limit pick
 returns-2 c = simp (le-ltb _ _ (c .before .if1 .left), c .image-length .ensures)
 
 pub ctc-image-length-spec : {M : Type 1} → statement M

@@ -4,12 +4,12 @@ use native.Mathlib.Omega.{arith}
 use borrow.Author.Tests.{lt-ltb, le-ltb}
 use Rattle.common.specs.Pick.{pick}
 use Rattle.records.specs.Count.{limit}
-use Rattle.records.specs.Interface.{marksWithin}
+use Rattle.records.specs.Interface.{markCountWithin}
 use Rattle.records.proofs.interface.ctc_mark_count.Statement.{statement}
 use Rattle.records.proofs.interface.ctc_mark_count.Tie as tie
 
 returns : tie.Need-returns
-unfolding marksWithin limit pick
+unfolding markCountWithin limit pick
 returns c = simp (lt-ltb _ _ (c .if1 .taken))
 
 mark-count-requires : tie.Need-mark-count-requires
@@ -17,7 +17,7 @@ unfolding limit
 mark-count-requires c κs = omega arith
 
 returns-2 : tie.Need-returns-2
-unfolding marksWithin limit pick
+unfolding markCountWithin limit pick
 returns-2 c = simp (le-ltb _ _ (c .before .if1 .left), c .mark-count .ensures)
 
 pub ctc-mark-count-spec : {M : Type 1} → statement M

@@ -3,7 +3,7 @@
 use borrow.Author.Needs.{needs}
 use borrow.Author.Tests.{lt-ltb, le-ltb}
 use Rattle.common.specs.Pick.{pick}
-use Rattle.records.specs.Interface.{scanRefusal, scannedInto}
+use Rattle.records.specs.Interface.{scanRefusal, scanInto}
 use mathlib.Core.Path.{ap, _∙_}
 use mathlib.Core.List.{List}
 use Prim.Native.Nat.{ℕ}
@@ -12,7 +12,7 @@ use Rattle.records.proofs.interface.ctc_scan.Statement.{statement}
 use Rattle.records.proofs.interface.ctc_scan.Tie as tie
 
 returns : tie.Need-returns
-unfolding scanRefusal scannedInto pick
+unfolding scanRefusal scanInto pick
 returns c = (simp (lt-ltb _ _ (c .if1 .taken)), simp (lt-ltb _ _ (c .if1 .taken)))
 
 scan-report-requires : tie.Need-scan-report-requires
@@ -28,7 +28,7 @@ same-length : tie.Need-same-length
 same-length c = search needs
 
 returns-2 : tie.Need-returns-2
-unfolding scanRefusal scannedInto pick
+unfolding scanRefusal scanInto pick
 returns-2 c =
     let g = c .before .before in
     let r = g .before .before .before in

@@ -7,6 +7,9 @@ use borrow.Author.Needs.{needs}
 use Rattle.records.proofs.layout.blockette_count.Statement.{statement}
 use Rattle.records.proofs.layout.blockette_count.Tie as tie
 
+sub-result : tie.Need-sub-result
+sub-result c = search needs
+
 add-result : tie.Need-add-result
 unfolding limit
 add-result c = omega arith
@@ -16,4 +19,4 @@ unfolding blocketteCount
 returns c = search needs
 
 pub blockette-count-spec : {M : Type 1} → statement M
-blockette-count-spec = tie.close (tie.spec add-result returns)
+blockette-count-spec = tie.close (tie.spec sub-result add-result returns)

@@ -13,7 +13,7 @@ use Rattle.blockettes.specs.Blockettes.{othersOf}
 use Rattle.blockettes.proofs.Others.{others-length}
 use Rattle.common.proofs.Parts.{part-written}
 use Rattle.records.specs.Image.{blocketteCount}
-use Rattle.records.specs.Restore.{writtenAt, mendedAt}
+use Rattle.records.specs.Restore.{writtenAt, mendAt}
 use Rattle.records.proofs.restore.mend_at.Statement.{statement}
 use Rattle.records.proofs.restore.mend_at.Tie as tie
 
@@ -26,28 +26,28 @@ add-least c = search needs
 least-requires : tie.Need-least-requires
 least-requires c κs = search needs
 
-sub-restore-at : tie.Need-sub-restore-at
+sub-put-others : tie.Need-sub-put-others
 unfolding blocketteCount
-sub-restore-at c = omega arith
+sub-put-others c = omega arith
 
-part-restore-at-start : tie.Need-part-restore-at-start
+part-put-others-start : tie.Need-part-put-others-start
 unfolding blocketteCount
-part-restore-at-start c = omega arith
+part-put-others-start c = omega arith
 
-part-restore-at-end : tie.Need-part-restore-at-end
-part-restore-at-end c = search needs
+part-put-others-end : tie.Need-part-put-others-end
+part-put-others-end c = search needs
 
-add-restore-at : tie.Need-add-restore-at
-add-restore-at c = search needs
+add-put-others : tie.Need-add-put-others
+add-put-others c = search needs
 
-restore-at-requires : tie.Need-restore-at-requires
-restore-at-requires c κs = search needs
+put-others-requires : tie.Need-put-others-requires
+put-others-requires c κs = search needs
 
 same-length : tie.Need-same-length
 same-length c = search needs
 
 returns : tie.Need-returns
-unfolding mendedAt writtenAt pick blocketteCount
+unfolding mendAt writtenAt pick blocketteCount
 returns c =
     let r = c .before .before in
     let l = r .before .before in
@@ -63,11 +63,11 @@ returns c =
     let room : start ≤ length bytes = omega arith in
     let part : length (take (end - start) (drop start bytes)) ≡ end - start = simp (length-take, length-drop) (omega arith) in
     simp (lt-ltb _ _ (i .if1 .taken))
-    (ap (λ (x : List ℕ). putMid start (end - start) bytes x) (r .restore-at .ensures ∙ ap (λ (k : ℕ). take k new) part)
+    (ap (λ (x : List ℕ). putMid start (end - start) bytes x) (r .put-others .ensures ∙ ap (λ (k : ℕ). take k new) part)
     ∙ part-written bytes new start end is-end room)
 
 returns-2 : tie.Need-returns-2
-unfolding mendedAt pick
+unfolding mendAt pick
 returns-2 c = simp (le-ltb _ _ (c .if1 .left))
 
 pub mend-at-spec : {M : Type 1} → statement M
@@ -77,11 +77,11 @@ mend-at-spec =
     mul-start
     add-least
     least-requires
-    sub-restore-at
-    part-restore-at-start
-    part-restore-at-end
-    add-restore-at
-    restore-at-requires
+    sub-put-others
+    part-put-others-start
+    part-put-others-end
+    add-put-others
+    put-others-requires
     same-length
     returns
     returns-2)

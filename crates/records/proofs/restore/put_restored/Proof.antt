@@ -7,7 +7,7 @@ use lib.ListN.{length, take, length-take}
 use native.Mathlib.Omega.{arith}
 use Rattle.common.proofs.GivenLaws.{given-all}
 use Rattle.records.specs.Image.{blocketteCount}
-use Rattle.records.specs.Restore.{mendedAt}
+use Rattle.records.specs.Restore.{mendAt}
 use Rattle.records.proofs.restore.put_restored.Statement.{statement}
 use Rattle.records.proofs.restore.put_restored.Tie as tie
 
@@ -44,8 +44,8 @@ returns c =
     let count = length space in
     let all : length space ≤ length (take count blockettes) = simp length-take (omega arith) in
     m2 .mend-at2 .ensures
-    ∙ ap (mendedAt blockettes (e .args .n) (e .args .even))
-    (m1 .mend-at .ensures ∙ ap (mendedAt blockettes (e .args .n) (e .args .odd)) (g .give .ensures ∙ given-all (take count blockettes) space all))
+    ∙ ap (mendAt blockettes (e .args .n) (e .args .even))
+    (m1 .mend-at .ensures ∙ ap (mendAt blockettes (e .args .n) (e .args .odd)) (g .give .ensures ∙ given-all (take count blockettes) space all))
 
 pub put-restored-spec : {M : Type 1} → statement M
 put-restored-spec =

@@ -12,7 +12,7 @@ use Rattle.common.specs.Given.{given}
 use Rattle.common.proofs.PickLaws.{where-refused, where-done}
 use Rattle.records.specs.Count.{countOf}
 use Rattle.records.specs.Image.{blocketteCount}
-use Rattle.records.specs.Restore.{mendedAt, restoreRefusal, restoredOf, restoredInto}
+use Rattle.records.specs.Restore.{restoredOf, restoreRefusal, restoredBytes, restoreInto}
 use Rattle.records.proofs.ImageLaws.{blockettes-few, image-holds}
 use Rattle.records.proofs.WholeLaws.{IsWhole, restorable}
 use native.Mathlib.Nat.{le-of-eq}
@@ -20,18 +20,18 @@ use Rattle.records.proofs.restore.restore.Statement.{statement}
 use Rattle.records.proofs.restore.restore.Tie as tie
 
 -- equal blockettes, numbers of them, errors and counts are restored alike
-alike : (b b′ : List ℕ) (n n′ : ℕ) (s s′ : Scan) (k k′ : ℕ) → b ≡ b′ → n ≡ n′ → s ≡ s′ → k ≡ k′
-    → mendedAt b n (s .even) (mendedAt b n (s .odd) (take k b)) ≡ mendedAt b′ n′ (s′ .even) (mendedAt b′ n′ (s′ .odd) (take k′ b′))
-alike b b′ n n′ s s′ k k′ p q r t = cc
+alike : (last b b′ : List ℕ) (n n′ : ℕ) (s s′ : Scan) (k k′ : ℕ) → last ≡ restoredOf b n (s .odd) (s .even) k → b ≡ b′ → n ≡ n′ → s ≡ s′ → k ≡ k′
+    → last ≡ restoredOf b′ n′ (s′ .odd) (s′ .even) k′
+alike last b b′ n n′ s s′ k k′ e p q r t = cc
 
 -- the space where the call is refused, and where it is carried out
-kept : (image marks space : List ℕ) (r : ℕ) → r ≡ restoreRefusal image marks (length space) → (r ≡ 0 → ⊥) → space ≡ restoredInto image marks space
-unfolding restoredInto
+kept : (image marks space : List ℕ) (r : ℕ) → r ≡ restoreRefusal image marks (length space) → (r ≡ 0 → ⊥) → space ≡ restoreInto image marks space
+unfolding restoreInto
 kept image marks space r e some = sym (where-refused _ _ _ (λ z. some (e ∙ z)))
 
-restored : (image marks space last : List ℕ) (count : ℕ) → restoreRefusal image marks (length space) ≡ 0 → last ≡ restoredOf image marks → length last ≡ count
-    → last ++ drop count space ≡ restoredInto image marks space
-unfolding restoredInto given
+restored : (image marks space last : List ℕ) (count : ℕ) → restoreRefusal image marks (length space) ≡ 0 → last ≡ restoredBytes image marks
+    → length last ≡ count → last ++ drop count space ≡ restoreInto image marks space
+unfolding restoreInto given
 restored image marks space last count none e so-many =
     ap₂ (λ (x : List ℕ) (k : ℕ). x ++ drop k space) e (sym so-many ∙ ap (λ (x : List ℕ). length x) e) ∙ sym (where-done _ _ _ none)
 
@@ -101,7 +101,7 @@ same-length : tie.Need-same-length
 same-length c = search needs
 
 returns-2 : tie.Need-returns-2
-unfolding restoredOf
+unfolding restoredBytes
 returns-2 c =
     let p = c .before .before in
     let b = p .before .before .before in
@@ -116,9 +116,9 @@ returns-2 c =
     let count = n .count-of .result in
     let all : length (take count space) ≡ count = simp length-take (omega (arith, room n)) in
     let part : take (length image - 2) (drop 2 image) ≡ drop 2 image = take-all (length image - 2) (drop 2 image) (le-of-eq (length-drop 2 image)) in
-    let is-last : p .put-restored .last .1 .1 .1 .1 .0 ≡ restoredOf image marks =
-    p .put-restored .ensures
-    ∙ alike _ _ _ _ _ _ _ _ part (b .blockette-count .ensures ∙ ap blocketteCount (n .count-of .ensures)) (s .scan-marks .ensures) (all ∙ n .count-of .ensures)
+    let is-last : p .put-restored .last .1 .1 .1 .1 .0 ≡ restoredBytes image marks =
+    alike _ _ _ _ _ _ _ _ _ (p .put-restored .ensures) part (b .blockette-count .ensures ∙ ap blocketteCount (n .count-of .ensures))
+    (s .scan-marks .ensures) (all ∙ n .count-of .ensures)
     in
     let none : 0 ≡ restoreRefusal image marks (length space) = sym (i .if1 .left) ∙ w .restore-refusal .ensures in
     (none, restored image marks space _ count (sym none) is-last (p .put-restored .kept .1 .1 .1 .1 .0 ∙ all))

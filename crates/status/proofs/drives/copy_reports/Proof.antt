@@ -1,7 +1,7 @@
 -- `status::drives::copy_reports` meets its contract: each of the four as its callee says.
 -- Assumes nothing.
 use borrow.Author.Needs.{needs}
-use Rattle.status.specs.Drives.{reviewedAll}
+use Rattle.status.specs.Drives.{copyReports}
 use Rattle.status.proofs.drives.copy_reports.Statement.{statement}
 use Rattle.status.proofs.drives.copy_reports.Tie as tie
 
@@ -18,7 +18,7 @@ copy-report-requires-4 : tie.Need-copy-report-requires-4
 copy-report-requires-4 c κs = search needs
 
 returns : tie.Need-returns
-unfolding reviewedAll
+unfolding copyReports
 returns c = simp (
   c .copy-report4 .ensures,
   c .before .copy-report3 .ensures,

@@ -2,16 +2,16 @@
 -- Assumes nothing.
 use borrow.Author.Needs.{needs}
 use Rattle.common.specs.Pick.{pick}
-use Rattle.status.specs.Words.{bit}
+use Rattle.status.specs.Words.{bitOf}
 use Rattle.status.proofs.words.bit_of.Statement.{statement}
 use Rattle.status.proofs.words.bit_of.Tie as tie
 
 returns : tie.Need-returns
-unfolding bit pick
+unfolding bitOf pick
 returns c = (simp (c .if1 .taken), search needs)
 
 returns-2 : tie.Need-returns-2
-unfolding bit pick
+unfolding bitOf pick
 returns-2 c = (simp (c .if1 .left), search needs)
 
 pub bit-of-spec : {M : Type 1} → statement M

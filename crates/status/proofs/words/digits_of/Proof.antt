@@ -2,7 +2,7 @@
 -- Assumes nothing.
 use mathlib.Core.Path.{refl}
 use borrow.Author.Needs.{needs}
-use Rattle.status.specs.Words.{digits}
+use Rattle.status.specs.Words.{digitsOf}
 use Rattle.status.proofs.words.digits_of.Statement.{statement}
 use Rattle.status.proofs.words.digits_of.Tie as tie
 
@@ -13,7 +13,7 @@ add-result : tie.Need-add-result
 add-result c = search needs
 
 returns : tie.Need-returns
-unfolding digits
+unfolding digitsOf
 returns c = refl
 
 pub digits-of-spec : {M : Type 1} → statement M

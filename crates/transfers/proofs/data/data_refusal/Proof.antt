@@ -1,5 +1,6 @@
 -- `transfers::data::data_refusal` meets its contract: at each return the tests that led there say which case holds.
 -- Assumes nothing.
+use borrow.Author.Tests.{lt-ltb, le-ltb, eq-eqb, ne-eqb}
 use borrow.Author.Needs.{needs}
 use Rattle.common.specs.Pick.{pick}
 use Rattle.transfers.specs.Data.{dataRefusal}
@@ -8,8 +9,7 @@ use Rattle.transfers.proofs.data.data_refusal.Tie as tie
 
 returns : tie.Need-returns
 unfolding dataRefusal pick
-returns c = simp
-    (c .if1 .taken)
+returns c = simp (ne-eqb _ _ (c .if1 .taken))
 
 held-count-requires : tie.Need-held-count-requires
 held-count-requires c κs = search needs
@@ -19,11 +19,23 @@ image-length-requires c κs = search needs
 
 returns-2 : tie.Need-returns-2
 unfolding dataRefusal pick
-returns-2 c = simp (c .if2 .taken, ← c .before .image-length .ensures, ← c .before .before .held-count .ensures, c .before .before .before .if1 .left)
+returns-2 c =
+    simp (
+      lt-ltb _ _ (c .if2 .taken),
+      ← c .before .image-length .ensures,
+      ← c .before .before .held-count .ensures,
+      eq-eqb _ _ (c .before .before .before .if1 .left),
+    )
 
 returns-3 : tie.Need-returns-3
 unfolding dataRefusal pick
-returns-3 c = simp (c .if2 .left, ← c .before .image-length .ensures, ← c .before .before .held-count .ensures, c .before .before .before .if1 .left)
+returns-3 c =
+    simp (
+      le-ltb _ _ (c .if2 .left),
+      ← c .before .image-length .ensures,
+      ← c .before .before .held-count .ensures,
+      eq-eqb _ _ (c .before .before .before .if1 .left),
+    )
 
 pub data-refusal-spec : {M : Type 1} → statement M
 data-refusal-spec =

@@ -1,11 +1,11 @@
 -- `transfers::data::put_check_bytes` meets its contract: zeros, or the last 512 bytes of the image.
 -- Assumes nothing.
 use borrow.Author.Needs.{needs}
+use borrow.Author.Tests.{eq-eqb}
 use mathlib.Core.Path.{_≡_, _∙_}
 use Prim.Native.Nat.{_≤_, _+_, _*_}
 use native.Mathlib.Omega.{arith}
 use lib.ListN.{length, length-take, length-drop}
-use borrow.Author.Tests.{eq-eqb}
 use Rattle.common.specs.Pick.{pick}
 use Rattle.records.proofs.ImageLaws.{blockettes-few}
 use Rattle.transfers.specs.Data.{checkBytes}

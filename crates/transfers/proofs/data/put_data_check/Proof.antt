@@ -6,7 +6,7 @@ use mathlib.Core.Path.{_≡_, sym, ap, _∙_}
 use Prim.Native.Nat.{ℕ}
 use Rattle.common.specs.Pick.{pick}
 use Rattle.records.specs.Image.{imageLength}
-use Rattle.transfers.specs.Data.{isGcr}
+use Rattle.status.specs.Drives.{isGcr}
 use Rattle.transfers.proofs.DataLaws.{gcr-alike}
 use Rattle.transfers.proofs.data.put_data_check.Statement.{statement}
 use Rattle.transfers.proofs.data.put_data_check.Tie as tie

@@ -5,15 +5,12 @@ use Prim.Native.Nat.{_≤_}
 use native.Mathlib.Omega.{arith}
 use Rattle.common.specs.Pick.{pick}
 use Rattle.records.proofs.ImageLaws.{blockettes-few}
-use Rattle.transfers.specs.Results.{readBytes}
+use Rattle.transfers.specs.Results.{readCount}
 use Rattle.transfers.proofs.delivery.read_count.Statement.{statement}
 use Rattle.transfers.proofs.delivery.read_count.Tie as tie
 
-count-of-requires : tie.Need-count-of-requires
-count-of-requires c κs = search needs
-
-scan-marks-requires : tie.Need-scan-marks-requires
-scan-marks-requires c κs = search needs
+is-found-requires : tie.Need-is-found-requires
+is-found-requires c κs = search needs
 
 blockette-count-requires : tie.Need-blockette-count-requires
 blockette-count-requires c κs = search needs
@@ -24,37 +21,32 @@ least-requires c κs = search needs
 mul-least : tie.Need-mul-least
 mul-least c =
     let b = c .before in
-    let n = b .before .before .before in
-    let e = n .before .before .before in
-    let few : b .blockette-count .result ≤ 256 = rw (b .blockette-count .ensures) (blockettes-few (n .count-of .result) (rw (n .count-of .ensures) (e .pre .0))) in
+    let e = b .before .before .before in
+    let few : b .blockette-count .result ≤ 256 = rw (b .blockette-count .ensures) (blockettes-few (e .args .count) (e .pre)) in
     omega arith
 
 least-requires-2 : tie.Need-least-requires-2
 least-requires-2 c κs = search needs
 
 returns : tie.Need-returns
-unfolding readBytes pick
+unfolding readCount pick
 returns c =
     let l = c .before in
     let b = l .before in
-    let t = b .before in
-    let s = t .before in (
-      simp (c .least2 .ensures, l .least .ensures, b .blockette-count .ensures, ← s .scan-marks .ensures, ← s .before .count-of .ensures, t .if1 .taken),
+    let t = b .before in (
+      simp (c .least2 .ensures, l .least .ensures, b .blockette-count .ensures, ← t .before .is-found .ensures, t .if1 .taken),
       omega arith,
     )
 
 returns-2 : tie.Need-returns-2
-unfolding readBytes pick
-returns-2 c =
-    let s = c .before in
-    (simp (← s .scan-marks .ensures, ← s .before .count-of .ensures, c .if1 .left), omega arith)
+unfolding readCount pick
+returns-2 c = (simp (← c .before .is-found .ensures, c .if1 .left), omega arith)
 
 pub read-count-spec : {M : Type 1} → statement M
 read-count-spec =
     tie.close
     (tie.spec
-    count-of-requires
-    scan-marks-requires
+    is-found-requires
     blockette-count-requires
     least-requires
     mul-least

@@ -13,10 +13,7 @@ is-search-requires c κs = search needs
 
 returns : tie.Need-returns
 unfolding markAgainst
-returns c = simp (
-  c .is-search .ensures,
-  c .before .takes-mark .ensures,
-)
+returns c = simp (c .before .is-search .ensures, c .before .before .before .takes-mark .ensures)
 
 pub mark-against-spec : {M : Type 1} → statement M
 mark-against-spec = tie.close (tie.spec takes-mark-requires is-search-requires returns)

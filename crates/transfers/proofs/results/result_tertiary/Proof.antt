@@ -1,4 +1,4 @@
--- `transfers::results::result_tertiary` meets its contract: by the operation, the density and whether the tape is gone.
+-- `transfers::results::result_tertiary` meets its contract: by the verdict.
 -- Assumes nothing.
 use borrow.Author.Needs.{needs}
 use Rattle.common.specs.Pick.{pick}
@@ -6,68 +6,24 @@ use Rattle.transfers.specs.Results.{resultTertiary}
 use Rattle.transfers.proofs.results.result_tertiary.Statement.{statement}
 use Rattle.transfers.proofs.results.result_tertiary.Tie as tie
 
-reads-gcr-requires : tie.Need-reads-gcr-requires
-reads-gcr-requires c κs = search needs
-
-is-gone-requires : tie.Need-is-gone-requires
-is-gone-requires c κs = search needs
-
 zero-word-requires : tie.Need-zero-word-requires
 zero-word-requires c κs = search needs
 
 returns : tie.Need-returns
 unfolding resultTertiary pick
-returns c = simp (
-  c .zero-word .ensures,
-  c .before .if2 .taken,
-  ← c .before .before .is-gone .ensures,
-  c .before .before .before .if1 .taken,
-  ← c .before .before .before .before .reads-gcr .ensures,
-)
+returns c = simp (c .zero-word .ensures, c .before .if2 .taken, c .before .before .if1 .taken)
 
-scan-marks-requires : tie.Need-scan-marks-requires
-scan-marks-requires c κs = search needs
-
-defect-at-requires : tie.Need-defect-at-requires
-defect-at-requires c κs = search needs
-
-defect-at-requires-2 : tie.Need-defect-at-requires-2
-defect-at-requires-2 c κs = search needs
-
-tertiary-requires : tie.Need-tertiary-requires
-tertiary-requires c κs = search needs
+tertiary-of-requires : tie.Need-tertiary-of-requires
+tertiary-of-requires c κs = search needs
 
 returns-2 : tie.Need-returns-2
 unfolding resultTertiary pick
-returns-2 c = simp (
-  c .tertiary .ensures,
-  c .before .defect-at2 .ensures,
-  c .before .before .defect-at .ensures,
-  c .before .before .before .scan-marks .ensures,
-  c .before .before .before .before .if2 .left,
-  ← c .before .before .before .before .before .is-gone .ensures,
-  c .before .before .before .before .before .before .if1 .taken,
-  ← c .before .before .before .before .before .before .before .reads-gcr .ensures,
-)
+returns-2 c = simp (c .tertiary-of .ensures, c .before .if2 .left, c .before .before .if1 .taken)
 
 returns-3 : tie.Need-returns-3
 unfolding resultTertiary pick
-returns-3 c = simp (
-  c .if1 .left,
-  ← c .before .reads-gcr .ensures,
-)
+returns-3 c = simp (c .if1 .left)
 
 pub result-tertiary-spec : {M : Type 1} → statement M
 result-tertiary-spec =
-    tie.close
-    (tie.spec
-    reads-gcr-requires
-    is-gone-requires
-    zero-word-requires
-    returns
-    scan-marks-requires
-    defect-at-requires
-    defect-at-requires-2
-    tertiary-requires
-    returns-2
-    returns-3)
+    tie.close (tie.spec zero-word-requires returns tertiary-of-requires returns-2 returns-3)

@@ -8,6 +8,7 @@ use mathlib.Core.Logic.{⊎-elim}
 use types.Run.{OneOf, miss}
 use denote.Enum.Declared.{tagOf}
 use Rattle.common.specs.Pick.{pick}
+use Rattle.common.specs.Refusals.{linkNotAwaited}
 use Rattle.link.specs.declared.state.Phase.{Phase}
 use Rattle.link.specs.declared.state.Phase.the-variants.{Collecting, AckOffered, Sending, GoOffered, DataAwaited, ResultAwaited, EndOffered}
 use Rattle.link.specs.declared.state.Body.{Body}
@@ -30,18 +31,18 @@ last = 4 ∷ 5 ∷ []
 
 dropped : (c : Controller) (b : Body) (phase : Phase) → OneOf first (tagOf the-type phase) → brokenIn c b phase ≡ carried (idle b Nothing)
 unfolding brokenIn
-dropped c b Collecting key = refl
-dropped c b AckOffered key = refl
+dropped c b (Collecting s) key = refl
+dropped c b (AckOffered s) key = refl
 dropped c b (Sending send) key = absurd (miss first 2 tt key)
 dropped c b (GoOffered store) key = absurd (miss first 3 tt key)
 dropped c b (DataAwaited store) key = absurd (miss first 4 tt key)
 dropped c b (ResultAwaited operation store) key = absurd (miss first 5 tt key)
 dropped c b (EndOffered interrupt) key = absurd (miss first 6 tt key)
 
-others : (c : Controller) (b : Body) (phase : Phase) → OneOf last (tagOf the-type phase) → brokenIn c b phase ≡ refused 2 c
+others : (c : Controller) (b : Body) (phase : Phase) → OneOf last (tagOf the-type phase) → brokenIn c b phase ≡ refused linkNotAwaited c
 unfolding brokenIn
-others c b Collecting key = absurd (miss last 0 tt key)
-others c b AckOffered key = absurd (miss last 1 tt key)
+others c b (Collecting s) key = absurd (miss last 0 tt key)
+others c b (AckOffered s) key = absurd (miss last 1 tt key)
 others c b (Sending send) key = absurd (miss last 2 tt key)
 others c b (GoOffered store) key = absurd (miss last 3 tt key)
 others c b (DataAwaited store) key = refl
@@ -61,27 +62,27 @@ turned c =
 is-damaged-requires : tie.Need-is-damaged-requires
 is-damaged-requires c κs = search needs
 
-refuse-requires : tie.Need-refuse-requires
-refuse-requires c κs = search needs
+refused-requires : tie.Need-refused-requires
+refused-requires c κs = search needs
 
 returns : tie.Need-returns
 unfolding brokenCall pick
-returns c = rw (damaged (c .before .before .before .args .self) (c .before .before .is-damaged .ensures) (c .before .if1 .taken), c .refuse .ensures)
+returns c = rw (damaged (c .before .before .before .args .self) (c .before .before .is-damaged .ensures) (c .before .if1 .taken), c .refused .ensures)
 
-go-idle-requires : tie.Need-go-idle-requires
-go-idle-requires c κs = search needs
+idle-requires : tie.Need-idle-requires
+idle-requires c κs = search needs
 
 enum-known-phase : tie.Need-enum-known-phase
 enum-known-phase c = search needs
 
-given-up-requires : tie.Need-given-up-requires
-given-up-requires c κs = search needs
+give-up-requires : tie.Need-give-up-requires
+give-up-requires c κs = search needs
 
 enum-known-phase-2 : tie.Need-enum-known-phase-2
 enum-known-phase-2 c = search needs
 
-go-refused-requires : tie.Need-go-refused-requires
-go-refused-requires c κs = search needs
+no-to-go-requires : tie.Need-no-to-go-requires
+no-to-go-requires c κs = search needs
 
 enum-known-phase-3 : tie.Need-enum-known-phase-3
 enum-known-phase-3 c = search needs
@@ -89,15 +90,15 @@ enum-known-phase-3 c = search needs
 complete-requires : tie.Need-complete-requires
 complete-requires c κs = search needs
 
-refuse-requires-2 : tie.Need-refuse-requires-2
-refuse-requires-2 c κs = search needs
+refused-requires-2 : tie.Need-refused-requires-2
+refused-requires-2 c κs = search needs
 
 returns-2 : tie.Need-returns-2
 unfolding brokenCall pick
 returns-2 c =
     let e = c .before .before in
     let s = e .before .before .args .self in
-    rw (undamaged (e .before .before .args .self) (e .before .is-damaged .ensures) (e .if1 .left), others s (s .body) (s .phase) (c .before .match .keys5), c .refuse2 .ensures)
+    rw (undamaged (e .before .before .args .self) (e .before .is-damaged .ensures) (e .if1 .left), others s (s .body) (s .phase) (c .before .match .keys5), c .refused2 .ensures)
 
 carried-requires : tie.Need-carried-requires
 carried-requires c κs = search needs
@@ -113,16 +114,16 @@ broken-spec =
     tie.close
     (tie.spec
     is-damaged-requires
-    refuse-requires
+    refused-requires
     returns
-    go-idle-requires
+    idle-requires
     enum-known-phase
-    given-up-requires
+    give-up-requires
     enum-known-phase-2
-    go-refused-requires
+    no-to-go-requires
     enum-known-phase-3
     complete-requires
-    refuse-requires-2
+    refused-requires-2
     returns-2
     carried-requires
     returns-3)

@@ -9,10 +9,11 @@ use mathlib.Core.List.{List, [], _∷_}
 use types.Run.{OneOf, miss}
 use denote.Enum.Declared.{tagOf}
 use Rattle.common.specs.Pick.{pick}
+use Rattle.common.specs.Refusals.{transferNotAwaited}
 use Rattle.link.specs.declared.state.Phase.{Phase}
 use Rattle.link.specs.declared.state.Phase.the-variants.{Collecting, AckOffered, Sending, GoOffered, DataAwaited, ResultAwaited, EndOffered}
 use Rattle.link.specs.declared.state.Body.{Body}
-use Rattle.link.specs.Damaged.{sound}
+use Rattle.link.specs.Damaged.{isSound}
 use Rattle.link.proofs.state.Phase.{the-type}
 use Rattle.link.proofs.SoundLaws.{data-count}
 use Rattle.controller.specs.declared.controller.Controller.{Controller}
@@ -25,10 +26,10 @@ use Rattle.controller.proofs.controller.Controller.data.Tie as tie
 abbrev six : List ℕ
 six = 0 ∷ 1 ∷ 2 ∷ 3 ∷ 5 ∷ 6 ∷ []
 
-others : (c : Controller) (b : Body) (host space check : List ℕ) (phase : Phase) → OneOf six (tagOf the-type phase) → dataIn c b host space check phase ≡ unchanged 3 c space check
+others : (c : Controller) (b : Body) (host space check : List ℕ) (phase : Phase) → OneOf six (tagOf the-type phase) → dataIn c b host space check phase ≡ unchanged transferNotAwaited c space check
 unfolding dataIn
-others c b host space check Collecting key = refl
-others c b host space check AckOffered key = refl
+others c b host space check (Collecting s) key = refl
+others c b host space check (AckOffered s) key = refl
 others c b host space check (Sending send) key = refl
 others c b host space check (GoOffered store) key = refl
 others c b host space check (DataAwaited store) key = absurd (miss six 4 tt key)
@@ -36,24 +37,24 @@ others c b host space check (ResultAwaited operation store) key = refl
 others c b host space check (EndOffered interrupt) key = refl
 
 -- past the first test the state is sound
-whole : (c : tie.Else1) → let s = c .before .before .before .before .before .args .self in sound (s .body) (s .phase) ≡ true
+whole : (c : tie.Else1) → let s = c .before .before .before .before .before .args .self in isSound (s .body) (s .phase) ≡ true
 whole c = undamaged _ (c .before .is-damaged .ensures) (c .if1 .left)
 
 is-damaged-requires : tie.Need-is-damaged-requires
 is-damaged-requires c κs = search needs
 
-refuse-transfer-requires : tie.Need-refuse-transfer-requires
-refuse-transfer-requires c κs = search needs
+refused-transfer-requires : tie.Need-refused-transfer-requires
+refused-transfer-requires c κs = search needs
 
 returns : tie.Need-returns
 unfolding dataCall pick
-returns c = rw (damaged (c .before .before .before .before .before .before .args .self) (c .before .before .is-damaged .ensures) (c .before .if1 .taken), c .refuse-transfer .ensures)
+returns c = rw (damaged (c .before .before .before .before .before .before .args .self) (c .before .before .is-damaged .ensures) (c .before .if1 .taken), c .refused-transfer .ensures)
 
 enum-known-phase : tie.Need-enum-known-phase
 enum-known-phase c = search needs
 
-refuse-transfer-requires-2 : tie.Need-refuse-transfer-requires-2
-refuse-transfer-requires-2 c κs = search needs
+refused-transfer-requires-2 : tie.Need-refused-transfer-requires-2
+refused-transfer-requires-2 c κs = search needs
 
 returns-2 : tie.Need-returns-2
 unfolding dataCall pick
@@ -63,11 +64,11 @@ returns-2 c =
     rw (
       whole e,
       others (a .self) (a .self .body) (a .host .now) (a .space .now) (a .check .now) (a .self .phase) (c .before .match .keys2),
-      c .refuse-transfer2 .ensures,
+      c .refused-transfer2 .ensures,
     )
 
-get-requires : tie.Need-get-requires
-get-requires c κs = search needs
+drive-of-requires : tie.Need-drive-of-requires
+drive-of-requires c κs = search needs
 
 data-refusal-requires : tie.Need-data-refusal-requires
 data-refusal-requires c κs =
@@ -76,8 +77,8 @@ data-refusal-requires c κs =
     let s = e .before .before .before .before .before .args .self in
     data-count (s .body) (s .phase) _ (whole e) (p .phase .given .1)
 
-refuse-transfer-requires-3 : tie.Need-refuse-transfer-requires-3
-refuse-transfer-requires-3 c κs = search needs
+refused-transfer-requires-3 : tie.Need-refused-transfer-requires-3
+refused-transfer-requires-3 c κs = search needs
 
 returns-3 : tie.Need-returns-3
 unfolding dataCall dataIn dataFor pick
@@ -86,10 +87,10 @@ returns-3 c =
     let g = d .before in
     let p = g .before .before in
     rw (
-      c .refuse-transfer3 .ensures,
+      c .refused-transfer3 .ensures,
       whole (p .before .before),
       p .phase .given .1,
-      ← g .get .ensures,
+      ← g .drive-of .ensures,
       ← d .data-refusal .ensures,
       ne-eqb _ _ (c .before .if2 .taken),
     )
@@ -120,7 +121,7 @@ returns-4 c =
     rw (
       whole (p .before .before),
       p .phase .given .1,
-      ← g .get .ensures,
+      ← g .drive-of .ensures,
       ← d .data-refusal .ensures,
       eq-eqb _ _ (t .if2 .left),
     ) (w .data-done .ensures)
@@ -130,14 +131,14 @@ data-spec =
     tie.close
     (tie.spec
     is-damaged-requires
-    refuse-transfer-requires
+    refused-transfer-requires
     returns
     enum-known-phase
-    refuse-transfer-requires-2
+    refused-transfer-requires-2
     returns-2
-    get-requires
+    drive-of-requires
     data-refusal-requires
-    refuse-transfer-requires-3
+    refused-transfer-requires-3
     returns-3
     data-done-requires
     same-length

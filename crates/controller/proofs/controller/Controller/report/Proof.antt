@@ -11,37 +11,37 @@ use Rattle.controller.proofs.controller.Controller.report.Tie as tie
 is-damaged-requires : tie.Need-is-damaged-requires
 is-damaged-requires c κs = search needs
 
-refuse-requires : tie.Need-refuse-requires
-refuse-requires c κs = search needs
+refused-requires : tie.Need-refused-requires
+refused-requires c κs = search needs
 
 returns : tie.Need-returns
-unfolding reportCall reportNoted pick
-returns c = rw (damaged (c .before .before .before .args .self) (c .before .before .is-damaged .ensures) (c .before .if1 .taken), c .refuse .ensures)
+unfolding reportCall pick
+returns c = rw (damaged (c .before .before .before .args .self) (c .before .before .is-damaged .ensures) (c .before .if1 .taken), c .refused .ensures)
 
-refuse-requires-2 : tie.Need-refuse-requires-2
-refuse-requires-2 c κs = search needs
+refused-requires-2 : tie.Need-refused-requires-2
+refused-requires-2 c κs = search needs
 
 returns-2 : tie.Need-returns-2
-unfolding reportCall reportNoted pick
+unfolding reportCall pick
 returns-2 c = rw (
   undamaged (c .before .before .before .before .args .self) (c .before .before .before .is-damaged .ensures) (c .before .before .if1 .left),
   le-leb _ _ (c .before .if2 .taken),
-  c .refuse2 .ensures,
+  c .refused2 .ensures,
 )
 
-put-report-requires : tie.Need-put-report-requires
-put-report-requires c κs = search needs
+note-report-requires : tie.Need-note-report-requires
+note-report-requires c κs = search needs
 
 carried-requires : tie.Need-carried-requires
 carried-requires c κs = search needs
 
 returns-3 : tie.Need-returns-3
-unfolding reportCall reportNoted pick
+unfolding reportCall pick
 returns-3 c = rw (
   undamaged (c .before .before .before .before .before .args .self) (c .before .before .before .before .is-damaged .ensures) (c .before .before .before .if1 .left),
   lt-leb _ _ (c .before .before .if2 .left),
   c .carried .ensures,
-  c .before .put-report .ensures,
+  c .before .note-report .ensures,
 )
 
 pub report-spec : {M : Type 1} → statement M
@@ -49,10 +49,10 @@ report-spec =
     tie.close
     (tie.spec
     is-damaged-requires
-    refuse-requires
+    refused-requires
     returns
-    refuse-requires-2
+    refused-requires-2
     returns-2
-    put-report-requires
+    note-report-requires
     carried-requires
     returns-3)

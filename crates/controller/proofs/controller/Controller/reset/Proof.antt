@@ -10,15 +10,15 @@ use Rattle.controller.proofs.controller.Controller.reset.Tie as tie
 is-damaged-requires : tie.Need-is-damaged-requires
 is-damaged-requires c κs = search needs
 
-refuse-requires : tie.Need-refuse-requires
-refuse-requires c κs = search needs
+refused-requires : tie.Need-refused-requires
+refused-requires c κs = search needs
 
 returns : tie.Need-returns
 unfolding resetCall pick
-returns c = rw (damaged (c .before .before .before .args .self) (c .before .before .is-damaged .ensures) (c .before .if1 .taken), c .refuse .ensures)
+returns c = rw (damaged (c .before .before .before .args .self) (c .before .before .is-damaged .ensures) (c .before .if1 .taken), c .refused .ensures)
 
-go-reset-requires : tie.Need-go-reset-requires
-go-reset-requires c κs = search needs
+reset-state-requires : tie.Need-reset-state-requires
+reset-state-requires c κs = search needs
 
 carried-requires : tie.Need-carried-requires
 carried-requires c κs = search needs
@@ -28,7 +28,7 @@ unfolding resetCall pick
 returns-2 c = rw (
   undamaged (c .before .before .before .before .args .self) (c .before .before .before .is-damaged .ensures) (c .before .before .if1 .left),
   c .carried .ensures,
-  c .before .go-reset .ensures,
+  c .before .reset-state .ensures,
 )
 
 pub reset-spec : {M : Type 1} → statement M
@@ -36,8 +36,8 @@ reset-spec =
     tie.close
     (tie.spec
     is-damaged-requires
-    refuse-requires
+    refused-requires
     returns
-    go-reset-requires
+    reset-state-requires
     carried-requires
     returns-2)

@@ -7,6 +7,7 @@ use mathlib.Core.List.{List, [], _∷_}
 use types.Run.{OneOf, miss}
 use denote.Enum.Declared.{tagOf}
 use Rattle.common.specs.Pick.{pick}
+use Rattle.common.specs.Refusals.{linkNotAwaited}
 use Rattle.link.specs.declared.state.Phase.{Phase}
 use Rattle.link.specs.declared.state.Phase.the-variants.{Collecting, AckOffered, Sending, GoOffered, DataAwaited, ResultAwaited, EndOffered}
 use Rattle.link.specs.declared.state.Body.{Body}
@@ -22,10 +23,10 @@ use Rattle.controller.proofs.controller.Controller.taken.Tie as tie
 abbrev six : List ℕ
 six = 0 ∷ 2 ∷ 3 ∷ 4 ∷ 5 ∷ 6 ∷ []
 
-others : (c : Controller) (b : Body) (phase : Phase) → OneOf six (tagOf the-type phase) → takenIn c b phase ≡ refused 2 c
+others : (c : Controller) (b : Body) (phase : Phase) → OneOf six (tagOf the-type phase) → takenIn c b phase ≡ refused linkNotAwaited c
 unfolding takenIn
-others c b Collecting key = refl
-others c b AckOffered key = absurd (miss six 1 tt key)
+others c b (Collecting s) key = refl
+others c b (AckOffered s) key = absurd (miss six 1 tt key)
 others c b (Sending send) key = refl
 others c b (GoOffered store) key = refl
 others c b (DataAwaited store) key = refl
@@ -35,28 +36,28 @@ others c b (EndOffered interrupt) key = refl
 is-damaged-requires : tie.Need-is-damaged-requires
 is-damaged-requires c κs = search needs
 
-refuse-requires : tie.Need-refuse-requires
-refuse-requires c κs = search needs
+refused-requires : tie.Need-refused-requires
+refused-requires c κs = search needs
 
 returns : tie.Need-returns
 unfolding takenCall pick
-returns c = rw (damaged (c .before .before .before .args .self) (c .before .before .is-damaged .ensures) (c .before .if1 .taken), c .refuse .ensures)
+returns c = rw (damaged (c .before .before .before .args .self) (c .before .before .is-damaged .ensures) (c .before .if1 .taken), c .refused .ensures)
 
-enum-told : tie.Need-enum-told
-enum-told c = search needs
+enum-known-phase : tie.Need-enum-known-phase
+enum-known-phase c = search needs
 
-refuse-requires-2 : tie.Need-refuse-requires-2
-refuse-requires-2 c κs = search needs
+refused-requires-2 : tie.Need-refused-requires-2
+refused-requires-2 c κs = search needs
 
 returns-2 : tie.Need-returns-2
 unfolding takenCall pick
 returns-2 c =
     let e = c .before .before in
     let s = e .before .before .args .self in
-    rw (undamaged (e .before .before .args .self) (e .before .is-damaged .ensures) (e .if1 .left), others s (s .body) (s .phase) (c .before .match .keys2), c .refuse2 .ensures)
+    rw (undamaged (e .before .before .args .self) (e .before .is-damaged .ensures) (e .if1 .left), others s (s .body) (s .phase) (c .before .match .keys2), c .refused2 .ensures)
 
-taken-body-requires : tie.Need-taken-body-requires
-taken-body-requires c κs = search needs
+carry-out-string-requires : tie.Need-carry-out-string-requires
+carry-out-string-requires c κs = search needs
 
 carried-requires : tie.Need-carried-requires
 carried-requires c κs = search needs
@@ -64,13 +65,13 @@ carried-requires c κs = search needs
 returns-3 : tie.Need-returns-3
 unfolding takenCall takenIn pick
 returns-3 c =
-    let t = c .before .before in
+    let t = c .before .before .before in
     let e = t .before .before in
     rw (
       undamaged (e .before .before .args .self) (e .before .is-damaged .ensures) (e .if1 .left),
-      t .enum-told .given .1,
+      t .phase .given .1,
       c .carried .ensures,
-      c .before .taken-body .ensures,
+      c .before .carry-out-string .ensures,
     )
 
 pub taken-spec : {M : Type 1} → statement M
@@ -78,11 +79,11 @@ taken-spec =
     tie.close
     (tie.spec
     is-damaged-requires
-    refuse-requires
+    refused-requires
     returns
-    enum-told
-    refuse-requires-2
+    enum-known-phase
+    refused-requires-2
     returns-2
-    taken-body-requires
+    carry-out-string-requires
     carried-requires
     returns-3)

@@ -8,6 +8,7 @@ use mathlib.Core.List.{List, [], _∷_}
 use types.Run.{OneOf, miss}
 use denote.Enum.Declared.{tagOf}
 use Rattle.common.specs.Pick.{pick}
+use Rattle.common.specs.Refusals.{notIdle}
 use Rattle.link.specs.declared.state.Phase.{Phase}
 use Rattle.link.specs.declared.state.Phase.the-variants.{Collecting, AckOffered, Sending, GoOffered, DataAwaited, ResultAwaited, EndOffered}
 use Rattle.link.specs.declared.state.Body.{Body}
@@ -23,10 +24,10 @@ use Rattle.controller.proofs.controller.Controller.tick.Tie as tie
 abbrev six : List ℕ
 six = 1 ∷ 2 ∷ 3 ∷ 4 ∷ 5 ∷ 6 ∷ []
 
-others : (c : Controller) (b : Body) (phase : Phase) → OneOf six (tagOf the-type phase) → tickIn c b phase ≡ refused 4 c
+others : (c : Controller) (b : Body) (phase : Phase) → OneOf six (tagOf the-type phase) → tickIn c b phase ≡ refused notIdle c
 unfolding tickIn
-others c b Collecting key = absurd (miss six 0 tt key)
-others c b AckOffered key = refl
+others c b (Collecting s) key = absurd (miss six 0 tt key)
+others c b (AckOffered s) key = refl
 others c b (Sending send) key = refl
 others c b (GoOffered store) key = refl
 others c b (DataAwaited store) key = refl
@@ -36,25 +37,25 @@ others c b (EndOffered interrupt) key = refl
 is-damaged-requires : tie.Need-is-damaged-requires
 is-damaged-requires c κs = search needs
 
-refuse-requires : tie.Need-refuse-requires
-refuse-requires c κs = search needs
+refused-requires : tie.Need-refused-requires
+refused-requires c κs = search needs
 
 returns : tie.Need-returns
 unfolding tickCall pick
-returns c = rw (damaged (c .before .before .before .args .self) (c .before .before .is-damaged .ensures) (c .before .if1 .taken), c .refuse .ensures)
+returns c = rw (damaged (c .before .before .before .args .self) (c .before .before .is-damaged .ensures) (c .before .if1 .taken), c .refused .ensures)
 
-enum-told : tie.Need-enum-told
-enum-told c = search needs
+enum-known-phase : tie.Need-enum-known-phase
+enum-known-phase c = search needs
 
-refuse-requires-2 : tie.Need-refuse-requires-2
-refuse-requires-2 c κs = search needs
+refused-requires-2 : tie.Need-refused-requires-2
+refused-requires-2 c κs = search needs
 
 returns-2 : tie.Need-returns-2
 unfolding tickCall pick
 returns-2 c =
     let e = c .before .before in
     let s = e .before .before .args .self in
-    rw (undamaged (e .before .before .args .self) (e .before .is-damaged .ensures) (e .if1 .left), others s (s .body) (s .phase) (c .before .match .keys2), c .refuse2 .ensures)
+    rw (undamaged (e .before .before .args .self) (e .before .is-damaged .ensures) (e .if1 .left), others s (s .body) (s .phase) (c .before .match .keys2), c .refused2 .ensures)
 
 idle-tick-requires : tie.Need-idle-tick-requires
 idle-tick-requires c κs = search needs
@@ -66,29 +67,29 @@ returns-3 : tie.Need-returns-3
 unfolding tickCall tickIn pick
 returns-3 c =
     let i = c .before .before in
-    let t = i .before .before in
+    let t = i .before .before .before in
     let e = t .before .before in
     rw (
       undamaged (e .before .before .args .self) (e .before .is-damaged .ensures) (e .if1 .left),
-      t .enum-told .given .1,
+      t .phase .given .1,
       eq-eqb _ _ (i .if2 .taken),
       c .carried .ensures,
       c .before .idle-tick .ensures,
     )
 
-refuse-requires-3 : tie.Need-refuse-requires-3
-refuse-requires-3 c κs = search needs
+refused-requires-3 : tie.Need-refused-requires-3
+refused-requires-3 c κs = search needs
 
 returns-4 : tie.Need-returns-4
 unfolding tickCall tickIn pick
 returns-4 c =
     let i = c .before in
-    let t = i .before .before in
+    let t = i .before .before .before in
     let e = t .before .before in
     rw (
-      c .refuse3 .ensures,
+      c .refused3 .ensures,
       undamaged (e .before .before .args .self) (e .before .is-damaged .ensures) (e .if1 .left),
-      t .enum-told .given .1,
+      t .phase .given .1,
       ne-eqb _ _ (i .if2 .left),
     )
 
@@ -97,13 +98,13 @@ tick-spec =
     tie.close
     (tie.spec
     is-damaged-requires
-    refuse-requires
+    refused-requires
     returns
-    enum-told
-    refuse-requires-2
+    enum-known-phase
+    refused-requires-2
     returns-2
     idle-tick-requires
     carried-requires
     returns-3
-    refuse-requires-3
+    refused-requires-3
     returns-4)

@@ -1,0 +1,59 @@
+-- The refusals of the calls: document 01's numbers and words (Turned back). "Lowest number first".
+-- Assumes nothing.
+use Prim.Native.Nat.{ℕ}
+
+-- not refused
+abbrev pub done : ℕ
+done = 0
+
+-- ---- "From the state"
+
+-- "1 a field out of range"
+abbrev pub stateDamaged : ℕ
+stateDamaged = 1
+
+-- "2 link call while data or result is awaited, or taken with no ACK offered"
+abbrev pub linkNotAwaited : ℕ
+linkNotAwaited = 2
+
+-- "3 data or result not awaited"
+abbrev pub transferNotAwaited : ℕ
+transferNotAwaited = 3
+
+-- "4 tick when not idle"
+abbrev pub notIdle : ℕ
+notIdle = 4
+
+-- ---- "From the input"
+
+-- "5 drive above 3"
+abbrev pub noSuchDrive : ℕ
+noSuchDrive = 5
+
+-- "6 check store not 512"
+abbrev pub checkStoreLength : ℕ
+checkStoreLength = 6
+
+-- "7 code not listed"
+abbrev pub codeNotListed : ℕ
+codeNotListed = 7
+
+-- "8 mark flag against its rule, or late flags above 3"
+abbrev pub flagsAgainstRule : ℕ
+flagsAgainstRule = 8
+
+-- "9 count above 16,384 or wrong length of image or marks"
+abbrev pub wrongLength : ℕ
+wrongLength = 9
+
+-- "10 mark value"
+abbrev pub markValue : ℕ
+markValue = 10
+
+-- "11 the data call's or builder's image space, or the restorer's output space, short"
+abbrev pub spaceShort : ℕ
+spaceShort = 11
+
+-- "12 restorer: two bad of one parity"
+abbrev pub unrestorable : ℕ
+unrestorable = 12

@@ -1,0 +1,34 @@
+// The refusals of the calls: document 01's numbers and words ("Turned back"). Where more than one holds, the lowest is given.
+
+// Not refused.
+pub const DONE: u32 = 0;
+
+// From the state.
+
+// "a field out of range"
+pub const STATE_DAMAGED: u32 = 1;
+// "link call while data or result is awaited, or taken with no ACK offered"
+pub const LINK_NOT_AWAITED: u32 = 2;
+// "data or result not awaited"
+pub const TRANSFER_NOT_AWAITED: u32 = 3;
+// "tick when not idle"
+pub const NOT_IDLE: u32 = 4;
+
+// From the input.
+
+// "drive above 3"
+pub const NO_SUCH_DRIVE: u32 = 5;
+// "check store not 512"
+pub const CHECK_STORE_LENGTH: u32 = 6;
+// "code not listed"
+pub const CODE_NOT_LISTED: u32 = 7;
+// "mark flag against its rule, or late flags above 3"
+pub const FLAGS_AGAINST_RULE: u32 = 8;
+// "count above 16,384 or wrong length of image or marks"
+pub const WRONG_LENGTH: u32 = 9;
+// "mark value"
+pub const MARK_VALUE: u32 = 10;
+// "the data call's or builder's image space, or the restorer's output space, short"
+pub const SPACE_SHORT: u32 = 11;
+// "restorer: two bad of one parity"
+pub const UNRESTORABLE: u32 = 12;

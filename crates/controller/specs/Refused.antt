@@ -1,0 +1,44 @@
+-- A refused call: "state and buffers unchanged, no action" (document 01, Turned back). Of any call, in any state, damaged ones included.
+-- Assumes nothing.
+use mathlib.Core.Path.{_≡_}
+use Prim.Native.Nat.{ℕ}
+use mathlib.Core.List.{List, []}
+use Rattle.link.specs.declared.state.Action.the-variants.{Nothing}
+use Rattle.controller.specs.declared.controller.Controller.{Controller}
+use Rattle.controller.specs.Records.{Answer}
+use Rattle.controller.specs.Machine.{Call}
+use Rattle.controller.specs.Machine.Call.{byte, taken, broken, report, hostData, result, tick, reset}
+
+-- the space that a call is lent; the calls that are lent nothing have none
+unfoldable pub lentSpace : Call → List ℕ
+lentSpace (hostData host space check) = space
+lentSpace (result r space check) = space
+lentSpace (byte b) = []
+lentSpace taken = []
+lentSpace broken = []
+lentSpace (report drive r) = []
+lentSpace tick = []
+lentSpace reset = []
+
+-- the check store, "lent to data and result calls only"
+unfoldable pub lentCheck : Call → List ℕ
+lentCheck (hostData host space check) = check
+lentCheck (result r space check) = check
+lentCheck (byte b) = []
+lentCheck taken = []
+lentCheck broken = []
+lentCheck (report drive r) = []
+lentCheck tick = []
+lentCheck reset = []
+
+-- "state and buffers unchanged, no action": and no byte is given
+pub record Unchanged (c : Controller) (call : Call) (answer : Answer) : Type 0 where
+  pub state : answer .reply .controller ≡ c
+  pub action : answer .reply .action ≡ Nothing
+  pub bytes : answer .bytes ≡ 0
+  pub space : answer .space ≡ lentSpace call
+  pub check : answer .check ≡ lentCheck call
+
+-- of an answer, whatever its refusal is
+abbrev pub RefusedUnchanged : Controller → Call → Answer → Type 0
+RefusedUnchanged c call answer = (answer .reply .refusal ≡ 0 → ⊥) → Unchanged c call answer

@@ -1,0 +1,83 @@
+-- `lines::play::call_answer` meets its contract: by the call.
+-- Assumes nothing.
+use Rattle.lines.specs.Play.{callAnswer}
+use Rattle.lines.proofs.PlayLaws.{take-least, length-least}
+use borrow.Author.Needs.{needs}
+use Rattle.lines.proofs.play.call_answer.Statement.{statement}
+use Rattle.lines.proofs.play.call_answer.Tie as tie
+
+enum-known-call : tie.Need-enum-known-call
+enum-known-call c = search needs
+
+plain-reply-requires : tie.Need-plain-reply-requires
+plain-reply-requires c κs = search needs
+
+enum-known-call-2 : tie.Need-enum-known-call-2
+enum-known-call-2 c = search needs
+
+least-requires : tie.Need-least-requires
+least-requires c κs = search needs
+
+slice-aggregate-data : tie.Need-slice-aggregate-data
+slice-aggregate-data c =
+    let l = c .before in
+    length-least (l .before .before .before .before .before .before .before .before .args .bytes .now) _ _ (l .least .ensures)
+
+data-requires : tie.Need-data-requires
+data-requires c κs = search needs
+
+enum-known-call-3 : tie.Need-enum-known-call-3
+enum-known-call-3 c = search needs
+
+fields-answer-requires : tie.Need-fields-answer-requires
+fields-answer-requires c κs = search needs
+
+returns : tie.Need-returns
+unfolding callAnswer
+returns c = simp (c .plain-reply .ensures, c .before .before .call .given .1)
+
+same-length : tie.Need-same-length
+same-length c = search needs
+
+same-length-2 : tie.Need-same-length-2
+same-length-2 c = search needs
+
+returns-2 : tie.Need-returns-2
+unfolding callAnswer
+returns-2 c =
+    let d = c .before .before .before .before in
+    let l = d .before .before .before .before in
+    let a = l .before .before .before .before .before .before .before .before .args in
+    simp (d .«data» .ensures, take-least (a .bytes .now) _ _ (l .least .ensures), l .before .before .call2 .given .1)
+
+same-length-3 : tie.Need-same-length-3
+same-length-3 c = search needs
+
+same-length-4 : tie.Need-same-length-4
+same-length-4 c = search needs
+
+returns-3 : tie.Need-returns-3
+unfolding callAnswer
+returns-3 c =
+    let f = c .before .before .before .before in
+    simp (f .fields-answer .ensures, f .before .before .before .before .call3 .given .1)
+
+pub call-answer-spec : {M : Type 1} → statement M
+call-answer-spec =
+    tie.close
+    (tie.spec
+    enum-known-call
+    plain-reply-requires
+    enum-known-call-2
+    least-requires
+    slice-aggregate-data
+    data-requires
+    enum-known-call-3
+    fields-answer-requires
+    returns
+    same-length
+    same-length-2
+    returns-2
+    same-length-3
+    same-length-4
+    returns-3)

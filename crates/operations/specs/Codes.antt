@@ -1,0 +1,36 @@
+-- The codes that the controller itself gives (document 01, Stores; Records); the others come with a result. Their names are those of source
+-- document 001.
+-- Assumes nothing.
+use Prim.Native.Nat.{ℕ}
+
+-- "a named drive above 3 is code 01"
+abbrev pub illegalDrive : ℕ
+illegalDrive = 0x01
+
+-- "1, 2, 7: code 02"; "others code 02"; "Above 16,384 is code 02."
+abbrev pub illegalStore : ℕ
+illegalStore = 0x02
+
+-- "04-07 code 03"
+abbrev pub illegalTrack : ℕ
+illegalTrack = 0x03
+
+-- "Code 04 unless: .."
+abbrev pub illegalMotion : ℕ
+illegalMotion = 0x04
+
+-- "A write offers GO; a no is code 05"
+abbrev pub noGo : ℕ
+noGo = 0x05
+
+-- "none is installed, code 7 replaces the code"
+abbrev pub offline : ℕ
+offline = 0x07
+
+-- "At most one of each parity: code 15"
+abbrev pub recoverable : ℕ
+recoverable = 0x15
+
+-- "Else 16"
+abbrev pub unrecoverable : ℕ
+unrecoverable = 0x16

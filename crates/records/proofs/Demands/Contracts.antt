@@ -1,0 +1,174 @@
+-- What the contracts of the C functions that are lent space allow, as the toolchain reads them (`Post`): of the strings handed in, the refusal, and
+-- what the space holds afterwards, with slices at any place and of any lifetime. And the functions meet their contracts (`Meet`).
+-- Assumes nothing.
+use mathlib.Core.Path.{_≡_, refl, sym, ap, ap₂, subst, _∙_}
+use mathlib.Core.List.{List, []}
+use contract.Lifetimes.{Lfts}
+use denote.Ref.{RefT, now, at-last}
+use Prim.Native.Nat.{ℕ, _≤_}
+use native.Mathlib.Omega.{arith}
+use lib.ListN.{length, take}
+use lib.Seq.{take-at}
+use borrow.Author.Tests.{le-ltb, ltb-false}
+use Rattle.common.specs.Given.{given}
+use Rattle.common.proofs.PickLaws.{pick-no, not-refused, where-done}
+use Rattle.records.specs.Count.{limit}
+use Rattle.records.specs.Image.{imageOf, imageLength}
+use Rattle.records.specs.Build.{buildRefusal, buildInto}
+use Rattle.records.specs.Restore.{restoreRefusal, restoreInto}
+use Rattle.records.specs.Interface.{scanRefusal, scanInto}
+use Rattle.records.proofs.ImageLaws.{image-length, image-alike}
+use Rattle.records.proofs.interface.ctc_build.Reads as build-reads
+use Rattle.records.proofs.interface.ctc_restore.Reads as restore-reads
+use Rattle.records.proofs.interface.ctc_scan.Reads as scan-reads
+use Rattle.records.proofs.interface.ctc_build.Met as build-met
+use Rattle.records.proofs.interface.ctc_build.Statement as build-statement
+use Rattle.records.proofs.interface.ctc_restore.Met as restore-met
+use Rattle.records.proofs.interface.ctc_restore.Statement as restore-statement
+use Rattle.records.proofs.interface.ctc_image_length.Met as length-met
+use Rattle.records.proofs.interface.ctc_image_length.Statement as length-statement
+use Rattle.records.proofs.interface.ctc_mark_count.Met as marks-met
+use Rattle.records.proofs.interface.ctc_mark_count.Statement as marks-statement
+use Rattle.records.proofs.interface.ctc_image_count.Met as count-met
+use Rattle.records.proofs.interface.ctc_image_count.Statement as count-statement
+use Rattle.records.proofs.interface.ctc_scan.Met as scan-met
+use Rattle.records.proofs.interface.ctc_scan.Statement as scan-statement
+
+-- ---- what the contracts allow
+
+pub record BuildAllows (bytes : List ℕ) (density : ℕ) (space : List ℕ) (refusal : ℕ) (after : List ℕ) : Type 0 where
+  pub lifetimes : Lfts 2
+  pub bytes-slice : RefT (List ℕ)
+  pub space-slice : RefT (List ℕ)
+  pub holds-bytes : now bytes-slice ≡ bytes
+  pub holds-space : now space-slice ≡ space
+  pub promise :
+      build-reads.Post lifetimes (bytes-slice, (density, (space-slice, tt))) refusal (bytes-slice, (density, (at-last space-slice after, tt)))
+
+pub record RestoreAllows (image marks space : List ℕ) (refusal : ℕ) (after : List ℕ) : Type 0 where
+  pub lifetimes : Lfts 3
+  pub image-slice : RefT (List ℕ)
+  pub marks-slice : RefT (List ℕ)
+  pub space-slice : RefT (List ℕ)
+  pub holds-image : now image-slice ≡ image
+  pub holds-marks : now marks-slice ≡ marks
+  pub holds-space : now space-slice ≡ space
+  pub promise :
+      restore-reads.Post lifetimes (image-slice, (marks-slice, (space-slice, tt))) refusal
+      (image-slice, (marks-slice, (at-last space-slice after, tt)))
+
+pub record ScanAllows (marks space : List ℕ) (refusal : ℕ) (after : List ℕ) : Type 0 where
+  pub lifetimes : Lfts 2
+  pub marks-slice : RefT (List ℕ)
+  pub space-slice : RefT (List ℕ)
+  pub holds-marks : now marks-slice ≡ marks
+  pub holds-space : now space-slice ≡ space
+  pub promise : scan-reads.Post lifetimes (marks-slice, (space-slice, tt)) refusal (marks-slice, (at-last space-slice after, tt))
+
+-- an allowed answer is that of the definitions
+pub builds-are-defined : (bytes : List ℕ) (density : ℕ) (space : List ℕ) (refusal : ℕ) (after : List ℕ) → BuildAllows bytes density space refusal after
+    → (refusal ≡ buildRefusal (length bytes) density (length space)) × (after ≡ buildInto bytes density space)
+builds-are-defined bytes density space refusal after allowed = (
+  allowed .promise .0 ∙ ap₂ (λ (b s : List ℕ). buildRefusal (length b) density (length s)) (allowed .holds-bytes) (allowed .holds-space),
+  allowed .promise .1 ∙ ap₂ (λ (b s : List ℕ). buildInto b density s) (allowed .holds-bytes) (allowed .holds-space),
+)
+
+pub restores-are-defined : (image marks space : List ℕ) (refusal : ℕ) (after : List ℕ) → RestoreAllows image marks space refusal after
+    → (refusal ≡ restoreRefusal image marks (length space)) × (after ≡ restoreInto image marks space)
+restores-are-defined image marks space refusal after allowed =
+    let i = allowed .holds-image in
+    let s = allowed .holds-space in (
+      allowed .promise .0
+          ∙ ap₂ (λ (m o : List ℕ). restoreRefusal (now (allowed .image-slice)) m (length o)) (allowed .holds-marks) s
+          ∙ ap (λ (l : List ℕ). restoreRefusal l marks (length space)) i,
+      allowed .promise .1
+          ∙ ap₂ (λ (m o : List ℕ). restoreInto (now (allowed .image-slice)) m o) (allowed .holds-marks) s
+          ∙ ap (λ (l : List ℕ). restoreInto l marks space) i,
+    )
+
+pub scans-are-defined : (marks space : List ℕ) (refusal : ℕ) (after : List ℕ) → ScanAllows marks space refusal after
+    → (refusal ≡ scanRefusal (length space)) × (after ≡ scanInto marks space)
+scans-are-defined marks space refusal after allowed = (
+  allowed .promise .0 ∙ ap (λ (s : List ℕ). scanRefusal (length s)) (allowed .holds-space),
+  allowed .promise .1 ∙ ap₂ scanInto (allowed .holds-marks) (allowed .holds-space),
+)
+
+-- and that answer is allowed
+abbrev somewhere : List ℕ → RefT (List ℕ)
+somewhere bytes = record { ptr = (0, 0); name = 0; now = bytes }
+
+pub builds-are-allowed : (bytes : List ℕ) (density : ℕ) (space : List ℕ)
+    → BuildAllows bytes density space (buildRefusal (length bytes) density (length space)) (buildInto bytes density space)
+builds-are-allowed bytes density space =
+    record {
+      lifetimes = ([], ([], tt));
+      bytes-slice = somewhere bytes;
+      space-slice = somewhere space;
+      holds-bytes = refl;
+      holds-space = refl;
+      promise = (refl, refl);
+    }
+
+pub restores-are-allowed : (image marks space : List ℕ)
+    → RestoreAllows image marks space (restoreRefusal image marks (length space)) (restoreInto image marks space)
+restores-are-allowed image marks space =
+    record {
+      lifetimes = ([], ([], ([], tt)));
+      image-slice = somewhere image;
+      marks-slice = somewhere marks;
+      space-slice = somewhere space;
+      holds-image = refl;
+      holds-marks = refl;
+      holds-space = refl;
+      promise = (refl, refl);
+    }
+
+-- ---- the builder's answer 0
+
+-- what is known of it in GCR
+module _ (bytes : List ℕ) (density : ℕ) (space after : List ℕ) (gcr : density ≡ 0 → ⊥) (allowed : BuildAllows bytes density space 0 after) where
+  pub built-within : length bytes ≤ limit
+  unfolding buildRefusal
+  built-within = ltb-false _ _ (not-refused _ _ _ (λ r. omega arith) (sym (builds-are-defined bytes density space 0 after allowed .0)) .0)
+
+  -- its image stands at the start of the space
+  pub built-image : take (imageLength (length bytes) density) after ≡ imageOf bytes 1
+  unfolding buildInto given
+  built-image =
+      let promised = builds-are-defined bytes density space 0 after allowed in
+      ap (λ (l : List ℕ). take (imageLength (length bytes) density) l) (promised .1 ∙ where-done _ _ _ (sym (promised .0)))
+      ∙ take-at (imageOf bytes density) _ (imageLength (length bytes) density) (image-length bytes density)
+      ∙ image-alike density gcr bytes
+
+-- and it gives that answer where the bytes are within the limit and the image fits
+pub builds-within : (bytes : List ℕ) (density : ℕ) (space : List ℕ) → length bytes ≤ limit → imageLength (length bytes) density ≤ length space
+    → BuildAllows bytes density space 0 (buildInto bytes density space)
+unfolding buildRefusal
+builds-within bytes density space within room =
+    let c = length bytes in
+    let accepted : buildRefusal c density (length space) ≡ 0 =
+    pick-no 9 _ (le-ltb limit c within) ∙ pick-no 11 0 (le-ltb (length space) (imageLength c density) room)
+    in
+    subst (λ (r : ℕ). BuildAllows bytes density space r (buildInto bytes density space)) accepted (builds-are-allowed bytes density space)
+
+-- ---- the functions
+
+-- each C function meets its contract
+pub record Meet (M : Type 1) : Type 2 where
+  pub build : build-statement.statement M
+  pub restore : restore-statement.statement M
+  pub image-length : length-statement.statement M
+  pub mark-count : marks-statement.statement M
+  pub image-count : count-statement.statement M
+  pub scan : scan-statement.statement M
+
+pub all-met : {M : Type 1} → Meet M
+all-met =
+    record {
+      build = build-met.met;
+      restore = restore-met.met;
+      image-length = length-met.met;
+      mark-count = marks-met.met;
+      image-count = count-met.met;
+      scan = scan-met.met;
+    }

@@ -1,0 +1,103 @@
+-- `transfers::data::put_write_image` meets its contract: the host bytes that are counted, filled to the count, are the record.
+-- Assumes nothing.
+use borrow.Author.Needs.{needs}
+use mathlib.Core.List.{List}
+use mathlib.Core.Path.{_≡_, sym, ap, _∙_}
+use Prim.Native.Nat.{ℕ, _≤_}
+use native.Mathlib.Omega.{arith}
+use lib.ListN.{length, length-take, length-drop}
+use Rattle.records.specs.Count.{limit}
+use Rattle.records.specs.Image.{imageLength, imageOf}
+use Rattle.transfers.specs.Data.{recordBytes}
+use Rattle.transfers.proofs.DataLaws.{record-image-length, record-part, image-given}
+use Rattle.transfers.proofs.data.put_write_image.Statement.{statement}
+use Rattle.transfers.proofs.data.put_write_image.Tie as tie
+
+-- the image fits
+room : (c : tie.After-image-length) → c .image-length .result ≤ length (c .before .before .before .before .before .before .before .args .space .now)
+room c =
+    let h = c .before .before .before .before in
+    let e = h .before .before .before in
+    rw (c .image-length .ensures, h .held-count .ensures) (e .pre .1)
+
+held-count-requires : tie.Need-held-count-requires
+held-count-requires c κs = search needs
+
+cast-least : tie.Need-cast-least
+cast-least c = search needs
+
+least-requires : tie.Need-least-requires
+least-requires c κs = search needs
+
+add-least : tie.Need-add-least
+unfolding limit
+add-least c = omega arith
+
+least-requires-2 : tie.Need-least-requires-2
+least-requires-2 c κs = search needs
+
+image-length-requires : tie.Need-image-length-requires
+image-length-requires c κs = search needs
+
+sub-put-image : tie.Need-sub-put-image
+sub-put-image c = search needs
+
+part-put-image-start : tie.Need-part-put-image-start
+part-put-image-start c = search needs
+
+part-put-image-end : tie.Need-part-put-image-end
+part-put-image-end c = search needs
+
+slice-relend-prefix-put-image : tie.Need-slice-relend-prefix-put-image
+slice-relend-prefix-put-image c = room (c .before)
+
+slice-aggregate-put-image : tie.Need-slice-aggregate-put-image
+slice-aggregate-put-image c = simp length-take (omega (arith, room (c .before .before)))
+
+put-image-requires : tie.Need-put-image-requires
+put-image-requires c κs =
+    let i = c .before .before in
+    let h = i .before .before .before .before in
+    let e = h .before .before .before in (
+      rw (h .held-count .ensures) (e .pre .0),
+      (simp (length-take, length-drop) (omega arith), simp length-take (omega (arith, room i, i .image-length .ensures))),
+    )
+
+same-length : tie.Need-same-length
+same-length c = search needs
+
+returns : tie.Need-returns
+returns c =
+    let p = c .before .before in
+    let i = p .before .before .before in
+    let l2 = i .before in
+    let l1 = l2 .before in
+    let h = l1 .before .before in
+    let e = h .before .before .before in
+    let store = e .args .store in
+    let host = e .args .host .now in
+    let density = e .args .density in
+    let long : i .image-length .result ≡ length (imageOf (recordBytes store host) density) =
+    i .image-length .ensures ∙ ap (λ (k : ℕ). imageLength k density) (h .held-count .ensures) ∙ sym (record-image-length store host density)
+    in
+    let is-image = p .put-image .ensures ∙ ap (λ (x : List ℕ). imageOf x density) (record-part store host _ _ _ (h .held-count .ensures) (l1 .least .ensures) (l2 .least2 .ensures)) in
+    (long, image-given (e .args .space .now) _ _ _ is-image long)
+
+pub put-write-image-spec : {M : Type 1} → statement M
+put-write-image-spec =
+    tie.close
+    (tie.spec
+    held-count-requires
+    cast-least
+    least-requires
+    add-least
+    least-requires-2
+    image-length-requires
+    sub-put-image
+    part-put-image-start
+    part-put-image-end
+    slice-relend-prefix-put-image
+    slice-aggregate-put-image
+    put-image-requires
+    same-length
+    returns)

@@ -1,0 +1,50 @@
+-- `transfers::expected::image_refusal` meets its contract: at each return the case that led there says which case holds.
+-- Assumes nothing.
+use borrow.Author.Needs.{needs}
+use Rattle.transfers.specs.Expected.{imageRefusal}
+use Rattle.transfers.proofs.expected.image_refusal.Statement.{statement}
+use Rattle.transfers.proofs.expected.image_refusal.Tie as tie
+
+enum-known-expected : tie.Need-enum-known-expected
+enum-known-expected c = search needs
+
+whole-refusal-requires : tie.Need-whole-refusal-requires
+whole-refusal-requires c κs = search needs
+
+enum-told : tie.Need-enum-told
+enum-told c = search needs
+
+count-refusal-requires : tie.Need-count-refusal-requires
+count-refusal-requires c κs = search needs
+
+enum-told-2 : tie.Need-enum-told-2
+enum-told-2 c = search needs
+
+empty-refusal-requires : tie.Need-empty-refusal-requires
+empty-refusal-requires c κs = search needs
+
+returns : tie.Need-returns
+unfolding imageRefusal
+returns c = simp (c .whole-refusal .ensures, c .before .before .expected .given .1)
+
+returns-2 : tie.Need-returns-2
+unfolding imageRefusal
+returns-2 c = simp (c .count-refusal .ensures, c .before .enum-told .given .1)
+
+returns-3 : tie.Need-returns-3
+unfolding imageRefusal
+returns-3 c = simp (c .empty-refusal .ensures, c .before .enum-told2 .given .1)
+
+pub image-refusal-spec : {M : Type 1} → statement M
+image-refusal-spec =
+    tie.close
+    (tie.spec
+    enum-known-expected
+    whole-refusal-requires
+    enum-told
+    count-refusal-requires
+    enum-told-2
+    empty-refusal-requires
+    returns
+    returns-2
+    returns-3)

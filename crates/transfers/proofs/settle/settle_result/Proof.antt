@@ -1,0 +1,73 @@
+-- `transfers::settle::settle_result` meets its contract: everything is told by one verdict, and what the test of the result says of its image
+-- lets each part be read.
+-- Assumes nothing.
+use borrow.Author.Needs.{needs}
+use Rattle.transfers.specs.Results.{settleResult}
+use Rattle.transfers.proofs.ResultLaws.{result-passed}
+use Rattle.transfers.proofs.settle.settle_result.Statement.{statement}
+use Rattle.transfers.proofs.settle.settle_result.Tie as tie
+
+verdict-of-requires : tie.Need-verdict-of-requires
+verdict-of-requires c κs =
+    let e = c .before .before .before .before in
+    result-passed (e .args .drive) _ (e .args .operation) _ (e .pre) .two
+
+result-gap-requires : tie.Need-result-gap-requires
+result-gap-requires c κs = search needs
+
+delivered-bytes-requires : tie.Need-delivered-bytes-requires
+delivered-bytes-requires c κs =
+    let v = c .before .before in
+    let e = v .before .before .before .before .before in
+    let h = result-passed (e .args .drive) _ (e .args .operation) _ (e .pre) in
+    rw (v .verdict-of .ensures) (h .within, h .read)
+
+result-words-requires : tie.Need-result-words-requires
+result-words-requires c κs =
+    let v = c .before .before .before in
+    let e = v .before .before .before .before .before in
+    rw (v .verdict-of .ensures) (result-passed (e .args .drive) _ (e .args .operation) _ (e .pre) .within)
+
+put-fitting-requires : tie.Need-put-fitting-requires
+put-fitting-requires c κs = search needs
+
+put-result-check-requires : tie.Need-put-result-check-requires
+put-result-check-requires c κs =
+    let d = c .before .before .before .before .before .before in
+    let v = d .before .before .before in
+    let e = v .before .before .before .before .before in
+    let h = result-passed (e .args .drive) _ (e .args .operation) _ (e .pre) in
+    rw (v .verdict-of .ensures) (h .within, (h .store, h .checked))
+
+same-length : tie.Need-same-length
+same-length c = search needs
+
+same-length-2 : tie.Need-same-length-2
+same-length-2 c = search needs
+
+returns : tie.Need-returns
+unfolding settleResult
+returns c =
+    let k = c .before .before in
+    let g = k .before .before .before .before in
+    let m = g .before .before in
+    let d = m .before in
+    let r = d .before .before in
+    let v = r .before in (
+      simp (m .result-words .ensures, r .result-gap .ensures, g .put-fitting .ensures .0, d .delivered-bytes .ensures, v .verdict-of .ensures),
+      (simp (g .put-fitting .ensures .1, d .delivered-bytes .ensures, v .verdict-of .ensures), simp (k .put-result-check .ensures, v .verdict-of .ensures)),
+    )
+
+pub settle-result-spec : {M : Type 1} → statement M
+settle-result-spec =
+    tie.close
+    (tie.spec
+    verdict-of-requires
+    result-gap-requires
+    delivered-bytes-requires
+    result-words-requires
+    put-fitting-requires
+    put-result-check-requires
+    same-length
+    same-length-2
+    returns)

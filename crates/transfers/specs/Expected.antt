@@ -1,0 +1,52 @@
+-- What a result brings, and the test of it (document 01, Records, "Result"; Turned back, 9 and 10).
+-- Assumes nothing.
+use Prim.Native.Nat.{ℕ}
+use mathlib.Core.Bool.{Bool, not, _&&_, _||_}
+use mathlib.Core.List.{List}
+use lib.Dec.{ltb, eqb}
+use lib.ListN.{length}
+use Rattle.common.specs.Pick.{pick}
+use Rattle.common.specs.Refusals.{done, wrongLength}
+use Rattle.records.specs.Count.{limit, countOf}
+use Rattle.records.specs.Whole.{wholeRefusal}
+use Rattle.status.specs.Drives.{mfm}
+use Rattle.operations.specs.declared.operation.Operation.{Operation}
+use Rattle.operations.specs.declared.operation.Operation.the-variants.{SkipReverse}
+use Rattle.operations.specs.Operation.{sameOperation}
+use Rattle.transfers.specs.declared.expected.Expected.{Expected}
+use Rattle.transfers.specs.declared.expected.Expected.the-variants.{Whole, Count, Nothing}
+use Rattle.operations.specs.Operation.{bringsRecord}
+
+-- "code 0, 10, 11 or 12"
+unfoldable pub wholeCode : ℕ → Bool
+wholeCode code = eqb code 0 || (eqb code 0x10 || (eqb code 0x11 || eqb code 0x12))
+
+-- "The image is whole for a read or forward skip with code 0, 10, 11 or 12 and no mark"
+unfoldable pub expectedWhole : ℕ → ℕ → Bool → Expected
+expectedWhole density code mark = pick (wholeCode code && not mark) (Whole density) Nothing
+
+-- "..; two count bytes for a GCR reverse skip with code 0 and no mark"
+abbrev pub expectedCount : ℕ → ℕ → Bool → Expected
+expectedCount density code mark = pick (not (eqb density mfm) && (eqb code 0 && not mark)) Count Nothing
+
+-- "..; else image and marks are empty."
+unfoldable pub expectedOf : Operation → ℕ → ℕ → Bool → Expected
+expectedOf operation density code mark =
+    pick (bringsRecord operation) (expectedWhole density code mark)
+    (pick (sameOperation operation SkipReverse) (expectedCount density code mark) Nothing)
+
+-- "two count bytes", and no marks: "9 count above 16,384 or wrong length of image or marks"
+unfoldable pub countRefusal : List ℕ → List ℕ → ℕ
+countRefusal image marks =
+    pick (not (eqb (length image) 2)) wrongLength
+    (pick (ltb limit (countOf image)) wrongLength (pick (eqb (length marks) 0) done wrongLength))
+
+-- "image and marks are empty"
+unfoldable pub emptyRefusal : List ℕ → List ℕ → ℕ
+emptyRefusal image marks = pick (not (eqb (length image) 0)) wrongLength (pick (eqb (length marks) 0) done wrongLength)
+
+-- what is expected decides
+unfoldable pub imageRefusal : List ℕ → List ℕ → Expected → ℕ
+imageRefusal image marks (Whole density) = wholeRefusal image marks density
+imageRefusal image marks Count = countRefusal image marks
+imageRefusal image marks Nothing = emptyRefusal image marks

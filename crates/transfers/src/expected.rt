@@ -1,0 +1,100 @@
+// What a result brings, by its operation, code and mark flag, and the test of it.
+use crate::verdict::Ending;
+use common::refusals::DONE;
+use common::refusals::WRONG_LENGTH;
+use operations::operation::Operation;
+use operations::operation::brings_record;
+use operations::operation::same_operation;
+use records::count::LIMIT;
+use records::count::count_of;
+use records::whole::whole_refusal;
+use status::drives::MFM;
+ghost use mathlib.Core.Path.{_≡_};
+ghost use Rattle.transfers.specs.Expected.{wholeCode, expectedWhole, expectedCount, expectedOf, countRefusal, emptyRefusal, imageRefusal};
+
+// What is to be handed in: a whole image of this density with its marks, two count bytes and no marks, or neither.
+pub enum Expected {
+    Whole(u8),
+    Count,
+    Nothing,
+}
+
+// The codes with which a read or a forward skip brings an image.
+fn whole_code(code: u8) -> bool
+    ensures { λ r. ⌜ r ≡ wholeCode code ⌝ }
+{
+    (code == 0) | ((code == 0x10) | ((code == 0x11) | (code == 0x12)))
+}
+
+// What a read or a forward skip brings.
+fn expected_whole(density: u8, ending: Ending) -> Expected
+    ensures { λ r. ⌜ r ≡ expectedWhole density (ending .code) (ending .mark) ⌝ }
+{
+    if whole_code(ending.code) & !ending.mark {
+        return Expected::Whole(density);
+    }
+    Expected::Nothing
+}
+
+// What a reverse skip brings.
+fn expected_count(density: u8, ending: Ending) -> Expected
+    ensures { λ r. ⌜ r ≡ expectedCount density (ending .code) (ending .mark) ⌝ }
+{
+    if (density != MFM) & ((ending.code == 0) & !ending.mark) {
+        return Expected::Count;
+    }
+    Expected::Nothing
+}
+
+// What an operation brings.
+pub fn expected_of(operation: Operation, density: u8, ending: Ending) -> Expected
+    ensures { λ r. ⌜ r ≡ expectedOf operation density (ending .code) (ending .mark) ⌝ }
+{
+    if brings_record(operation) {
+        return expected_whole(density, ending);
+    }
+    if same_operation(operation, Operation::SkipReverse) {
+        return expected_count(density, ending);
+    }
+    Expected::Nothing
+}
+
+// Two count bytes and no marks: 9 or 0.
+fn count_refusal(image: &[u8], marks: &[u8]) -> u32
+    ensures { λ r. ⌜ r ≡ countRefusal (now (image .entry)) (now (marks .entry)) ⌝ }
+{
+    if image.len() != 2 {
+        return WRONG_LENGTH;
+    }
+    if LIMIT < count_of(image) {
+        return WRONG_LENGTH;
+    }
+    if marks.len() == 0 {
+        return DONE;
+    }
+    WRONG_LENGTH
+}
+
+// Neither image nor marks: 9 or 0.
+fn empty_refusal(image: &[u8], marks: &[u8]) -> u32
+    ensures { λ r. ⌜ r ≡ emptyRefusal (now (image .entry)) (now (marks .entry)) ⌝ }
+{
+    if image.len() != 0 {
+        return WRONG_LENGTH;
+    }
+    if marks.len() == 0 {
+        return DONE;
+    }
+    WRONG_LENGTH
+}
+
+// What is expected: 9, 10, or 0.
+pub fn image_refusal(image: &[u8], marks: &[u8], expected: Expected) -> u32
+    ensures { λ r. ⌜ r ≡ imageRefusal (now (image .entry)) (now (marks .entry)) expected ⌝ }
+{
+    match expected {
+        Expected::Whole(density) => whole_refusal(image, marks, density),
+        Expected::Count => count_refusal(image, marks),
+        Expected::Nothing => empty_refusal(image, marks),
+    }
+}
