@@ -138,8 +138,8 @@ dataCall c host space check = pick (isSound (c .body) (c .phase)) (dataIn c (c .
 -- the result of an operation, by the drive that carried it out
 unfoldable pub resultFor : Controller → Body → Drive → Operation → Store → Result → List ℕ → List ℕ → Answer
 resultFor c b drive operation store r space check =
-    pick (eqb (resultRefusal drive operation r (length check)) 0) (resultDone b drive operation store r space check)
-    (unchanged (resultRefusal drive operation r (length check)) c space check)
+    pick (eqb (resultRefusal drive operation store r (length check)) 0) (resultDone b drive operation store r space check)
+    (unchanged (resultRefusal drive operation store r (length check)) c space check)
 
 -- "3 data or result not awaited"
 unfoldable pub resultIn : Controller → Body → Result → List ℕ → List ℕ → Phase → Answer

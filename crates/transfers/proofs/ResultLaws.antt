@@ -85,6 +85,7 @@ whole-long image marks density code mark =
 record Fits (image marks : List ℕ) (count : ℕ) : Type 0 where
   long : (length image ≡ 0 → ⊥) → length image ≡ imageLength count gcr
   few : count ≤ limit → length marks ≤ mostMarks
+  none : count ≡ 0 → length image ≡ 0
 
 supplied-fits : (image marks : List ℕ) (count code : ℕ) → imageRefusal image marks (expectedSupplied count code) ≡ 0 → Fits image marks count
 unfolding expectedSupplied imageRefusal
@@ -92,10 +93,14 @@ supplied-fits image marks count code =
     pick-by (λ (x : Expected). imageRefusal image marks x ≡ 0 → Fits image marks count) (eqb code 0 && not (eqb count 0))
     (λ brought e.
     let lies = laid image marks count gcr e in
-    record { long = λ some. lies .long; few = λ within. omega (arith, lies .marked, marks-most count gcr, blockettes-few count within) })
+    record {
+      long = λ some. lies .long;
+      few = λ within. omega (arith, lies .marked, marks-most count gcr, blockettes-few count within);
+      none = λ zero. absurd (eqb-false count 0 (not-true _ (both-hold (eqb code 0) (not (eqb count 0)) brought .1)) zero);
+    })
     (λ none e.
     let l = empty-none image marks e in
-    record { long = λ some. absurd (some (l .0)); few = λ within. omega (arith, l .1) })
+    record { long = λ some. absurd (some (l .0)); few = λ within. omega (arith, l .1); none = λ zero. l .0 })
 
 -- of two, the first where the second does not hold
 left-holds : (a b : Bool) → (a || b) ≡ true → b ≡ false → a ≡ true
@@ -188,15 +193,23 @@ module _ (drive : Drive) (r : Result) (operation : Operation) (store : Store) wh
       pub checked : verdict .renews ≡ true → verdict .used ≡ true → length (r .image) ≡ imageLength (verdict .count) 1
       pub read : isRead operation ≡ true → verdict .used ≡ true → 2 + verdict .count ≤ length (r .image)
 
-    pub result-passed : resultRefusal drive operation store r check ≡ 0 → suppliedCount operation store ≤ limit → Passed
-    unfolding resultRefusal suppliedCount
-    result-passed e within =
+    passed-image : resultRefusal drive operation store r check ≡ 0 → (check ≡ checkStore) × Passes
+    unfolding resultRefusal
+    passed-image e =
         let s = not-refused _ _ _ (λ z. omega arith) e in
         let l = not-refused _ _ _ (λ z. omega arith) (s .1) in
-        let m = not-refused _ _ _ (λ z. omega arith) (l .1) in
-        let passes : Passes = m .1 in
+        (eqb-true _ _ (not-false _ (s .0)), not-refused _ _ _ (λ z. omega arith) (l .1) .1)
+
+    -- with a supplied count of 0 there is no image
+    pub supplied-none : resultRefusal drive operation store r check ≡ 0 → suppliesCount operation ≡ true → heldCount store ≡ 0 → length (r .image) ≡ 0
+    supplied-none e supplies = record-fits (passed-image e .1) supplies .none
+
+    pub result-passed : resultRefusal drive operation store r check ≡ 0 → suppliedCount operation store ≤ limit → Passed
+    unfolding suppliedCount
+    result-passed e within =
+        let (lent, passes) = passed-image e in
         record {
-          lent = eqb-true _ _ (not-false _ (s .0));
+          lent = lent;
           two = two-bytes (r .image) (r .marks) _ passes;
           few = λ supplies. record-fits passes supplies .few (subst (λ (n : ℕ). n ≤ limit) (pick-yes _ _ supplies) within);
           within = count-within passes within;
