@@ -26,7 +26,7 @@ returns c =
     let g = c .before .before .before in
     let e = g .before .before .before .before in
     ap (λ (x : List ℕ). set x 0 torn) (g .give .ensures ∙ given-all (e .args .marks .now) (e .args .space .now) (omega (arith, e .pre)))
-    ∙ torn-first (e .args .marks .now) (c .if1 .taken)
+    ∙ torn-first (e .args .marks .now) (omega (arith, c .if1 .taken))
 
 same-length-2 : tie.Need-same-length-2
 same-length-2 c = search needs
