@@ -1,5 +1,5 @@
 -- Wherever bit 22 of primary is set, in the state or in what is sent, the count is that of the record that the last store carried out itself
--- passed or wrote (`counts-are-own`, over the definitions).
+-- passed or wrote, or that it supplied (`counts-are-own`, over the definitions).
 -- Assumes nothing.
 use mathlib.Core.Path.{_≡_, refl, sym, ap, ap₂, subst, subst₂, _∙_}
 use Prim.Native.Nat.{ℕ}

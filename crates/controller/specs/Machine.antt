@@ -1,4 +1,4 @@
--- The machine of document 01: its eight calls as one type, a step, and a run over a list of calls. "Calls: byte; taken; broken; report;
+-- The machine of document 01, with what document 02 asks for: its eight calls as one type, a step, and a run over a list of calls. "Calls: byte; taken; broken; report;
 -- data; result; tick; reset. The state goes in and the next state comes out, with one action or none".
 -- Assumes nothing.
 use Prim.Native.Nat.{ℕ}
