@@ -1,24 +1,25 @@
--- The starred bench cases of document 01 that speak of the machine, as one group over the definitions.
+-- The starred bench cases of document 01 that speak of the machine, and a torn record read with a supplied count (document 02, Wish 1), as one
+-- group over the definitions.
 -- Assumes nothing.
 use mathlib.Core.Path.{_≡_, refl}
 use mathlib.Core.Bool.{Bool, true, false}
 use mathlib.Core.List.{List, [], _∷_, _++_}
 use Prim.Native.Nat.{ℕ}
-use lib.ListN.{getD, replicate}
+use lib.ListN.{getD, drop, replicate}
 use Rattle.common.specs.Pick.{pick}
 use Rattle.common.specs.Given.{given, filled}
 use Rattle.blockettes.specs.Xor.{_⊕_, xorAll}
 use Rattle.blockettes.specs.Blockettes.{blocketteAt, numbered, ofParity, foldParity, checkOf}
-use Rattle.marks.specs.Marks.{legalMark, legalMarks, isError}
+use Rattle.marks.specs.Marks.{legalMark, legalMarks, isError, tornMarks}
 use Rattle.marks.specs.Scan.{scanFrom, scanMarks, kindOf, numberOf, defectAt, isFound, findingsOf}
 use Rattle.records.specs.Count.{limit, rotated, countBytes, unrotated, countOf}
 use Rattle.records.specs.Image.{blocketteCount, hasBlockettes, blockettesOf, bodyOf, imageOf, imageLength, markCount}
-use Rattle.records.specs.Whole.{wholeRefusal}
-use Rattle.transfers.specs.Expected.{wholeCode, expectedWhole, expectedOf, countRefusal, emptyRefusal, imageRefusal}
+use Rattle.records.specs.Whole.{layoutRefusal, wholeRefusal}
+use Rattle.transfers.specs.Expected.{wholeCode, expectedWhole, expectedSupplied, expectedOf, countRefusal, emptyRefusal, imageRefusal}
 use Rattle.operations.specs.Operation.{movesTape, isSearch, takesMark}
-use Rattle.operations.specs.Decode.{controlOf, readOf, writeOf, decodeOf}
+use Rattle.operations.specs.Decode.{controlOf, countedOf, readOf, decodeOf, inDensity}
 use Rattle.operations.specs.Test.{mayMove}
-use Rattle.operations.specs.Answers.{forwardCodes, reverseCodes, endCodes, listedCodes, isIn, answerOf}
+use Rattle.operations.specs.Answers.{forwardCodes, reverseCodes, endCodes, suppliedCodes, listedCodes, isIn, answerOf}
 use Rattle.operations.specs.After.{losesTape, motionOf, gapOf, gapAfter, retryOf}
 use Rattle.status.specs.Drives.{reports, withTrack, driveOf, withDrive, withReport, anyDiffers, copyReports, freshDrives, resetDrives}
 use Rattle.status.specs.Words.{bitOf, noOutcome, anyBit, primaryOf, secondaryWord, digitsOf, tertiaryOf, quintaryOf, reportsWord}
@@ -28,14 +29,14 @@ use Rattle.controller.specs.declared.controller.Controller.{Controller}
 use Rattle.link.specs.declared.state.Action.the-variants.{Nothing, Byte}
 use Rattle.link.specs.State.{storeOf, startBody, resetState, review, idle}
 use Rattle.link.specs.Completion.{primaryNow, sendWord, sendInterrupt, complete}
-use Rattle.operations.specs.Store.{asksInterrupt, namesDrive, namedDrive, namesUnknown, selectedBy, askedFor, thrownAway, heldCount}
-use Rattle.operations.specs.Course.{testOf, courseBy, courseOf}
+use Rattle.operations.specs.Store.{asksInterrupt, namesDrive, namedDrive, namesUnknown, selectedBy, askedFor, thrownAway, heldCount, suppliedCount}
+use Rattle.operations.specs.Course.{testOf, courseOf}
 use Rattle.link.specs.Link.{wholeLength, appendByte, loadXor, isGoodString, firstByte, lastByte, nextByte, yesToSend, giveUp, noToSend, noToGo, yesToGo, collectByte, answerToSend, answerToGo, tickAfterReview, idleTick}
 use Rattle.link.specs.Loads.{loadWord, carryOutLoad}
 use Rattle.controller.specs.Controller.{fresh}
 use Rattle.controller.specs.Stores.{endWith, settle, endOperation, motionOrder, pastTest, orderMove, begin, follow, clearOutcome, carryOutOn, carryOut}
 use Rattle.transfers.specs.Data.{checkBytes, recordBytes, runsShort, dataRefusal, dataWords, settleData}
-use Rattle.transfers.specs.Results.{markAgainst, resultRefusal, isGone, finalCode, readsGcr, usedCount, verdictOf, readCount, readBytes, deliveredBytes, fitting, resultCheck, resultTertiary, resultQuintary, wroteWell, resultSecondary, resultBits, withRetry, resultWords, resultGap, settleResult}
+use Rattle.transfers.specs.Results.{markAgainst, resultRefusal, isGone, marksRead, codeReported, finalCode, readsGcr, recordCount, usedCount, verdictOf, readCount, readBytes, deliveredBytes, tornBytes, bytesRead, fitting, resultCheck, resultTertiary, resultQuintary, wroteWell, resultSecondary, resultBits, withRetry, resultWords, resultGap, settleResult}
 use Rattle.controller.specs.Records.{Answer, dataDone, resultDone}
 use Rattle.link.specs.Damaged.{soundDrive, soundDrives, soundBody, soundLead, soundPart, soundString, soundCount, soundHeld, soundPhase, isSound}
 use Rattle.controller.specs.Machine.{byteIn, brokenIn, tickIn, byteCall, brokenCall, tickCall, carryOutString, takenIn, takenCall, reportNoted, reportCall, resetCall, dataFor, resultFor, dataIn, dataCall, resultIn, resultCall, Call, step}
@@ -79,6 +80,19 @@ gcrWrite value =
     report 1 0x22 ∷ store 0x39 0x00 0x00 0x00 0x0D 0x50 ++ store 0x59 0x00 0x00 0x00 0x01 0x3C
     ++ byte 0x06 ∷ hostData (value ∷ []) (replicate 770 0) (replicate 512 0) ∷ []
 
+-- a record of 600 bytes, and its image with the count bytes and the first blockette torn
+abbrev sixHundred : List ℕ
+sixHundred = replicate 256 1 ++ replicate 256 2 ++ replicate 88 3
+
+abbrev tornImage : List ℕ
+tornImage = 0xFF ∷ 0xFF ∷ replicate 256 0xEE ++ drop 258 (imageOf sixHundred 1)
+
+-- it is read on drive 1 with its count supplied; a good mark came for the first blockette too
+abbrev tornRead : List Call
+tornRead =
+    report 1 0x22 ∷ store 0x39 0x00 0x00 0x00 0x0D 0x50 ++ store 0x49 0x80 0x00 0x02 0x58 0xF7
+    ++ result (record { code = 0; mark = false; late = 0; image = tornImage; marks = replicate 5 15 }) (replicate 600 9) (replicate 512 9) ∷ []
+
 pub record BenchCases : Type 0 where
   pub ack : played (readStore 0x2D) .reply .action ≡ Byte 0x06
   pub nack : played (readStore 0x2C) .reply .action ≡ Byte 0x15
@@ -104,20 +118,30 @@ pub record BenchCases : Type 0 where
   pub bytes-512 : played (gcrRead (imageOf (replicate 600 7) 1) (6 ∷ 15 ∷ 4 ∷ 15 ∷ 15 ∷ [])) .space ≡ replicate 512 7 ++ replicate 88 0
   -- "c = 1, byte 5A: the 257th check byte is 5A."
   pub check-257 : getD (played (gcrWrite 0x5A) .check) 256 0 ≡ 0x5A
+  -- "The first blockette counts as a data error with mark 0 .., and its bytes are delivered as zeros."; "A result sets bits 21 and 22"
+  pub torn-tertiary : left tornRead .tertiary ≡ record { b0 = 0x00; b1 = 0x00; b2 = 0x01; b3 = 0x02 }
+  pub torn-code : left tornRead .outcome .code ≡ 0x15
+  pub torn-bytes : played tornRead .space ≡ replicate 256 0 ++ replicate 256 2 ++ replicate 88 3
+  pub torn-count : left tornRead .secondary ≡ 600
+  pub torn-primary : primaryNow (left tornRead) ≡ record { b0 = 0xA1; b1 = 0x35; b2 = 0x07; b3 = 0x22 }
+  -- and the check blockettes from which the host restores it: the odd one is blockette 1, the even one blockettes 2 and 0
+  pub torn-check : played tornRead .check ≡ replicate 256 2 ++ replicate 88 2 ++ replicate 168 1
+  -- "It needs GCR, otherwise code 02"
+  pub supplied-in-mfm : left (report 1 0x22 ∷ store 0x49 0x80 0x00 0x02 0x58 0xF7) .outcome .code ≡ 0x02
 
 pub bench-cases : BenchCases
-unfolding pick given filled _⊕_ xorAll blocketteAt numbered ofParity foldParity checkOf legalMark legalMarks isError scanFrom scanMarks kindOf
+unfolding pick given filled _⊕_ xorAll blocketteAt numbered ofParity foldParity checkOf legalMark legalMarks isError tornMarks scanFrom scanMarks kindOf
     numberOf defectAt limit rotated countBytes unrotated countOf blocketteCount hasBlockettes blockettesOf bodyOf imageOf imageLength markCount
-    wholeRefusal countRefusal emptyRefusal imageRefusal controlOf readOf writeOf decodeOf mayMove forwardCodes reverseCodes endCodes listedCodes isIn
+    layoutRefusal wholeRefusal countRefusal emptyRefusal imageRefusal controlOf countedOf readOf decodeOf inDensity mayMove forwardCodes reverseCodes endCodes suppliedCodes listedCodes isIn
     answerOf losesTape motionOf gapOf gapAfter retryOf reports driveOf withDrive withReport anyDiffers copyReports freshDrives resetDrives bitOf
     noOutcome anyBit primaryOf secondaryWord digitsOf tertiaryOf quintaryOf reportsWord stringOf orderOf startBody fresh resetState review idle
     primaryNow sendWord sendInterrupt complete wholeLength appendByte loadXor isGoodString firstByte lastByte nextByte yesToSend giveUp noToSend
     asksInterrupt noToGo yesToGo collectByte answerToSend answerToGo tickAfterReview idleTick loadWord carryOutLoad storeOf namesDrive namedDrive
-    askedFor endWith settle withTrack motionOrder pastTest orderMove begin clearOutcome namesUnknown selectedBy testOf courseBy courseOf follow
-    carryOutOn carryOut checkBytes thrownAway heldCount recordBytes runsShort dataRefusal dataDone dataFor resultFor takesMark isSearch markAgainst
-    wholeCode expectedWhole expectedOf resultRefusal movesTape isGone finalCode readsGcr resultTertiary resultQuintary resultCheck readBytes fitting
-    wroteWell resultSecondary resultBits withRetry endOperation resultDone isFound findingsOf dataWords settleData usedCount verdictOf readCount
-    deliveredBytes resultWords resultGap settleResult soundDrive soundDrives soundBody soundLead soundPart soundString soundCount soundHeld soundPhase
+    askedFor endWith settle withTrack motionOrder pastTest orderMove begin clearOutcome namesUnknown selectedBy testOf courseOf follow
+    carryOutOn carryOut checkBytes thrownAway heldCount suppliedCount recordBytes runsShort dataRefusal dataDone dataFor resultFor takesMark isSearch markAgainst
+    wholeCode expectedWhole expectedSupplied expectedOf resultRefusal movesTape isGone marksRead codeReported finalCode readsGcr resultTertiary resultQuintary resultCheck readBytes fitting
+    wroteWell resultSecondary resultBits withRetry endOperation resultDone isFound findingsOf dataWords settleData recordCount usedCount verdictOf readCount
+    deliveredBytes tornBytes bytesRead resultWords resultGap settleResult soundDrive soundDrives soundBody soundLead soundPart soundString soundCount soundHeld soundPhase
     isSound byteIn brokenIn tickIn byteCall brokenCall tickCall carryOutString takenIn takenCall reportCall resetCall dataIn dataCall resultIn
     resultCall step
 bench-cases =
@@ -138,4 +162,11 @@ bench-cases =
       code-16 = refl;
       bytes-512 = refl;
       check-257 = refl;
+      torn-tertiary = refl;
+      torn-code = refl;
+      torn-bytes = refl;
+      torn-count = refl;
+      torn-primary = refl;
+      torn-check = refl;
+      supplied-in-mfm = refl;
     }

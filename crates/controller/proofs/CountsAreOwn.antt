@@ -1,5 +1,5 @@
 -- Wherever bit 22 of primary is set, in the state or in what is sent, the count is that of the record that the last store carried out itself
--- passed or wrote (`counts-are-own`, over the definitions).
+-- passed or wrote, or that it supplied (`counts-are-own`, over the definitions).
 -- Assumes nothing.
 use mathlib.Core.Path.{_≡_, refl, sym, ap, ap₂, subst, subst₂, _∙_}
 use Prim.Native.Nat.{ℕ}
@@ -8,22 +8,22 @@ use mathlib.Core.Bool.{Bool, true, false, not, _&&_, _||_, false≢true, and-fal
 use mathlib.Core.List.{List, [], _∷_}
 use lib.Dec.{eqb}
 use lib.ListN.{length}
-use borrow.Author.Tests.{eqb-true, not-true, not-false}
+use borrow.Author.Tests.{eqb-true, eq-eqb, not-true, not-false}
 use Rattle.common.specs.Pick.{pick}
 use Rattle.common.proofs.PickLaws.{by-test, both-hold, pick-by, pick-yes, pick-no}
-use Rattle.marks.specs.Scan.{findingsOf}
 use Rattle.status.specs.declared.drives.Drive.{Drive}
 use Rattle.status.specs.Drives.{withTrack, withDensity}
 use Rattle.status.specs.Words.{noOutcome}
 use Rattle.operations.specs.declared.operation.Operation.{Operation}
-use Rattle.operations.specs.declared.operation.Operation.the-variants.{Read, CheckBytes, Write, Erase, Rewind, FastForward, SkipForward, SkipReverse, SearchForward, SearchReverse, WriteMark}
+use Rattle.operations.specs.declared.operation.Operation.the-variants.{Read, CheckBytes, SuppliedCount, Write, Erase, Rewind, FastForward, SkipForward, SkipReverse, SearchForward, SearchReverse, WriteMark}
 use Rattle.operations.specs.declared.decode.Decoded.{Decoded}
 use Rattle.operations.specs.declared.decode.Decoded.the-variants.{Reset, Code, Track, Enable, Density, Operate}
 use Rattle.operations.specs.declared.store.Store.{Store}
-use Rattle.operations.specs.Operation.{moveOf, sameOperation}
+use Rattle.operations.specs.Operation.{numberOf, moveOf, sameOperation, suppliesCount}
 use Rattle.operations.specs.Codes.{illegalDrive, illegalMotion}
-use Rattle.operations.specs.Store.{namesUnknown, askedFor, heldCount}
-use Rattle.operations.specs.Course.{courseBy, courseOf}
+use Rattle.operations.specs.Store.{namesUnknown, askedFor, askedIn, heldCount, suppliedCount}
+use Rattle.operations.specs.Course.{courseOf}
+use Rattle.operations.proofs.DensityLaws.{asked-operation}
 use Rattle.link.specs.declared.state.Phase.{Phase}
 use Rattle.link.specs.declared.state.Phase.the-variants.{Collecting, AckOffered, Sending, GoOffered, DataAwaited, ResultAwaited, EndOffered}
 use Rattle.link.specs.declared.state.Body.{Body}
@@ -34,8 +34,8 @@ use Rattle.link.specs.State.{storeOf, offered, startBody, withFlags, withCurren
 use Rattle.link.specs.Link.{yesToGo}
 use Rattle.transfers.specs.declared.verdict.Verdict.{Verdict}
 use Rattle.transfers.specs.Data.{dataWords, settleData}
-use Rattle.transfers.specs.Results.{Result, isGone, usedCount, verdictOf, wroteWell, resultSecondary, resultBits, withRetry, resultWords, settleResult}
-use Rattle.transfers.proofs.ResultLaws.{final-zero}
+use Rattle.transfers.specs.Results.{Result, resultRefusal, isGone, findingsRead, codeReported, recordCount, usedCount, verdictOf, wroteWell, resultSecondary, resultBits, withRetry, resultWords, settleResult}
+use Rattle.transfers.proofs.ResultLaws.{supplied-none, final-zero, reported-zero}
 use Rattle.controller.specs.declared.controller.Controller.{Controller}
 use Rattle.controller.specs.Controller.{fresh, carried}
 use Rattle.controller.specs.Stores.{pastTest, orderMove, begin, follow, clearOutcome, carryOutOn, carryOut}
@@ -43,7 +43,7 @@ use Rattle.controller.specs.Records.{wordsOf, withAfter, dataDone, resul
 use Rattle.controller.specs.Machine.{unchanged, reportNoted, dataIn, resultIn, Call, Exchange, plain, step, run}
 use Rattle.controller.specs.Machine.Call.{byte, taken, broken, report, hostData, result, tick, reset}
 use Rattle.controller.specs.Lists.{notRefused, isTaken, holdsStore, carriesOut, lastStore, heldStore, noStore, asksFor}
-use Rattle.controller.specs.Counts.{OwnRecord, passedBy, recordAfter, ownRecord, Sends, ValidFrom, CountsAreOwn}
+use Rattle.controller.specs.Counts.{OwnRecord, suppliedBy, passedBy, recordAfter, ownRecord, Sends, ValidFrom, CountsAreOwn}
 use Rattle.controller.specs.Counts.OwnRecord.{noRecord, recordOf}
 use Rattle.controller.proofs.Courses.{decoded, by-test-of}
 use Rattle.controller.proofs.Steps.Resting.{by-free, Free, Rests, ended-rests, settled-rests, go-refused-rests, ending-rests}
@@ -168,6 +168,7 @@ module _ (store : Store) where
   unfolding begin orderMove pastTest pick InHand HeldUpToDate SentUpToDate
   begun-opens b Read none asks = record { kept = record { hand = record { same = refl; asks = asks; none = none }; valid = none-valid _ _ none; holds = tt }; says = tt }
   begun-opens b CheckBytes none asks = record { kept = record { hand = record { same = refl; asks = asks; none = none }; valid = none-valid _ _ none; holds = tt }; says = tt }
+  begun-opens b SuppliedCount none asks = record { kept = record { hand = record { same = refl; asks = asks; none = none }; valid = none-valid _ _ none; holds = tt }; says = tt }
   begun-opens b Write none asks = record { kept = record { hand = record { same = refl; asks = asks; none = none }; valid = none-valid _ _ none; holds = tt }; says = tt }
   begun-opens b Erase none asks = record { kept = record { hand = record { same = refl; asks = asks; none = none }; valid = none-valid _ _ none; holds = tt }; says = tt }
   begun-opens b Rewind none asks = record { kept = record { hand = record { same = refl; asks = asks; none = none }; valid = none-valid _ _ none; holds = tt }; says = tt }
@@ -181,9 +182,9 @@ module _ (store : Store) where
   decoded-opens :
       (b : Body) (decode : Decoded)
       → b .outcome .counted ≡ false
-      → askedFor store ≡ decode
+      → ((operation : Operation) → decode ≡ Operate operation → askedFor store ≡ Operate operation)
       → Goes store noRecord (decoded b store decode)
-  unfolding follow courseBy resetState startBody noOutcome InHand HeldUpToDate SentUpToDate
+  unfolding follow courseOf resetState startBody noOutcome InHand HeldUpToDate SentUpToDate
   decoded-opens b Reset none asks = record { kept = record { hand = tt; valid = none-valid false _ refl; holds = tt }; says = tt }
   decoded-opens b (Code code) none asks = rests-open b _ none (ended-rests b store code) (ended-strings b store code)
   decoded-opens b (Track track) none asks =
@@ -192,14 +193,14 @@ module _ (store : Store) where
   decoded-opens b (Density density) none asks =
       rests-open (withCurrentDrive b (withDensity (currentDrive b) density)) _ none (settled-rests _ store) (settled-strings _ store)
   decoded-opens b (Operate operation) none asks =
-      by-test-of (Goes store noRecord) b store operation (begun-opens b operation none asks)
+      by-test-of (Goes store noRecord) b store operation (begun-opens b operation none (asks operation refl))
       (rests-open b _ none (ended-rests b store illegalMotion) (ended-strings b store illegalMotion))
 
   carried-opens : (b : Body) → Goes store noRecord (carryOut b store)
-  unfolding carryOut carryOutOn courseOf clearOutcome noOutcome
+  unfolding carryOut carryOutOn clearOutcome noOutcome
   carried-opens b =
       pick-by (Goes store noRecord) (namesUnknown store) (λ unknown. rests-open _ _ refl (ended-rests _ store illegalDrive) (ended-strings _ store illegalDrive))
-      (λ drive. decoded-opens _ (askedFor store) refl refl)
+      (λ drive. decoded-opens _ (askedIn store _) refl (asked-operation _ (askedFor store)))
 
 stores-case : OfStores Keeps
 unfolding lastStore carriesOut isTaken notRefused holdsStore offered ownRecord recordAfter pick
@@ -223,49 +224,92 @@ writes-case : OfData Keeps
 unfolding dataIn
 writes-case b held host space check = data-for Keeps refusals-case b held _ host space check (written b held _ host space check)
 
-module _ (drive : Drive) (operation : Operation) (last store : Store) (r : Result) (before : ℕ) (same : store ≡ last) (asks : askedFor last ≡ Operate operation) where
+module _ (drive : Drive) (operation : Operation) (last store : Store) (r : Result) (before check : ℕ) (same : store ≡ last) (asks : askedFor last ≡ Operate operation)
+    (good : resultRefusal drive operation store r check ≡ 0) where
   abbrev verdict : Verdict
-  verdict = verdictOf drive operation r
+  verdict = verdictOf drive operation store r
 
   abbrev told : Type 0
   told = passedBy last r ≡ recordOf (resultSecondary verdict operation store before)
 
-  -- an image that counts is the result's own
-  image-told : verdict .used ≡ true → told
-  unfolding passedBy resultSecondary verdictOf usedCount
-  image-told uses =
-      let (there, some) = both-hold (not (isGone drive operation)) (not (eqb (length (r .image)) 0)) uses in
-      pick-no _ _ (not-true (eqb (length (r .image)) 0) some) ∙ sym (ap recordOf (pick-yes _ _ uses ∙ pick-yes _ _ uses))
+  -- the last store asks for the operation that ends
+  asks-is : (this : Operation) → asksFor this (askedFor last) ≡ sameOperation operation this
+  unfolding asksFor
+  asks-is this = ap (asksFor this) asks
 
-  -- a write well done is the store's own
-  write-told : verdict .used ≡ false → wroteWell operation (verdict .code) ≡ true → told
-  unfolding passedBy resultSecondary verdictOf wroteWell asksFor
-  write-told unused well =
-      let (writes, zero) = both-hold (sameOperation operation Write) (eqb (verdict .code) 0) well in
-      let (there, code) = final-zero (isGone drive operation) (r .code) (findingsOf (r .marks)) (eqb-true (verdict .code) 0 zero) in
-      let empty : eqb (length (r .image)) 0 ≡ true = not-false (eqb (length (r .image)) 0) (sym (ap (λ (t : Bool). not t && not (eqb (length (r .image)) 0)) there) ∙ unused) in
-      pick-yes _ _ empty
-      ∙ pick-yes _ _ (ap₂ (λ (decode : Decoded) (n : ℕ). asksFor Write decode && eqb n 0) asks code ∙ ap (λ (t : Bool). t && true) writes)
-      ∙ ap (λ (s : Store). recordOf (heldCount s)) (sym same)
-      ∙ sym (ap recordOf (pick-no _ _ unused ∙ pick-yes _ _ well))
+  -- a supplied count is the store's own
+  supplied-told : verdict .supplied ≡ true → told
+  unfolding passedBy suppliedBy resultSecondary verdictOf suppliedCount
+  supplied-told set =
+      by-test (suppliesCount operation)
+      (λ supplies.
+      let some : eqb (heldCount store) 0 ≡ false = sym (ap (λ (n : ℕ). eqb n 0) (pick-yes _ _ supplies)) ∙ not-true _ set in
+      pick-yes _ _ (asks-is SuppliedCount ∙ supplies)
+      ∙ ap (λ (s : Store). pick (eqb (heldCount s) 0) noRecord (recordOf (heldCount s))) (sym same)
+      ∙ pick-no _ _ some
+      ∙ sym (ap recordOf (pick-yes _ _ set)))
+      (λ none. absurd (false≢true (ap (λ (n : ℕ). not (eqb n 0)) (sym (pick-no _ _ none)) ∙ set)))
 
-  either-told : (verdict .used || wroteWell operation (verdict .code)) ≡ true → told
+  -- where none is supplied, or 0, the record is none of the store's but that of its image or its write
+  module _ (unset : verdict .supplied ≡ false) where
+    -- an image that counts is the result's own
+    image-told : suppliesCount operation ≡ false → verdict .used ≡ true → told
+    unfolding passedBy resultSecondary verdictOf usedCount recordCount
+    image-told own uses =
+        let (there, some) = both-hold (not (isGone drive operation)) (not (eqb (length (r .image)) 0)) uses in
+        pick-no _ _ (asks-is SuppliedCount ∙ own)
+        ∙ pick-no _ _ (not-true (eqb (length (r .image)) 0) some)
+        ∙ sym (ap recordOf (pick-no _ _ unset ∙ pick-yes _ _ uses ∙ pick-yes _ _ uses ∙ pick-no _ _ own))
+
+    -- a write well done is the store's own
+    write-told : suppliesCount operation ≡ false → verdict .used ≡ false → wroteWell operation (verdict .code) ≡ true → told
+    unfolding passedBy resultSecondary verdictOf wroteWell
+    write-told own unused well =
+        let (writes, zero) = both-hold (sameOperation operation Write) (eqb (verdict .code) 0) well in
+        let (there, reported) = final-zero (isGone drive operation) (codeReported operation store (r .code)) (findingsRead operation (r .marks)) (eqb-true (verdict .code) 0 zero) in
+        let code = reported-zero operation store (r .code) reported in
+        let empty : eqb (length (r .image)) 0 ≡ true = not-false (eqb (length (r .image)) 0) (sym (ap (λ (t : Bool). not t && not (eqb (length (r .image)) 0)) there) ∙ unused) in
+        pick-no _ _ (asks-is SuppliedCount ∙ own)
+        ∙ pick-yes _ _ empty
+        ∙ pick-yes _ _ (ap₂ (λ (t : Bool) (n : ℕ). t && eqb n 0) (asks-is Write ∙ writes) code)
+        ∙ ap (λ (s : Store). recordOf (heldCount s)) (sym same)
+        ∙ sym (ap recordOf (pick-no _ _ unset ∙ pick-no _ _ unused ∙ pick-yes _ _ well))
+
+    -- a supplied 0 marks nothing
+    none-told : suppliesCount operation ≡ true → (verdict .used || wroteWell operation (verdict .code)) ≡ false
+    unfolding verdictOf suppliedCount wroteWell
+    none-told supplies =
+        let zero : heldCount store ≡ 0 = sym (pick-yes _ _ supplies) ∙ eqb-true _ 0 (not-false _ unset) in
+        let empty : eqb (length (r .image)) 0 ≡ true = eq-eqb _ 0 (supplied-none drive r operation store check good supplies zero) in
+        let unused : (not (isGone drive operation) && not (eqb (length (r .image)) 0)) ≡ false =
+        ap (λ (t : Bool). not (isGone drive operation) && not t) empty ∙ and-false (not (isGone drive operation)) in
+        let other : sameOperation operation Write ≡ false = ap (λ (n : ℕ). eqb n (numberOf Write)) (eqb-true (numberOf operation) (numberOf SuppliedCount) supplies) in
+        ap₂ (λ (t u : Bool). t || (u && eqb (verdict .code) 0)) unused other
+
+    image-or-write-told : (verdict .used || wroteWell operation (verdict .code)) ≡ true → told
+    image-or-write-told set =
+        by-test (suppliesCount operation) (λ supplies. absurd (false≢true (sym (none-told supplies) ∙ set)))
+        (λ own. by-test (verdict .used) (image-told own)
+        (λ unused. write-told own unused (sym (ap (λ (t : Bool). t || wroteWell operation (verdict .code)) unused) ∙ set)))
+
+  either-told : (verdict .supplied || (verdict .used || wroteWell operation (verdict .code))) ≡ true → told
   either-told set =
-      by-test (verdict .used) image-told
-      (λ unused. write-told unused (sym (ap (λ (t : Bool). t || wroteWell operation (verdict .code)) unused) ∙ set))
+      by-test (verdict .supplied) supplied-told
+      (λ unset. image-or-write-told unset (sym (ap (λ (t : Bool). t || (verdict .used || wroteWell operation (verdict .code))) unset) ∙ set))
 
 -- whatever drive moved
 ended :
     (b : Body) (operation : Operation) (held : Store) (drive : Drive) (r : Result) (space check : List ℕ)
+    → resultRefusal drive operation held r (length check) ≡ 0
     → Keeps (stated b (ResultAwaited operation held)) (exchanged (result r space check) (resultDone b drive operation held r space check))
 unfolding resultDone settleResult resultWords resultBits withRetry lastStore carriesOut isTaken notRefused ownRecord recordAfter InHand pick
-ended b operation held drive r space check last own before =
+ended b operation held drive r space check good last own before =
     let mine = before .hand in
-    let verdict = verdictOf drive operation r in
+    let verdict = verdictOf drive operation held r in
     let body = withAfter b (settleResult (wordsOf b) drive operation held r (length space) check) in
     rests-keep last (passedBy last r) body _ (ending-rests body operation held) (ending-strings body operation held)
-    (λ set. either-told drive operation last held r (b .secondary) (mine .same) (mine .asks)
-    (sym (ap (λ (t : Bool). t || (verdict .used || wroteWell operation (verdict .code))) (mine .none)) ∙ set))
+    (λ set. either-told drive operation last held r (b .secondary) (length check) (mine .same) (mine .asks) good
+    (sym (ap (λ (t : Bool). t || (verdict .supplied || (verdict .used || wroteWell operation (verdict .code)))) (mine .none)) ∙ set))
 
 results-case : OfResults Keeps
 unfolding resultIn

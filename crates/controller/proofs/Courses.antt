@@ -9,7 +9,7 @@ use Rattle.operations.specs.declared.store.Store.{Store}
 use Rattle.operations.specs.Codes.{illegalMotion}
 use Rattle.operations.specs.Operation.{moveOf}
 use Rattle.operations.specs.Test.{mayMove}
-use Rattle.operations.specs.Course.{testOf, courseBy}
+use Rattle.operations.specs.Course.{testOf, courseOf}
 use Rattle.link.specs.declared.state.Body.{Body}
 use Rattle.link.specs.declared.state.Turn.{Turn}
 use Rattle.link.specs.State.{currentDrive}
@@ -17,7 +17,7 @@ use Rattle.controller.specs.Stores.{endWith, begin, follow}
 
 -- by what is asked for, with the drive selected
 abbrev pub decoded : Body → Store → Decoded → Turn
-decoded b store asked = follow b store (courseBy (currentDrive b) asked)
+decoded b store asked = follow b store (courseOf (currentDrive b) asked)
 
 -- a claim of an operation, from the claim past the tape test and the claim of code 04
 pub by-test-of :
@@ -25,6 +25,6 @@ pub by-test-of :
     → P (begin b operation store)
     → P (endWith b store illegalMotion)
     → P (decoded b store (Operate operation))
-unfolding follow courseBy testOf
+unfolding follow courseOf testOf
 by-test-of P b store operation begins ends =
     pick-by (λ (course : Course). P (follow b store course)) (mayMove (moveOf operation) (currentDrive b .report)) (λ may. begins) (λ not. ends)

@@ -82,7 +82,7 @@ calls-keep-drives-separate xs ys one two =
 
 -- ---- claims over every list, resets and stores that name no drive included
 
--- Wherever primary's bit 22 is set, secondary is the count of the record that the last store carried out itself passed or wrote.
+-- Wherever primary's bit 22 is set, secondary is the count of the record that the last store carried out itself passed or wrote, or that it supplied.
 pub calls-count-their-own-record : (xs : List Exchange) → FromFresh xs → CountsAreOwn xs
 calls-count-their-own-record xs made = subst CountsAreOwn (sym (calls-run-the-machine xs made)) (counts-are-own (callsOf xs))
 

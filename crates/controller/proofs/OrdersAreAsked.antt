@@ -18,15 +18,17 @@ use Rattle.status.specs.declared.strings.Six.{Six}
 use Rattle.status.specs.Drives.{positionUnknown, driveOf, withGap, withReport, withTrack, withDensity, copyReport, freshWith, freshDrives, resetDrives}
 use Rattle.status.proofs.DriveLaws.{by-four}
 use Rattle.operations.specs.declared.operation.Operation.{Operation}
-use Rattle.operations.specs.declared.operation.Operation.the-variants.{Read, CheckBytes, Write, Erase, Rewind, FastForward, SkipForward, SkipReverse, SearchForward, SearchReverse, WriteMark}
+use Rattle.operations.specs.declared.operation.Operation.the-variants.{Read, CheckBytes, SuppliedCount, Write, Erase, Rewind, FastForward, SkipForward, SkipReverse, SearchForward, SearchReverse, WriteMark}
 use Rattle.operations.specs.declared.course.Course.the-variants.{End, Begin}
 use Rattle.operations.specs.declared.decode.Decoded.{Decoded}
 use Rattle.operations.specs.declared.decode.Decoded.the-variants.{Reset, Code, Track, Enable, Density, Operate}
 use Rattle.operations.specs.declared.store.Store.{Store}
 use Rattle.operations.specs.Operation.{moveOf, movesTape}
-use Rattle.operations.specs.Codes.{illegalDrive, illegalMotion}
+use Rattle.operations.specs.Codes.{illegalDrive, illegalStore, illegalMotion}
 use Rattle.operations.specs.Store.{namesDrive, namedDrive, namesUnknown, selectedBy, askedFor}
-use Rattle.operations.specs.Course.{testOf, courseBy, courseOf}
+use Rattle.operations.specs.Decode.{inDensity}
+use Rattle.operations.specs.Course.{testOf, courseOf}
+use Rattle.operations.proofs.DensityLaws.{by-density}
 use Rattle.operations.specs.Test.{mayMove}
 use Rattle.link.specs.declared.state.Phase.{Phase}
 use Rattle.link.specs.declared.state.Phase.the-variants.{Collecting, AckOffered, Sending, GoOffered, DataAwaited, ResultAwaited, EndOffered}
@@ -158,6 +160,7 @@ module _ (a : Settings) (b : Body) (store : Store) (agrees : Agreeing (withPendi
   begun-complies Write = record { asked = tt; kept = record { agrees = agrees; pending = refl } }
   begun-complies CheckBytes = record { asked = tt; kept = record { agrees = agrees; pending = tt } }
   begun-complies Read = ordered-complies (pendingOrder Read) (pastTest b Read) Read store refl agrees
+  begun-complies SuppliedCount = ordered-complies (pendingOrder SuppliedCount) (pastTest b SuppliedCount) SuppliedCount store refl agrees
   begun-complies Erase = ordered-complies (pendingOrder Erase) b Erase store refl agrees
   begun-complies Rewind = ordered-complies (pendingOrder Rewind) b Rewind store refl agrees
   begun-complies FastForward = ordered-complies (pendingOrder FastForward) b FastForward store refl agrees
@@ -170,7 +173,7 @@ module _ (a : Settings) (b : Body) (store : Store) (agrees : Agreeing (withPendi
   -- the test is that of the report in the settings
   operated-complies :
       (operation : Operation) → Complies (withPending a (b .selected) (orderAsked a (b .selected) operation store)) (decoded b store (Operate operation))
-  unfolding follow courseBy testOf orderAsked pick
+  unfolding follow courseOf testOf orderAsked pick
   operated-complies operation =
       subst
       (λ (report : ℕ). Complies (pendingIf (movesTape (moveOf operation) && mayMove (moveOf operation) report) operation) (decoded b store (Operate operation)))
@@ -188,7 +191,7 @@ module _ (a : Settings) (b : Body) (store : Store) (agrees : Agreeing (withPendi
 
   -- a track and a density are chosen for the selected drive
   tracked-complies : (track : ℕ) → Complies (askedNoted a (b .selected) store (Track track)) (decoded b store (Track track))
-  unfolding follow courseBy askedNoted withTrack
+  unfolding follow courseOf askedNoted withTrack
   tracked-complies track =
       let later = askedNoted a (b .selected) store (Track track) in
       let was = agrees .drive (b .selected) (agrees .low) in
@@ -201,7 +204,7 @@ module _ (a : Settings) (b : Body) (store : Store) (agrees : Agreeing (withPendi
       (λ d other matches. record { report = matches .report; track = matches .track ∙ sym (entered-other (a .track) (b .selected) track d other); density = matches .density }))
 
   dense-complies : (density : ℕ) → Complies (askedNoted a (b .selected) store (Density density)) (decoded b store (Density density))
-  unfolding follow courseBy askedNoted
+  unfolding follow courseOf askedNoted
   dense-complies density =
       let later = askedNoted a (b .selected) store (Density density) in
       let was = agrees .drive (b .selected) (agrees .low) in
@@ -211,13 +214,30 @@ module _ (a : Settings) (b : Body) (store : Store) (agrees : Agreeing (withPendi
       (λ d other matches. record { report = matches .report; track = matches .track; density = matches .density ∙ sym (entered-other (a .density) (b .selected) density d other) }))
 
   decoded-complies : (decode : Decoded) → Complies (askedNoted a (b .selected) store decode) (decoded b store decode)
-  unfolding follow courseBy askedNoted
+  unfolding follow courseOf askedNoted
   decoded-complies Reset = reset-complies (withPending a (b .selected) []) b agrees
   decoded-complies (Code code) = rests-comply _ b _ (ended-rests b store code) agrees
   decoded-complies (Track track) = tracked-complies track
   decoded-complies (Enable enable) = rests-comply _ (withFlags b (b .changed) enable) _ (settled-rests _ store) agrees
   decoded-complies (Density density) = dense-complies density
   decoded-complies (Operate operation) = operated-complies operation
+
+  -- in a density that an operation is not for, its order stays pending and never goes out
+  asked-complies : (density : ℕ) (asked : Decoded) → Complies (askedNoted a (b .selected) store asked) (decoded b store (inDensity density asked))
+  unfolding follow courseOf askedNoted
+  asked-complies density asked =
+      by-density (λ (x : Decoded). Complies (askedNoted a (b .selected) store asked) (decoded b store x)) density asked (decoded-complies asked)
+      (λ (operation : Operation) (is : asked ≡ Operate operation).
+      subst (λ (x : Decoded). Complies (askedNoted a (b .selected) store x) (decoded b store (Code illegalStore))) (sym is)
+      (rests-comply _ b _ (ended-rests b store illegalStore) agrees))
+
+-- a store that selects this drive, whatever density decides
+selecting-complies :
+    (a : Settings) (b : Body) (store : Store) (n : ℕ)
+    → Agreeing (withPending a n []) (withSelected b n)
+    → Complies (askedNoted a n store (askedFor store)) (carryOutOn b store n)
+unfolding carryOutOn
+selecting-complies a b store n agrees = asked-complies a (withSelected b n) store agrees _ (askedFor store)
 
 -- the settings and the controller select the same drive
 choose :
@@ -233,14 +253,14 @@ choose a store true false ended turned e ends turns low = let below = leb-false 
 choose a store false above ended turned e ends turns low = turns low
 
 carried-complies : (a : Settings) (b : Body) (store : Store) → Agreeing a b → Complies (storeNoted a store) (carryOut b store)
-unfolding carryOut carryOutOn courseOf storeNoted namesUnknown selectedBy clearOutcome
+unfolding carryOut storeNoted namesUnknown selectedBy clearOutcome
 carried-complies a b store agrees =
     let within = subst (λ (n : ℕ). n ≤ 3) (agrees .selected) (agrees .low) in
     choose a store (namesDrive store) (leb 4 (namedDrive store)) _ _ refl (rests-comply _ _ _ (ended-rests _ store illegalDrive) agrees)
     (λ low.
-    subst (λ (n : ℕ). Complies (askedNoted a (pick (namesDrive store) (namedDrive store) (a .selected)) store (askedFor store)) (decoded (withSelected (clearOutcome b) (pick (namesDrive store) (namedDrive store) n)) store (askedFor store)))
+    subst (λ (n : ℕ). Complies (askedNoted a (pick (namesDrive store) (namedDrive store) (a .selected)) store (askedFor store)) (carryOutOn (clearOutcome b) store (pick (namesDrive store) (namedDrive store) n)))
     (sym (agrees .selected))
-    (decoded-complies a (withSelected (clearOutcome b) (pick (namesDrive store) (namedDrive store) (a .selected))) store (record { selected = refl; low = low; drive = agrees .drive }) (askedFor store)))
+    (selecting-complies a (clearOutcome b) store (pick (namesDrive store) (namedDrive store) (a .selected)) (record { selected = refl; low = low; drive = agrees .drive })))
     within
 
 stores-case : OfStores Complying
@@ -278,7 +298,7 @@ ended b operation held drive r space check a before =
 
 results-case : OfResults Complying
 unfolding resultIn
-results-case b operation held r space check = result-for Complying refusals-case b held _ operation r space check (ended b operation held _ r space check)
+results-case b operation held r space check = result-for Complying refusals-case b held _ operation r space check (λ good. ended b operation held _ r space check)
 
 -- ---- every call, and every list
 

@@ -20,7 +20,7 @@ writes-case b held host space check = data-for Unmoved refusals-case b held _ ho
 
 results-case : OfResults Unmoved
 unfolding resultIn resultDone
-results-case b operation held r space check = result-for Unmoved refusals-case b held _ operation r space check (λ refused. absurd (refused refl))
+results-case b operation held r space check = result-for Unmoved refusals-case b held _ operation r space check (λ good refused. absurd (refused refl))
 
 unmoved : Kinds Unmoved
 unmoved =

@@ -9,7 +9,7 @@ use mathlib.Core.Bool.{true, false}
 use mathlib.Core.List.{List, []}
 use lib.Dec.{leb, eqb}
 use lib.ListN.{length}
-use borrow.Author.Tests.{leb-false}
+use borrow.Author.Tests.{eqb-true, leb-false}
 use Rattle.common.specs.Pick.{pick}
 use Rattle.common.proofs.PickLaws.{pick-by}
 use Rattle.status.specs.declared.drives.Drive.{Drive}
@@ -159,11 +159,11 @@ module _ (P : Claim) (refusals : OfRefusals P) (b : Body) (held : Store) (drive 
     ended answer = P (stated b (ResultAwaited operation held)) (exchanged (result r space check) answer)
 
     pub result-for :
-        ended (resultDone b drive operation held r space check)
+        (resultRefusal drive operation held r (length check) ≡ 0 → ended (resultDone b drive operation held r space check))
         → ended (resultFor (stated b (ResultAwaited operation held)) b drive operation held r space check)
     unfolding lentSpace lentCheck resultFor
     result-for done =
-        pick-by ended (eqb (resultRefusal drive operation r (length check)) 0) (λ good. done)
+        pick-by ended (eqb (resultRefusal drive operation held r (length check)) 0) (λ good. done (eqb-true _ 0 good))
         (λ some. refusals (stated b (ResultAwaited operation held)) _ _ space check some refl refl)
 
 -- ---- each call is of these kinds

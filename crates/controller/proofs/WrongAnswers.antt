@@ -23,11 +23,11 @@ use Rattle.status.proofs.DriveLaws.{put-other, by-four}
 use Rattle.operations.specs.declared.operation.Operation.the-variants.{Read}
 use Rattle.operations.specs.declared.store.Store.{Store}
 use Rattle.operations.specs.Codes.{illegalDrive, unrecoverable}
-use Rattle.operations.specs.Store.{asksInterrupt, namesDrive, namedDrive, namesUnknown, heldCount}
+use Rattle.operations.specs.Store.{asksInterrupt, namesDrive, namedDrive, namesUnknown, heldCount, suppliedCount}
 use Rattle.records.proofs.ImageLaws.{image-length, image-holds}
 use Rattle.common.proofs.GivenLaws.{filled-length}
 use Rattle.transfers.specs.Data.{recordBytes, dataRefusal, settleData}
-use Rattle.transfers.specs.Results.{resultOf, resultRefusal, isGone, finalCode, verdictOf, wroteWell, resultBits, withRetry, resultWords, settleResult}
+use Rattle.transfers.specs.Results.{resultOf, resultRefusal, isGone, marksRead, codeReported, finalCode, verdictOf, wroteWell, resultBits, withRetry, resultWords, settleResult}
 use Rattle.link.specs.declared.state.Collected.{Collected}
 use Rattle.link.specs.declared.state.Kind.{Kind}
 use Rattle.link.specs.declared.state.Kind.the-variants.{Load, Secondary, Completion, Change}
@@ -279,17 +279,17 @@ data-refused-but-written c host space check =
 -- ---- result
 
 -- with a mark the image is empty
-no-image : (density code : ℕ) → expectedOf Read density code true ≡ NoImage
+no-image : (store : Store) (density code : ℕ) → expectedOf Read store density code true ≡ NoImage
 unfolding expectedOf expectedWhole pick
-no-image density code = simp (and-false (wholeCode code))
+no-image store density code = simp (and-false (wholeCode code))
 
-marked-empty : (drive : Drive) (code late : ℕ) (image marks : List ℕ) (check : ℕ) → resultRefusal drive Read (resultOf code true late image marks) check ≡ 0 → eqb (length image) 0 ≡ true
+marked-empty : (drive : Drive) (store : Store) (code late : ℕ) (image marks : List ℕ) (check : ℕ) → resultRefusal drive Read store (resultOf code true late image marks) check ≡ 0 → eqb (length image) 0 ≡ true
 unfolding resultRefusal imageRefusal emptyRefusal
-marked-empty drive code late image marks check good =
+marked-empty drive store code late image marks check good =
     let six = not-refused _ _ _ (nonzero 6 refl) good in
     let seven = not-refused _ _ _ (nonzero 7 refl) (six .1) in
     let eight = not-refused _ _ _ (nonzero 8 refl) (seven .1) in
-    let none = ap (λ (x : Expected). imageRefusal image marks x) (no-image (drive .density) code) in
+    let none = ap (λ (x : Expected). imageRefusal image marks x) (no-image store (drive .density) code) in
     not-false _ (not-refused _ _ _ (nonzero 9 refl) (sym none ∙ eight .1) .0)
 
 module _ (c : Controller) (b : Body) (drive : Drive) (store : Store) (code late : ℕ) (image marks space check : List ℕ) where
@@ -298,10 +298,10 @@ module _ (c : Controller) (b : Body) (drive : Drive) (store : Store) (code late 
 
   -- a mark counts nothing, whatever drive moved
   mark-counts-nothing : c .body .outcome .counted ≡ false → b .outcome .counted ≡ false → counts (resultFor c b drive Read store (resultOf code true late image marks) space check)
-  unfolding resultFor resultDone settleResult resultWords verdictOf endOperation withRetry resultBits wroteWell pick
+  unfolding resultFor resultDone settleResult resultWords verdictOf suppliedCount endOperation withRetry resultBits wroteWell pick
   mark-counts-nothing clear before =
-      pick-by counts (eqb (resultRefusal drive Read (resultOf code true late image marks) (length check)) 0)
-      (λ good. simp (before, marked-empty drive code late image marks (length check) (eqb-true _ 0 good), and-false) false≢true)
+      pick-by counts (eqb (resultRefusal drive Read store (resultOf code true late image marks) (length check)) 0)
+      (λ good. simp (before, marked-empty drive store code late image marks (length check) (eqb-true _ 0 good), and-false) false≢true)
       (λ refused. simp clear false≢true)
 
   module _ (mark : Bool) where
@@ -310,9 +310,9 @@ module _ (c : Controller) (b : Body) (drive : Drive) (store : Store) (code late 
 
     -- a scan that stops is told, whatever drive moved
     two-bad-told : ltb (scanMarks marks .stop) (length marks) ≡ true → well (resultFor c b drive Read store (resultOf code mark late image marks) space check)
-    unfolding resultFor resultDone settleResult resultWords verdictOf endOperation withRetry resultBits finalCode pick
+    unfolding resultFor resultDone settleResult resultWords verdictOf codeReported marksRead endOperation withRetry resultBits finalCode pick
     two-bad-told stopped =
-        pick-by well (eqb (resultRefusal drive Read (resultOf code mark late image marks) (length check)) 0)
+        pick-by well (eqb (resultRefusal drive Read store (resultOf code mark late image marks) (length check)) 0)
         (λ good w. pick-by (λ (n : ℕ). n ≡ 0 → ⊥) (isGone drive Read) (λ gone. nonzero 7 refl) (λ there. simp (stop-found marks, stopped) (nonzero unrecoverable refl)) (w .1))
         (λ refused w. eqb-false _ 0 refused (w .0))
 

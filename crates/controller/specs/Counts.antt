@@ -1,5 +1,5 @@
 -- The count that bit 22 of primary marks as valid: wherever the bit is set, secondary is the count of the record that the last store
--- carried out itself passed or wrote, and never of an earlier one. Over every list of calls from Fresh.
+-- carried out itself passed or wrote, or the one that it supplied, and never of an earlier one. Over every list of calls from Fresh.
 -- Assumes nothing.
 use mathlib.Core.Path.{_≡_}
 use Prim.Native.Nat.{ℕ, _/_, _%_}
@@ -9,7 +9,7 @@ use lib.Dec.{eqb}
 use lib.ListN.{length}
 use Rattle.common.specs.Pick.{pick}
 use Rattle.records.specs.Count.{countOf}
-use Rattle.operations.specs.declared.operation.Operation.the-variants.{Write}
+use Rattle.operations.specs.declared.operation.Operation.the-variants.{SuppliedCount, Write}
 use Rattle.operations.specs.declared.store.Store.{Store}
 use Rattle.operations.specs.Store.{askedFor, heldCount}
 use Rattle.status.specs.declared.words.Word.{Word}
@@ -30,16 +30,22 @@ use Rattle.controller.specs.Lists.{notRefused, holdsStore, lastStore, no
 
 -- ---- the record of a store
 
--- the record that the last store carried out has passed or written: none yet, or one of so many bytes
+-- the record that the last store carried out has passed, written or supplied the count of: none yet, or one of so many bytes
 pub data OwnRecord : Type 0 where
   noRecord : OwnRecord
   recordOf : ℕ → OwnRecord
 
--- of a store's result: the record of its image, or, "writes with code 0", the one that it wrote
+-- of the count that a store holds, which is that of a record "exactly if that is nonzero"
+unfoldable pub suppliedBy : Store → OwnRecord
+suppliedBy store = pick (eqb (heldCount store) 0) noRecord (recordOf (heldCount store))
+
+-- of a store's result: the record of its image, or, "writes with code 0", the one that it wrote; of a store that supplies a count, the record of
+-- that and of no other, "whatever the code"
 unfoldable pub passedBy : Store → Result → OwnRecord
 passedBy store r =
-    pick (eqb (length (r .image)) 0) (pick (asksFor Write (askedFor store) && eqb (r .code) 0) (recordOf (heldCount store)) noRecord)
-    (recordOf (countOf (r .image)))
+    pick (asksFor SuppliedCount (askedFor store)) (suppliedBy store)
+    (pick (eqb (length (r .image)) 0) (pick (asksFor Write (askedFor store) && eqb (r .code) 0) (recordOf (heldCount store)) noRecord)
+    (recordOf (countOf (r .image))))
 
 -- a call not refused: a store that is carried out has no record yet, and its result may tell of one. `store` is the last store carried out,
 -- this call's included.

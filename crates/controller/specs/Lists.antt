@@ -1,11 +1,12 @@
 -- Lists of calls with their answers, as the claims over whole lists read them: which calls were carried out, which stores, and the state at
 -- the end. "They start from Fresh; each call gets the state that the last one handed back".
 -- Assumes nothing.
-use mathlib.Core.Bool.{Bool, true, false, not, _&&_}
+use mathlib.Core.Bool.{Bool, true, false, not, _&&_, _||_}
 use mathlib.Core.List.{List, [], _∷_}
 use lib.Dec.{eqb}
 use Rattle.common.specs.Pick.{pick}
 use Rattle.operations.specs.declared.operation.Operation.{Operation}
+use Rattle.operations.specs.declared.operation.Operation.the-variants.{Read, SuppliedCount}
 use Rattle.operations.specs.declared.decode.Decoded.{Decoded}
 use Rattle.operations.specs.declared.decode.Decoded.the-variants.{Reset, Code, Track, Enable, Density, Operate}
 use Rattle.operations.specs.declared.store.Store.{Store}
@@ -59,6 +60,10 @@ asksFor this (Code code) = false
 asksFor this (Track track) = false
 asksFor this (Enable enable) = false
 asksFor this (Density density) = false
+
+-- a store that asks for a read, of either kind
+unfoldable pub asksRead : Decoded → Bool
+asksRead asked = asksFor Read asked || asksFor SuppliedCount asked
 
 -- the state after a list
 unfoldable pub after : Controller → List Exchange → Controller

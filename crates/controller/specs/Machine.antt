@@ -1,4 +1,4 @@
--- The machine of document 01: its eight calls as one type, a step, and a run over a list of calls. "Calls: byte; taken; broken; report;
+-- The machine of document 01, with what document 02 asks for: its eight calls as one type, a step, and a run over a list of calls. "Calls: byte; taken; broken; report;
 -- data; result; tick; reset. The state goes in and the next state comes out, with one action or none".
 -- Assumes nothing.
 use Prim.Native.Nat.{ℕ}
@@ -138,8 +138,8 @@ dataCall c host space check = pick (isSound (c .body) (c .phase)) (dataIn c (c .
 -- the result of an operation, by the drive that carried it out
 unfoldable pub resultFor : Controller → Body → Drive → Operation → Store → Result → List ℕ → List ℕ → Answer
 resultFor c b drive operation store r space check =
-    pick (eqb (resultRefusal drive operation r (length check)) 0) (resultDone b drive operation store r space check)
-    (unchanged (resultRefusal drive operation r (length check)) c space check)
+    pick (eqb (resultRefusal drive operation store r (length check)) 0) (resultDone b drive operation store r space check)
+    (unchanged (resultRefusal drive operation store r (length check)) c space check)
 
 -- "3 data or result not awaited"
 unfoldable pub resultIn : Controller → Body → Result → List ℕ → List ℕ → Phase → Answer

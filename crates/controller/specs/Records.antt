@@ -62,6 +62,6 @@ resultDone b drive operation store r space check =
     record {
       reply = carried (endOperation (withAfter b after) operation store);
       bytes = after .bytes;
-      space = resultInto drive operation r space check;
-      check = resultCheckInto drive operation r check;
+      space = resultInto drive operation store r space check;
+      check = resultCheckInto drive operation store r check;
     }

@@ -11,7 +11,6 @@ use lib.ListN.{length, take}
 use Rattle.common.specs.Pick.{pick}
 use Rattle.operations.specs.declared.decode.Decoded.{Decoded}
 use Rattle.operations.specs.declared.decode.Decoded.the-variants.{Reset, Code, Track, Enable, Density, Operate}
-use Rattle.operations.specs.declared.operation.Operation.the-variants.{Read}
 use Rattle.status.specs.declared.drives.Drive.{Drive}
 use Rattle.status.specs.declared.strings.Six.{Six}
 use Rattle.status.specs.Drives.{driveOf}
@@ -27,7 +26,7 @@ use Rattle.controller.specs.Controller.{fresh}
 use Rattle.transfers.specs.Results.{Result}
 use Rattle.controller.specs.Machine.{Call, Exchange}
 use Rattle.controller.specs.Machine.Call.{byte, taken, broken, report, hostData, result, tick, reset}
-use Rattle.controller.specs.Lists.{notRefused, holdsStore, heldStore, carriesOut, lastStore, noStore, asksFor, after}
+use Rattle.controller.specs.Lists.{notRefused, holdsStore, heldStore, carriesOut, lastStore, noStore, asksRead, after}
 
 -- ---- the history of a drive
 
@@ -102,10 +101,10 @@ unfoldable pub bytesGiven : Exchange → List ℕ
 bytesGiven x = take (x .answer .bytes) (x .answer .space)
 
 -- "its write images and read bytes come from the data calls and results of its stores"; "Check bytes .. demand 3 leaves their delivery out": of
--- the operations that deliver, reads alone
+-- the operations that deliver, reads alone, those with a supplied count too: "separation of the drives covers this store too"
 unfoldable pub transferOf : ℕ → Store → List ℕ → Call → List Output
 transferOf d store bytes (hostData host space check) = pick (isOf d store) (image bytes ∷ []) []
-transferOf d store bytes (result r space check) = pick (isOf d store && asksFor Read (askedFor store)) (delivery bytes ∷ []) []
+transferOf d store bytes (result r space check) = pick (isOf d store && asksRead (askedFor store)) (delivery bytes ∷ []) []
 transferOf d store bytes (byte b) = []
 transferOf d store bytes taken = []
 transferOf d store bytes broken = []

@@ -14,7 +14,7 @@ use Rattle.operations.specs.declared.course.Course.{Course}
 use Rattle.operations.specs.declared.course.Course.the-variants.{Reset, End, Enable, Set, Begin}
 use Rattle.operations.specs.Codes.{illegalDrive}
 use Rattle.operations.specs.Operation.{sameOperation, orderByte, countsBytes, offersEnd}
-use Rattle.operations.specs.Store.{asksInterrupt, namesUnknown, selectedBy}
+use Rattle.operations.specs.Store.{asksInterrupt, namesUnknown, selectedBy, askedIn}
 use Rattle.operations.specs.Course.{courseOf}
 use Rattle.link.specs.declared.state.Phase.the-variants.{GoOffered, ResultAwaited, EndOffered}
 use Rattle.link.specs.declared.state.Body.{Body}
@@ -84,9 +84,10 @@ follow b store (Begin operation) = begin b operation store
 unfoldable pub clearOutcome : Body → Body
 clearOutcome b = withOutcome b noOutcome
 
--- the course of a store that selects this drive
+-- "decode; test", of a store that selects this drive, by its density and its record
 unfoldable pub carryOutOn : Body → Store → ℕ → Turn
-carryOutOn b store selected = follow (withSelected b selected) store (courseOf (driveOf (b .drives) selected) store)
+carryOutOn b store selected =
+    let drive = driveOf (b .drives) selected in follow (withSelected b selected) store (courseOf drive (askedIn store (drive .density)))
 
 -- "Carrying out: clear ..; a named drive above 3 is code 01 with selection unchanged, else select it; decode; test."
 unfoldable pub carryOut : Body → Store → Turn

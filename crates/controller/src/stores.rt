@@ -17,6 +17,7 @@ use operations::operation::counts_bytes;
 use operations::operation::offers_end;
 use operations::operation::order_byte;
 use operations::store::Store;
+use operations::store::asked_in;
 use operations::store::asks_interrupt;
 use operations::store::names_unknown;
 use operations::store::selected_by;
@@ -158,7 +159,8 @@ fn carry_out_on(mut b: Body, store: Store, selected: u8) -> Turn
     ensures { λ r. ⌜ r ≡ carryOutOn b store selected ⌝ }
 {
     let drive = drive_of(b.drives, selected);
-    let course = course_of(drive, store);
+    let asked = asked_in(store, drive.density);
+    let course = course_of(drive, asked);
     b.selected = selected;
     follow(b, store, course)
 }

@@ -28,7 +28,7 @@ ghost use mathlib.Core.Path.{_≡_};
 ghost use Prim.Native.Nat.{_≤_};
 ghost use lib.ListN.{length};
 ghost use Rattle.records.specs.Count.{limit};
-ghost use Rattle.operations.specs.Store.{heldCount};
+ghost use Rattle.operations.specs.Store.{heldCount, suppliedCount};
 ghost use Rattle.transfers.specs.Data.{dataRefusal};
 ghost use Rattle.transfers.specs.Results.{resultOf, resultWith, resultRefusal};
 ghost use Rattle.controller.specs.Controller.{refusedTransfer};
@@ -108,7 +108,8 @@ fn result_done(
     space: &mut [u8],
     check: &mut [u8],
 ) -> Transfer
-    requires { ⌜ resultRefusal drive operation (resultWith ending (now image) (now marks)) (length (now check)) ≡ 0 ⌝ }
+    requires { ⌜ resultRefusal drive operation store (resultWith ending (now image) (now marks)) (length (now check)) ≡ 0 ⌝ }
+    requires { ⌜ suppliedCount operation store ≤ limit ⌝ }
     ensures { λ r. ⌜ answered r (now (space .exit)) (now (check .exit)) ≡ resultDone b drive operation store (resultWith ending (now (image .entry)) (now (marks .entry))) (now (space .entry)) (now (check .entry)) ⌝ }
 {
     let words = words_of(b);
@@ -180,7 +181,7 @@ impl Controller {
         };
         let moved = drive_of(self.body.drives, self.body.selected);
         let ending = Ending { code, mark, late };
-        let refusal = result_refusal(moved, operation, ending, image, marks, check.len());
+        let refusal = result_refusal(moved, operation, store, ending, image, marks, check.len());
         if refusal != 0 {
             return refused_transfer(refusal, self);
         }

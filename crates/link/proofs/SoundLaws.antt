@@ -3,22 +3,25 @@
 -- Assumes nothing.
 use Prim.Native.Nat.{ℕ, _≤_, _<_}
 use native.Mathlib.Omega.{arith}
-use mathlib.Core.Path.{_≡_, refl}
-use mathlib.Core.Bool.{Bool, true, false, _&&_, _||_}
+use mathlib.Core.Path.{_≡_, refl, sym, ap, _∙_}
+use mathlib.Core.Bool.{Bool, true, false, not, _&&_, _||_, or-true, false≢true}
 use lib.Dec.{ltb, eqb}
 use borrow.Author.Tests.{ltb-true, leb-true, eqb-true}
 use Rattle.common.proofs.PickLaws.{pick-by, both-hold}
 use Rattle.records.specs.Count.{limit}
+use Rattle.operations.specs.declared.operation.Operation.{Operation}
+use Rattle.operations.specs.declared.operation.Operation.the-variants.{Write}
 use Rattle.operations.specs.declared.store.Store.{Store}
-use Rattle.operations.specs.Store.{heldCount}
+use Rattle.operations.specs.Operation.{sameOperation, suppliesCount, holdsCount}
+use Rattle.operations.specs.Store.{heldCount, suppliedCount}
 use Rattle.link.specs.declared.state.Collected.{Collected}
 use Rattle.link.specs.declared.state.Send.{Send}
 use Rattle.link.specs.declared.state.Phase.{Phase}
-use Rattle.link.specs.declared.state.Phase.the-variants.{Collecting, Sending, DataAwaited}
+use Rattle.link.specs.declared.state.Phase.the-variants.{Collecting, Sending, DataAwaited, ResultAwaited}
 use Rattle.link.specs.declared.state.Body.{Body}
 use Rattle.link.specs.Bytes.{loadLead, storeLength, mostNoes}
 use Rattle.link.specs.Link.{wholeLength}
-use Rattle.link.specs.Damaged.{soundBody, soundLead, soundPart, soundCount, soundPhase, isSound}
+use Rattle.link.specs.Damaged.{soundBody, soundLead, soundPart, soundCount, soundHeld, soundPhase, isSound}
 
 -- what follows from either of two tests, one of which holds
 by-either : {P : Type 0} (a b : Bool) → (a ≡ true → P) → (b ≡ true → P) → (a || b) ≡ true → P
@@ -54,3 +57,21 @@ noes-few b phase send whole told = leb-true _ _ (rw told at (phase-holds b phase
 pub data-count : (b : Body) (phase : Phase) (store : Store) → isSound b phase ≡ true → phase ≡ DataAwaited store → heldCount store ≤ limit
 unfolding soundPhase soundCount
 data-count b phase store whole told = leb-true _ _ (rw told at (phase-holds b phase whole))
+
+-- and so is one that is supplied
+held-within : (operation : Operation) (store : Store) → soundHeld operation store ≡ true → suppliedCount operation store ≤ limit
+unfolding soundHeld soundCount suppliedCount
+held-within operation store sound =
+    pick-by (λ (n : ℕ). n ≤ limit) (suppliesCount operation)
+    (λ supplies.
+    let holds : holdsCount operation ≡ true = ap (λ (t : Bool). sameOperation operation Write || t) supplies ∙ or-true (sameOperation operation Write) in
+    by-either (not (holdsCount operation)) (soundCount store) (λ none. absurd (false≢true (sym (ap not holds) ∙ none))) (λ within. leb-true _ _ within) sound)
+    (λ none. omega arith)
+
+pub supplied-within :
+    (b : Body) (phase : Phase) (operation : Operation) (store : Store)
+    → isSound b phase ≡ true
+    → phase ≡ ResultAwaited operation store
+    → suppliedCount operation store ≤ limit
+unfolding soundPhase
+supplied-within b phase operation store whole told = held-within operation store (rw told at (phase-holds b phase whole))

@@ -1,13 +1,12 @@
 -- A damaged state (document 01, Turned back): "1 a field out of range (track, gap, selected drive, motion 0-3; density 0-1; code 0-31; noes so
 -- far 0-4; secondary 0-65,535; a held count 0-16,384; a held operation one of the eleven; a string's lead #62 or #64, its bytes fewer than
--- its length, or all once ACK is offered; all else may have any value)". A held operation is one of the eleven by its type.
+-- its length, or all once ACK is offered; all else may have any value)". Document 02, Wish 1: "a held operation is one of the twelve", by its type.
 -- Assumes nothing.
 use mathlib.Core.Bool.{Bool, true, not, _&&_, _||_}
 use lib.Dec.{leb, ltb, eqb}
 use Rattle.records.specs.Count.{limit}
 use Rattle.operations.specs.declared.operation.Operation.{Operation}
-use Rattle.operations.specs.declared.operation.Operation.the-variants.{Write}
-use Rattle.operations.specs.Operation.{sameOperation}
+use Rattle.operations.specs.Operation.{holdsCount}
 use Rattle.status.specs.declared.drives.Drive.{Drive}
 use Rattle.status.specs.declared.drives.Drives.{Drives}
 use Rattle.link.specs.declared.state.Collected.{Collected}
@@ -48,9 +47,9 @@ soundString s = soundLead s && eqb (s .length) (wholeLength (s .c0))
 unfoldable pub soundCount : Store → Bool
 soundCount store = leb (heldCount store) limit
 
--- a write alone holds a count
+-- a write holds a count, and a supplied one is held
 unfoldable pub soundHeld : Operation → Store → Bool
-soundHeld operation store = not (sameOperation operation Write) || soundCount store
+soundHeld operation store = not (holdsCount operation) || soundCount store
 
 -- what is held in the phase; "noes so far 0-4"
 unfoldable pub soundPhase : Phase → Bool

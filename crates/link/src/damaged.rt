@@ -7,7 +7,7 @@ use crate::state::Body;
 use crate::state::Collected;
 use crate::state::Phase;
 use operations::operation::Operation;
-use operations::operation::same_operation;
+use operations::operation::holds_count;
 use operations::store::Store;
 use operations::store::held_count;
 use records::count::LIMIT;
@@ -63,11 +63,11 @@ fn sound_count(store: Store) -> bool
     held_count(store) <= LIMIT
 }
 
-// A held operation with its store: a write holds a count.
+// A held operation with its store: a write holds a count, and so does a read with a supplied one.
 fn sound_held(operation: Operation, store: Store) -> bool
     ensures { λ r. ⌜ r ≡ soundHeld operation store ⌝ }
 {
-    !same_operation(operation, Operation::Write) | sound_count(store)
+    !holds_count(operation) | sound_count(store)
 }
 
 fn sound_phase(phase: Phase) -> bool

@@ -27,20 +27,7 @@ module _ (marks : List ℕ) where
   unfolding isFound defectAt
   found-below place = told-by (ltb place (length marks)) _ _ (kind-there (length marks - 1 - place)) refl
 
-  -- so of each that the scan tells
-  pub odd-found : isFound (findingsOf marks .odd) ≡ ltb (scanMarks marks .odd) (length marks)
-  unfolding findingsOf
-  odd-found = found-below (scanMarks marks .odd)
-
-  pub even-found : isFound (findingsOf marks .even) ≡ ltb (scanMarks marks .even) (length marks)
-  unfolding findingsOf
-  even-found = found-below (scanMarks marks .even)
-
+  -- so where the scan stopped
   pub stop-found : isFound (findingsOf marks .stop) ≡ ltb (scanMarks marks .stop) (length marks)
   unfolding findingsOf
   stop-found = found-below (scanMarks marks .stop)
-
-  -- the place is that of the scan
-  pub stop-place : findingsOf marks .place ≡ scanMarks marks .stop
-  unfolding findingsOf
-  stop-place = refl

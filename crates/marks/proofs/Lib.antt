@@ -1,2 +1,3 @@
 pub mod ScanLaws
 pub mod FindingLaws
+pub mod TornLaws

@@ -21,3 +21,17 @@ legalMarks (mark ∷ marks) = legalMark mark && legalMarks marks
 -- a blockette whose mark is not "good"
 unfoldable pub isError : ℕ → Bool
 isError mark = not (eqb mark good)
+
+-- ".. mark 0", which no blockette comes with
+abbrev pub torn : ℕ
+torn = 0
+
+-- the marks where the first blockette is torn: "The first blockette counts as a data error with mark 0, whichever legal mark came for it"
+-- (document 02, Wish 1)
+unfoldable pub tornMarks : List ℕ → List ℕ
+tornMarks [] = []
+tornMarks (mark ∷ marks) = torn ∷ marks
+
+-- the most marks: a number is one byte, and two check blockettes follow the others
+abbrev pub mostMarks : ℕ
+mostMarks = 258

@@ -8,7 +8,7 @@ use mathlib.Core.List.{List, [], _∷_}
 use lib.Dec.{leb, ltb, eqb}
 use lib.ListN.{length, getD}
 use Rattle.common.specs.Pick.{pick}
-use Rattle.marks.specs.Marks.{isError}
+use Rattle.marks.specs.Marks.{isError, tornMarks}
 use Rattle.marks.specs.declared.Scan.{Scan}
 use Rattle.marks.specs.declared.Defect.{Defect}
 use Rattle.marks.specs.declared.Findings.{Findings}
@@ -58,3 +58,7 @@ findingsOf marks =
       stop = defectAt marks (scanMarks marks .stop);
       place = scanMarks marks .stop;
     }
+
+-- the same where the first blockette is torn
+abbrev pub findingsTorn : List ℕ → Findings
+findingsTorn marks = findingsOf (tornMarks marks)

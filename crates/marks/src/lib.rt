@@ -1,10 +1,19 @@
 // The marks of a GCR record: their test, the scan for errors, and what is told of an error.
+use common::give;
 ghost use mathlib.Core.Path.{_≡_};
-ghost use Rattle.marks.specs.Marks.{legalMark, legalMarks};
-ghost use Rattle.marks.specs.Scan.{scanMarks, defectAt, isFound, findingsOf};
+ghost use Prim.Native.Nat.{_≤_};
+ghost use lib.ListN.{length};
+ghost use Rattle.marks.specs.Marks.{legalMark, legalMarks, tornMarks, mostMarks};
+ghost use Rattle.marks.specs.Scan.{scanMarks, defectAt, isFound, findingsOf, findingsTorn};
 
 // The mark of a good blockette.
 const GOOD: u8 = 15;
+
+// The mark of a torn one, which no blockette comes with.
+const TORN: u8 = 0;
+
+// The most marks: a blockette's number is one byte, and two check blockettes follow the others.
+pub const MOST_MARKS: usize = 258;
 
 // The places of the first odd error, of the first even one, and where the scan stopped; the number of marks where there is none.
 pub struct Scan {
@@ -133,4 +142,26 @@ pub fn findings_of(marks: &[u8]) -> Findings
         stop,
         place: errors.stop,
     }
+}
+
+// Marks where the first blockette is torn: it has the mark of a torn one, whichever mark came for it.
+fn put_torn_marks(marks: &[u8], space: &mut [u8])
+    requires { ⌜ length (now space) ≡ length (now marks) ⌝ }
+    ensures { λ _. ⌜ now (space .exit) ≡ tornMarks (now (marks .entry)) ⌝ }
+{
+    give(marks, space);
+    if 0 < marks.len() {
+        space[0] = TORN;
+    }
+}
+
+// Everything that is told of marks where the first blockette is torn.
+pub fn findings_torn(marks: &[u8]) -> Findings
+    requires { ⌜ length (now marks) ≤ mostMarks ⌝ }
+    ensures { λ r. ⌜ r ≡ findingsTorn (now (marks .entry)) ⌝ }
+{
+    let mut seen = [GOOD; MOST_MARKS];
+    let end = marks.len();
+    put_torn_marks(marks, &mut seen[..end]);
+    findings_of(&seen[..end])
 }

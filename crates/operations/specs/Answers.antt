@@ -1,5 +1,5 @@
--- The codes that a result may report (document 01, Records): "The 352 answers, eleven operations by 32 codes, stand in one table: 0
--- never, 1 reported and no retry, 2 reported with retry. Code 0 is 1; others in the list are 2."
+-- The codes that a result may report (document 01, Records): "The .. answers, .. operations by 32 codes, stand in one table: 0 never, 1
+-- reported and no retry, 2 reported with retry. Code 0 is 1; others in the list are 2." Document 02, Wish 1: "The table grows to 384 answers".
 -- Assumes nothing.
 use Prim.Native.Nat.{ℕ}
 use mathlib.Core.Bool.{Bool, false, _||_}
@@ -7,7 +7,7 @@ use mathlib.Core.List.{List, [], _∷_}
 use lib.Dec.{eqb}
 use Rattle.common.specs.Pick.{pick}
 use Rattle.operations.specs.declared.operation.Operation.{Operation}
-use Rattle.operations.specs.declared.operation.Operation.the-variants.{Read, CheckBytes, Write, Erase, Rewind, FastForward, SkipForward, SkipReverse, SearchForward, SearchReverse, WriteMark}
+use Rattle.operations.specs.declared.operation.Operation.the-variants.{Read, CheckBytes, SuppliedCount, Write, Erase, Rewind, FastForward, SkipForward, SkipReverse, SearchForward, SearchReverse, WriteMark}
 
 -- "read, skip and search forward 7 8 9 A C D E F 10 11 12 13 17"
 unfoldable pub forwardCodes : List ℕ
@@ -21,10 +21,15 @@ reverseCodes = 0x7 ∷ 0x9 ∷ 0xC ∷ 0xD ∷ 0xE ∷ 0x18 ∷ []
 unfoldable pub endCodes : List ℕ
 endCodes = 0x6 ∷ 0x7 ∷ []
 
+-- of a supplied count, "reported codes are 0, 7, 8, 9, A, 13, 14 and 17"
+unfoldable pub suppliedCodes : List ℕ
+suppliedCodes = 0x7 ∷ 0x8 ∷ 0x9 ∷ 0xA ∷ 0x13 ∷ 0x14 ∷ 0x17 ∷ []
+
 -- "write 7 8 9 B C D E F 10 11 12 13 14 17; write mark 7 8 9 B C D 17; .. erase 6 7 8 17; .. check bytes none"
 unfoldable pub listedCodes : Operation → List ℕ
 listedCodes Read = forwardCodes
 listedCodes CheckBytes = []
+listedCodes SuppliedCount = suppliedCodes
 listedCodes Write = 0x7 ∷ 0x8 ∷ 0x9 ∷ 0xB ∷ 0xC ∷ 0xD ∷ 0xE ∷ 0xF ∷ 0x10 ∷ 0x11 ∷ 0x12 ∷ 0x13 ∷ 0x14 ∷ 0x17 ∷ []
 listedCodes Erase = 0x6 ∷ 0x7 ∷ 0x8 ∷ 0x17 ∷ []
 listedCodes Rewind = endCodes

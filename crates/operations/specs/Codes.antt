@@ -7,7 +7,7 @@ use Prim.Native.Nat.{ℕ}
 abbrev pub illegalDrive : ℕ
 illegalDrive = 0x01
 
--- "1, 2, 7: code 02"; "others code 02"; "Above 16,384 is code 02."
+-- "1, 2, 7: code 02"; "others code 02"; "Above 16,384 is code 02."; a supplied count "needs GCR, otherwise code 02"
 abbrev pub illegalStore : ℕ
 illegalStore = 0x02
 
@@ -26,6 +26,10 @@ noGo = 0x05
 -- "none is installed, code 7 replaces the code"
 abbrev pub offline : ℕ
 offline = 0x07
+
+-- "A supplied count of 0 .. ends as 13" (document 02, Wish 1)
+abbrev pub blocketteNumberWrong : ℕ
+blocketteNumberWrong = 0x13
 
 -- "At most one of each parity: code 15"
 abbrev pub recoverable : ℕ

@@ -1,4 +1,5 @@
--- What a store comes to for the drive that it is for (document 01, Stores): "decode; test. A code here ends the store with motion 00."
+-- What a store comes to for the drive that it is for, by what it asks for (document 01, Stores): "decode; test. A code here ends the store with
+-- motion 00."
 -- Assumes nothing.
 use Rattle.common.specs.Pick.{pick}
 use Rattle.status.specs.declared.drives.Drive.{Drive}
@@ -6,12 +7,10 @@ use Rattle.status.specs.Drives.{withTrack, withDensity}
 use Rattle.operations.specs.declared.operation.Operation.{Operation}
 use Rattle.operations.specs.declared.decode.Decoded.{Decoded}
 use Rattle.operations.specs.declared.decode.Decoded.the-variants.{Reset, Code, Track, Enable, Density, Operate}
-use Rattle.operations.specs.declared.store.Store.{Store}
 use Rattle.operations.specs.declared.course.Course.{Course}
 use Rattle.operations.specs.declared.course.Course.the-variants.{Reset as ToReset, End, Enable as ToEnable, Set, Begin}
 use Rattle.operations.specs.Codes.{illegalMotion}
 use Rattle.operations.specs.Operation.{moveOf}
-use Rattle.operations.specs.Store.{askedFor}
 use Rattle.operations.specs.Test.{mayMove}
 
 -- "Code 04 unless: .."
@@ -19,14 +18,10 @@ unfoldable pub testOf : Drive → Operation → Course
 testOf drive operation = pick (mayMove (moveOf operation) (drive .report)) (Begin operation) (End illegalMotion)
 
 -- "0: reset"; "00-03 track"; "08/09 clear/set enable; 0C/0D density 0/1"
-unfoldable pub courseBy : Drive → Decoded → Course
-courseBy drive Reset = ToReset
-courseBy drive (Code code) = End code
-courseBy drive (Track track) = Set (withTrack drive track)
-courseBy drive (Enable enable) = ToEnable enable
-courseBy drive (Density density) = Set (withDensity drive density)
-courseBy drive (Operate operation) = testOf drive operation
-
--- "decode; test"
-unfoldable pub courseOf : Drive → Store → Course
-courseOf drive store = courseBy drive (askedFor store)
+unfoldable pub courseOf : Drive → Decoded → Course
+courseOf drive Reset = ToReset
+courseOf drive (Code code) = End code
+courseOf drive (Track track) = Set (withTrack drive track)
+courseOf drive (Enable enable) = ToEnable enable
+courseOf drive (Density density) = Set (withDensity drive density)
+courseOf drive (Operate operation) = testOf drive operation

@@ -1,12 +1,15 @@
--- What a store asks for (document 01, Stores), by its operation, address bits 1-3, and its four operand bytes.
+-- What a store asks for (document 01, Stores; document 02, Wish 1), by its operation, address bits 1-3, and its four operand bytes.
 -- Assumes nothing.
 use Prim.Native.Nat.{ℕ, _+_, _*_}
-use mathlib.Core.Bool.{true, false}
+use mathlib.Core.Bool.{true, false, _&&_}
 use lib.Dec.{leb, ltb, eqb}
 use Rattle.common.specs.Pick.{pick}
 use Rattle.records.specs.Count.{limit}
+use Rattle.status.specs.Drives.{mfm}
 use Rattle.operations.specs.Codes.{illegalStore, illegalTrack}
-use Rattle.operations.specs.declared.operation.Operation.the-variants.{Read, CheckBytes, Write, Erase, Rewind, FastForward, SkipForward, SkipReverse, SearchForward, SearchReverse, WriteMark}
+use Rattle.operations.specs.Operation.{suppliesCount}
+use Rattle.operations.specs.declared.operation.Operation.{Operation}
+use Rattle.operations.specs.declared.operation.Operation.the-variants.{Read, CheckBytes, SuppliedCount, Write, Erase, Rewind, FastForward, SkipForward, SkipReverse, SearchForward, SearchReverse, WriteMark}
 use Rattle.operations.specs.declared.decode.Decoded.{Decoded}
 use Rattle.operations.specs.declared.decode.Decoded.the-variants.{Reset, Code, Track, Enable, Density, Operate}
 
@@ -28,19 +31,31 @@ controlOf value =
     (pick (eqb value 0x23) (Operate SearchReverse)
     (pick (eqb value 0x24) (Operate WriteMark) (Code illegalStore)))))))))))))
 
--- "4, by first operand byte: 00 read, 40 send check bytes, others 02"
-unfoldable pub readOf : ℕ → Decoded
-readOf first = pick (eqb first 0x00) (Operate Read) (pick (eqb first 0x40) (Operate CheckBytes) (Code illegalStore))
+-- "last two: count. Above 16,384 is code 02."; of a supplied count, "a count above the record limit is code 02"
+unfoldable pub countedOf : Operation → ℕ → Decoded
+countedOf operation count = pick (ltb limit count) (Code illegalStore) (Operate operation)
 
--- "5: write; .. last two: count. Above 16,384 is code 02."
-unfoldable pub writeOf : ℕ → Decoded
-writeOf count = pick (ltb limit count) (Code illegalStore) (Operate Write)
+-- "4, by first operand byte: 00 read, 40 send check bytes, others 02"; "a store to operation 4 with first operand byte 80 and the count in the
+-- last two"
+unfoldable pub readOf : ℕ → ℕ → Decoded
+readOf first count =
+    pick (eqb first 0x00) (Operate Read)
+    (pick (eqb first 0x40) (Operate CheckBytes) (pick (eqb first 0x80) (countedOf SuppliedCount count) (Code illegalStore)))
 
--- "0: reset"; "1, 2, 7: code 02"; "6: erase"
+-- "0: reset"; "1, 2, 7: code 02"; "5: write"; "6: erase"
 unfoldable pub decodeOf : ℕ → ℕ → ℕ → ℕ → Decoded
 decodeOf operation first third fourth =
     pick (eqb operation 0) Reset
     (pick (eqb operation 3) (controlOf fourth)
-    (pick (eqb operation 4) (readOf first)
-    (pick (eqb operation 5) (writeOf (third * 256 + fourth))
+    (pick (eqb operation 4) (readOf first (third * 256 + fourth))
+    (pick (eqb operation 5) (countedOf Write (third * 256 + fourth))
     (pick (eqb operation 6) (Operate Erase) (Code illegalStore)))))
+
+-- for a drive of this density: a supplied count "needs GCR, otherwise code 02"
+unfoldable pub inDensity : ℕ → Decoded → Decoded
+inDensity density (Operate operation) = pick (suppliesCount operation && eqb density mfm) (Code illegalStore) (Operate operation)
+inDensity density Reset = Reset
+inDensity density (Code code) = Code code
+inDensity density (Track track) = Track track
+inDensity density (Enable enable) = Enable enable
+inDensity density (Density chosen) = Density chosen

@@ -1,32 +1,33 @@
--- The operations (document 01, Stores).
+-- The operations (document 01, Stores; document 02, Wish 1).
 -- Assumes nothing.
 use Prim.Native.Nat.{ℕ}
 use mathlib.Core.Bool.{Bool, true, false, _||_}
 use lib.Dec.{eqb}
 use Rattle.operations.specs.declared.operation.Operation.{Operation}
-use Rattle.operations.specs.declared.operation.Operation.the-variants.{Read, CheckBytes, Write, Erase, Rewind, FastForward, SkipForward, SkipReverse, SearchForward, SearchReverse, WriteMark}
+use Rattle.operations.specs.declared.operation.Operation.the-variants.{Read, CheckBytes, SuppliedCount, Write, Erase, Rewind, FastForward, SkipForward, SkipReverse, SearchForward, SearchReverse, WriteMark}
 use Rattle.operations.specs.declared.operation.Row.{Row}
 use Rattle.operations.specs.declared.operation.Move.{Move}
 use Rattle.operations.specs.declared.operation.Move.the-variants.{Still, Forward, Reverse, Rewinding, Winding, Writing, Erasing}
 
 -- ---- a row for each operation
 
--- Its number, which is its row in the table of answers, "eleven operations by 32 codes"; the first byte of its motion order, "operation (40, 50,
--- 60 or the control value)", 0 where there is none; how it moves tape, "Forward moves are read, skip forward and search forward; reverse
+-- Its number, which is its row in the table of answers, operations by 32 codes, in the order of document 02, Wish 9; the first byte of its
+-- motion order, "operation (40, 50, 60 or the control value)", and of a supplied count, "The order's first byte is 80", 0 where there is none; how it moves tape, "Forward moves are read, skip forward and search forward; reverse
 -- moves are skip reverse and search reverse. Every operation but check bytes moves tape"; whether "Past the test, read, skip and write
--- set secondary to 0"; and whether it is of "Read, write and check bytes", which "offer EOR".
+-- set secondary to 0"; and whether it is of "Read, write and check bytes", which "offer EOR". A supplied count: "in all else the store goes as a read".
 abbrev pub rowOf : Operation → Row
 rowOf Read = (0, 0x40, Forward, true, true)
 rowOf CheckBytes = (1, 0x00, Still, false, true)
-rowOf Write = (2, 0x50, Writing, true, true)
-rowOf Erase = (3, 0x60, Erasing, false, false)
-rowOf Rewind = (4, 0x10, Rewinding, false, false)
-rowOf FastForward = (5, 0x11, Winding, false, false)
-rowOf SkipForward = (6, 0x20, Forward, true, false)
-rowOf SkipReverse = (7, 0x21, Reverse, true, false)
-rowOf SearchForward = (8, 0x22, Forward, false, false)
-rowOf SearchReverse = (9, 0x23, Reverse, false, false)
-rowOf WriteMark = (10, 0x24, Writing, false, false)
+rowOf SuppliedCount = (2, 0x80, Forward, true, true)
+rowOf Write = (3, 0x50, Writing, true, true)
+rowOf Erase = (4, 0x60, Erasing, false, false)
+rowOf Rewind = (5, 0x10, Rewinding, false, false)
+rowOf FastForward = (6, 0x11, Winding, false, false)
+rowOf SkipForward = (7, 0x20, Forward, true, false)
+rowOf SkipReverse = (8, 0x21, Reverse, true, false)
+rowOf SearchForward = (9, 0x22, Forward, false, false)
+rowOf SearchReverse = (10, 0x23, Reverse, false, false)
+rowOf WriteMark = (11, 0x24, Writing, false, false)
 
 -- its number
 abbrev pub numberOf : Operation → ℕ
@@ -64,7 +65,19 @@ movesTape Winding = true
 movesTape Writing = true
 movesTape Erasing = true
 
--- "a read or forward skip"
+-- "Reading with a supplied count" (document 02, Wish 1)
+abbrev pub suppliesCount : Operation → Bool
+suppliesCount operation = sameOperation operation SuppliedCount
+
+-- a read of either kind, which delivers bytes of its image
+abbrev pub isRead : Operation → Bool
+isRead operation = sameOperation operation Read || suppliesCount operation
+
+-- "write stores, supplied counts": those whose store has a count that is held until the end
+abbrev pub holdsCount : Operation → Bool
+holdsCount operation = sameOperation operation Write || suppliesCount operation
+
+-- "a read or forward skip", whose image says its count
 abbrev pub bringsRecord : Operation → Bool
 bringsRecord operation = sameOperation operation Read || sameOperation operation SkipForward
 
@@ -72,6 +85,6 @@ bringsRecord operation = sameOperation operation Read || sameOperation operation
 unfoldable pub isSearch : Operation → Bool
 isSearch operation = sameOperation operation SearchForward || sameOperation operation SearchReverse
 
--- "in a read, skip or search"
+-- "in a read, skip or search"; with a supplied count, "No mark flag is allowed."
 unfoldable pub takesMark : Operation → Bool
 takesMark operation = bringsRecord operation || (sameOperation operation SkipReverse || isSearch operation)

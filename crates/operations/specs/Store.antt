@@ -6,8 +6,10 @@ use mathlib.Core.Bool.{Bool, _&&_}
 use lib.Dec.{leb, eqb}
 use Rattle.common.specs.Pick.{pick}
 use Rattle.operations.specs.declared.store.Store.{Store}
+use Rattle.operations.specs.declared.operation.Operation.{Operation}
 use Rattle.operations.specs.declared.decode.Decoded.{Decoded}
-use Rattle.operations.specs.Decode.{decodeOf}
+use Rattle.operations.specs.Operation.{suppliesCount}
+use Rattle.operations.specs.Decode.{decodeOf, inDensity}
 
 -- "bit 0 asks an interrupt"
 unfoldable pub asksInterrupt : Store → Bool
@@ -33,10 +35,18 @@ selectedBy store selected = pick (namesDrive store) (namedDrive store) selected
 unfoldable pub askedFor : Store → Decoded
 askedFor store = decodeOf (store .address / 16 % 8) (store .first) (store .third) (store .fourth)
 
+-- "decode", for the drive that the store selects: by its density
+abbrev pub askedIn : Store → ℕ → Decoded
+askedIn store density = inDensity density (askedFor store)
+
 -- of a write, "second operand byte: host bytes thrown away"
 unfoldable pub thrownAway : Store → ℕ
 thrownAway store = store .second
 
--- ".. last two: count"
+-- ".. last two: count"; "the count in the last two"
 unfoldable pub heldCount : Store → ℕ
 heldCount store = store .third * 256 + store .fourth
+
+-- the count that is supplied for an operation, and 0 where none is: what a supplied 0 counts as too, "exactly if that is nonzero"
+unfoldable pub suppliedCount : Operation → Store → ℕ
+suppliedCount operation store = pick (suppliesCount operation) (heldCount store) 0

@@ -5,9 +5,10 @@ ghost use mathlib.Core.Path.{_≡_};
 ghost use Rattle.operations.specs.Answers.{answerOf};
 
 // A row for each operation, a digit for each code from 0 to 31.
-const ANSWERS: [[u8; 32]; 11] = [
+const ANSWERS: [[u8; 32]; 12] = [
     *b"10000002222022222222000200000000", // read
     *b"10000000000000000000000000000000", // check bytes
+    *b"10000002222000000002200200000000", // supplied count
     *b"10000002220222222222200200000000", // write
     *b"10000022200000000000000200000000", // erase
     *b"10000022000000000000000000000000", // rewind

@@ -18,6 +18,9 @@ pub const NO_GO: u8 = 0x05;
 // the tape that moved is installed no more
 pub const OFFLINE: u8 = 0x07;
 
+// no blockette has the number that the supplied count asks for: it is 0
+pub const BLOCKETTE_NUMBER_WRONG: u8 = 0x13;
+
 // at most one bad blockette of each parity
 pub const RECOVERABLE: u8 = 0x15;
 

@@ -1,16 +1,14 @@
-// A store's course: what it comes to for the drive that it is for, decided before anything of the state is touched.
+// A store's course: what it comes to for the drive that it is for, by what it asks for, decided before anything of the state is touched.
 use crate::codes::ILLEGAL_MOTION;
 use crate::decode::Decoded;
 use crate::operation::Operation;
 use crate::operation::move_of;
-use crate::store::Store;
-use crate::store::asked_for;
 use crate::test::may_move;
 use status::drives::Drive;
 use status::drives::with_density;
 use status::drives::with_track;
 ghost use mathlib.Core.Path.{_≡_};
-ghost use Rattle.operations.specs.Course.{testOf, courseBy, courseOf};
+ghost use Rattle.operations.specs.Course.{testOf, courseOf};
 
 // The controller is reset, a code ends the store, enable is cleared or set, the drive has another record, or an operation begins.
 pub enum Course {
@@ -32,8 +30,8 @@ fn test_of(drive: Drive, operation: Operation) -> Course
 }
 
 // By what is asked for.
-fn course_by(drive: Drive, asked: Decoded) -> Course
-    ensures { λ r. ⌜ r ≡ courseBy drive asked ⌝ }
+pub fn course_of(drive: Drive, asked: Decoded) -> Course
+    ensures { λ r. ⌜ r ≡ courseOf drive asked ⌝ }
 {
     match asked {
         Decoded::Reset => Course::Reset,
@@ -43,11 +41,4 @@ fn course_by(drive: Drive, asked: Decoded) -> Course
         Decoded::Density(density) => Course::Set(with_density(drive, density)),
         Decoded::Operate(operation) => test_of(drive, operation),
     }
-}
-
-// The course of a store for a drive.
-pub fn course_of(drive: Drive, store: Store) -> Course
-    ensures { λ r. ⌜ r ≡ courseOf drive store ⌝ }
-{
-    course_by(drive, asked_for(store))
 }

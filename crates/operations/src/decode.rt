@@ -2,9 +2,11 @@
 use crate::codes::ILLEGAL_STORE;
 use crate::codes::ILLEGAL_TRACK;
 use crate::operation::Operation;
+use crate::operation::supplies_count;
 use records::count::LIMIT;
+use status::drives::MFM;
 ghost use mathlib.Core.Path.{_≡_};
-ghost use Rattle.operations.specs.Decode.{controlOf, readOf, writeOf, decodeOf};
+ghost use Rattle.operations.specs.Decode.{controlOf, countedOf, readOf, decodeOf, inDensity};
 
 // A reset, a code that ends the store, a setting of the selected drive or of the controller, or an operation.
 pub enum Decoded {
@@ -38,37 +40,52 @@ fn control_of(value: u8) -> Decoded
     }
 }
 
-// A store to operation 4, by its first operand byte.
-fn read_of(first: u8) -> Decoded
-    ensures { λ r. ⌜ r ≡ readOf first ⌝ }
-{
-    match first {
-        0x00 => Decoded::Operate(Operation::Read),
-        0x40 => Decoded::Operate(Operation::CheckBytes),
-        _ => Decoded::Code(ILLEGAL_STORE),
-    }
-}
-
-// A store to operation 5, by its count.
-fn write_of(count: usize) -> Decoded
-    ensures { λ r. ⌜ r ≡ writeOf count ⌝ }
+// An operation whose store has a count, a write or a read with a supplied count, by it.
+fn counted_of(operation: Operation, count: usize) -> Decoded
+    ensures { λ r. ⌜ r ≡ countedOf operation count ⌝ }
 {
     if LIMIT < count {
         return Decoded::Code(ILLEGAL_STORE);
     }
-    Decoded::Operate(Operation::Write)
+    Decoded::Operate(operation)
+}
+
+// A store to operation 4, by its first operand byte, and by its count where that is supplied.
+fn read_of(first: u8, count: usize) -> Decoded
+    ensures { λ r. ⌜ r ≡ readOf first count ⌝ }
+{
+    match first {
+        0x00 => Decoded::Operate(Operation::Read),
+        0x40 => Decoded::Operate(Operation::CheckBytes),
+        0x80 => counted_of(Operation::SuppliedCount, count),
+        _ => Decoded::Code(ILLEGAL_STORE),
+    }
 }
 
 // By the operation, address bits 1-3, and the operand's first, third and fourth byte.
 pub fn decode_of(operation: u8, first: u8, third: u8, fourth: u8) -> Decoded
     ensures { λ r. ⌜ r ≡ decodeOf operation first third fourth ⌝ }
 {
+    let count = third as usize * 256 + fourth as usize;
     match operation {
         0 => Decoded::Reset,
         3 => control_of(fourth),
-        4 => read_of(first),
-        5 => write_of(third as usize * 256 + fourth as usize),
+        4 => read_of(first, count),
+        5 => counted_of(Operation::Write, count),
         6 => Decoded::Operate(Operation::Erase),
         _ => Decoded::Code(ILLEGAL_STORE),
     }
+}
+
+// The same for a drive of this density: a supplied count needs GCR.
+pub fn in_density(density: u8, asked: Decoded) -> Decoded
+    ensures { λ r. ⌜ r ≡ inDensity density asked ⌝ }
+{
+    let Decoded::Operate(operation) = asked else {
+        return asked;
+    };
+    if supplies_count(operation) & (density == MFM) {
+        return Decoded::Code(ILLEGAL_STORE);
+    }
+    asked
 }

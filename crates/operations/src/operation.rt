@@ -1,10 +1,11 @@
 // An operation, and what of it counts in more than one rule.
 ghost use mathlib.Core.Path.{_≡_};
-ghost use Rattle.operations.specs.Operation.{rowOf, numberOf, sameOperation, moveOf, orderByte, countsBytes, offersEnd, movesTape, bringsRecord, isSearch, takesMark};
+ghost use Rattle.operations.specs.Operation.{rowOf, numberOf, sameOperation, moveOf, orderByte, countsBytes, offersEnd, movesTape, suppliesCount, isRead, holdsCount, bringsRecord, isSearch, takesMark};
 
 pub enum Operation {
     Read,
     CheckBytes,
+    SuppliedCount,
     Write,
     Erase,
     Rewind,
@@ -38,15 +39,16 @@ pub fn row_of(operation: Operation) -> Row
     match operation {
         Operation::Read => Row(0, 0x40, Move::Forward, true, true),
         Operation::CheckBytes => Row(1, 0x00, Move::Still, false, true),
-        Operation::Write => Row(2, 0x50, Move::Writing, true, true),
-        Operation::Erase => Row(3, 0x60, Move::Erasing, false, false),
-        Operation::Rewind => Row(4, 0x10, Move::Rewinding, false, false),
-        Operation::FastForward => Row(5, 0x11, Move::Winding, false, false),
-        Operation::SkipForward => Row(6, 0x20, Move::Forward, true, false),
-        Operation::SkipReverse => Row(7, 0x21, Move::Reverse, true, false),
-        Operation::SearchForward => Row(8, 0x22, Move::Forward, false, false),
-        Operation::SearchReverse => Row(9, 0x23, Move::Reverse, false, false),
-        Operation::WriteMark => Row(10, 0x24, Move::Writing, false, false),
+        Operation::SuppliedCount => Row(2, 0x80, Move::Forward, true, true),
+        Operation::Write => Row(3, 0x50, Move::Writing, true, true),
+        Operation::Erase => Row(4, 0x60, Move::Erasing, false, false),
+        Operation::Rewind => Row(5, 0x10, Move::Rewinding, false, false),
+        Operation::FastForward => Row(6, 0x11, Move::Winding, false, false),
+        Operation::SkipForward => Row(7, 0x20, Move::Forward, true, false),
+        Operation::SkipReverse => Row(8, 0x21, Move::Reverse, true, false),
+        Operation::SearchForward => Row(9, 0x22, Move::Forward, false, false),
+        Operation::SearchReverse => Row(10, 0x23, Move::Reverse, false, false),
+        Operation::WriteMark => Row(11, 0x24, Move::Writing, false, false),
     }
 }
 
@@ -102,7 +104,28 @@ pub fn moves_tape(movement: Move) -> bool
     }
 }
 
-// A read or a forward skip.
+// A read with a supplied count.
+pub fn supplies_count(operation: Operation) -> bool
+    ensures { λ r. ⌜ r ≡ suppliesCount operation ⌝ }
+{
+    same_operation(operation, Operation::SuppliedCount)
+}
+
+// A read of either kind: it delivers bytes of its image.
+pub fn is_read(operation: Operation) -> bool
+    ensures { λ r. ⌜ r ≡ isRead operation ⌝ }
+{
+    same_operation(operation, Operation::Read) | supplies_count(operation)
+}
+
+// Whether its store has a count that is held until its end: a write's, or a supplied one.
+pub fn holds_count(operation: Operation) -> bool
+    ensures { λ r. ⌜ r ≡ holdsCount operation ⌝ }
+{
+    same_operation(operation, Operation::Write) | supplies_count(operation)
+}
+
+// A read or a forward skip whose image says its count.
 pub fn brings_record(operation: Operation) -> bool
     ensures { λ r. ⌜ r ≡ bringsRecord operation ⌝ }
 {
@@ -117,7 +140,7 @@ pub fn is_search(operation: Operation) -> bool
         | same_operation(operation, Operation::SearchReverse)
 }
 
-// Whether the mark flag may be set: in a read, skip or search.
+// Whether the mark flag may be set: in a read, skip or search, but with no supplied count.
 pub fn takes_mark(operation: Operation) -> bool
     ensures { λ r. ⌜ r ≡ takesMark operation ⌝ }
 {

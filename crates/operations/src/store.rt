@@ -1,8 +1,11 @@
-// A store: which drive it names, what it asks for, and what a write holds.
+// A store: which drive it names, what it asks for, and the count that it holds.
 use crate::decode::Decoded;
 use crate::decode::decode_of;
+use crate::decode::in_density;
+use crate::operation::Operation;
+use crate::operation::supplies_count;
 ghost use mathlib.Core.Path.{_≡_};
-ghost use Rattle.operations.specs.Store.{asksInterrupt, namesDrive, namedDrive, namesUnknown, selectedBy, askedFor, heldCount};
+ghost use Rattle.operations.specs.Store.{asksInterrupt, namesDrive, namedDrive, namesUnknown, selectedBy, askedFor, askedIn, heldCount, suppliedCount};
 
 // The number of drives.
 pub const DRIVES: u8 = 4;
@@ -64,9 +67,26 @@ pub fn asked_for(store: Store) -> Decoded
     )
 }
 
-// The count of a write.
+// What it asks for of a drive of this density.
+pub fn asked_in(store: Store, density: u8) -> Decoded
+    ensures { λ r. ⌜ r ≡ askedIn store density ⌝ }
+{
+    in_density(density, asked_for(store))
+}
+
+// The count of a write, or the supplied one.
 pub fn held_count(store: Store) -> usize
     ensures { λ r. ⌜ r ≡ heldCount store ⌝ }
 {
     store.third as usize * 256 + store.fourth as usize
+}
+
+// The count that is supplied for an operation, 0 where none is.
+pub fn supplied_count(operation: Operation, store: Store) -> usize
+    ensures { λ r. ⌜ r ≡ suppliedCount operation store ⌝ }
+{
+    if supplies_count(operation) {
+        return held_count(store);
+    }
+    0
 }

@@ -12,7 +12,7 @@ use borrow.Author.Tests.{ne-eqb}
 use Rattle.common.specs.Pick.{pick}
 use Rattle.common.specs.Given.{filled}
 use Rattle.common.proofs.GivenLaws.{filled-length, filled-further}
-use Rattle.common.proofs.PickLaws.{pick-yes}
+use Rattle.common.proofs.PickLaws.{pick-yes, pick-by}
 use Rattle.blockettes.specs.Blockettes.{checkOf}
 use Rattle.blockettes.proofs.Checked.{check-length}
 use Rattle.records.specs.Count.{limit, rotated, unrotated, countBytes, countOf}
@@ -126,6 +126,11 @@ has-some c h = ap not (ne-eqb c 0 (λ none. omega arith))
 pub marks-of : (c : ℕ) → 0 < c → markCount c 1 ≡ blocketteCount c + 2
 unfolding markCount
 marks-of c h = pick-yes (blocketteCount c + 2) 0 (has-some c h)
+
+-- in either density no more than that
+pub marks-most : (c density : ℕ) → markCount c density ≤ blocketteCount c + 2
+unfolding markCount
+marks-most c density = pick-by (λ (n : ℕ). n ≤ blocketteCount c + 2) (hasBlockettes c density) (λ some. omega arith) (λ none. omega arith)
 
 -- a GCR image is its count and a blockette for each mark
 pub marks-fill : (c : ℕ) → imageLength c 1 ≡ 2 + 256 * markCount c 1

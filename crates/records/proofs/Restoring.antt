@@ -20,7 +20,7 @@ use Rattle.marks.specs.Scan.{scanMarks}
 use Rattle.marks.proofs.ScanLaws.{Once, Found, ScannedOnce, scanned-once, beside-good, not-found-good}
 use Rattle.records.specs.Count.{limit, countOf}
 use Rattle.records.specs.Image.{blocketteCount, blockettesOf, imageOf, imageLength, markCount}
-use Rattle.records.specs.Whole.{wholeRefusal}
+use Rattle.records.specs.Whole.{layoutRefusal, wholeRefusal}
 use Rattle.records.specs.Restore.{mendAt, restoreRefusal, restoredBytes, restoreInto}
 use Rattle.records.proofs.ImageLaws.{blockettes-tight, whole-blockettes, marks-of, body-is, body-front, image-holds}
 use Rattle.records.proofs.Mending.{mended-length, mended-here, mended-elsewhere}
@@ -119,7 +119,7 @@ module _ (image marks : List ℕ) (within : countOf image ≤ limit) (long : len
     (marked : length marks ≡ markCount (countOf image) 1) (legal : legalMarks marks ≡ true) where
   -- the test passes
   whole-accepted : wholeRefusal image marks 1 ≡ 0
-  unfolding wholeRefusal
+  unfolding wholeRefusal layoutRefusal
   whole-accepted =
       let two : 2 ≤ length image = omega (arith, image-holds (countOf image) 1) in
       pick-no 9 _ (le-ltb (length image) 2 two)

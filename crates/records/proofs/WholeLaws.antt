@@ -12,9 +12,27 @@ use Rattle.common.proofs.PickLaws.{by-test, pick-yes, pick-no, not-refused, pas
 use Rattle.marks.specs.Marks.{legalMarks}
 use Rattle.records.specs.Count.{limit, countOf}
 use Rattle.records.specs.Image.{imageLength, markCount}
-use Rattle.records.specs.Whole.{wholeRefusal}
+use Rattle.records.specs.Whole.{layoutRefusal, wholeRefusal}
 use Rattle.records.specs.Restore.{restoreRefusal}
 
+-- an image with this count, and its marks
+pub record IsLaid (image marks : List ℕ) (c density : ℕ) : Type 0 where
+  pub long : length image ≡ imageLength c density
+  pub marked : length marks ≡ markCount c density
+  pub legal : legalMarks marks ≡ true
+
+pub laid : (image marks : List ℕ) (c density : ℕ) → layoutRefusal image marks c density ≡ 0 → IsLaid image marks c density
+unfolding layoutRefusal
+laid image marks c density e =
+    let i = not-refused _ _ _ (λ r. omega arith) e in
+    let m = not-refused _ _ _ (λ r. omega arith) (i .1) in
+    record {
+      long = eqb-true _ _ (not-false _ (i .0));
+      marked = eqb-true _ _ (not-false _ (m .0));
+      legal = passed _ _ (λ r. omega arith) (m .1);
+    }
+
+-- one with the count that it says
 pub record IsWhole (image marks : List ℕ) (density : ℕ) : Type 0 where
   pub two : 2 ≤ length image
   pub within : countOf image ≤ limit
@@ -27,15 +45,8 @@ unfolding wholeRefusal
 whole image marks density e =
     let t = not-refused _ _ _ (λ r. omega arith) e in
     let l = not-refused _ _ _ (λ r. omega arith) (t .1) in
-    let i = not-refused _ _ _ (λ r. omega arith) (l .1) in
-    let m = not-refused _ _ _ (λ r. omega arith) (i .1) in
-    record {
-      two = ltb-false _ _ (t .0);
-      within = ltb-false _ _ (l .0);
-      long = eqb-true _ _ (not-false _ (i .0));
-      marked = eqb-true _ _ (not-false _ (m .0));
-      legal = passed _ _ (λ r. omega arith) (m .1);
-    }
+    let lies = laid image marks (countOf image) density (l .1) in
+    record { two = ltb-false _ _ (t .0); within = ltb-false _ _ (l .0); long = lies .long; marked = lies .marked; legal = lies .legal }
 
 -- the restorer does not refuse: the test is passed, and the bytes fit
 pub restorable : (image marks : List ℕ) (space : ℕ) → restoreRefusal image marks space ≡ 0 → IsWhole image marks 1 × (countOf image ≤ space)

@@ -11,12 +11,14 @@ use Rattle.marks.specs.Marks.{legalMarks}
 use Rattle.records.specs.Count.{limit, countOf}
 use Rattle.records.specs.Image.{imageLength, markCount}
 
--- A whole image: "9 count above 16,384 or wrong length of image or marks; 10 mark value". An image of less than two bytes has a
--- wrong length.
+-- An image with this count: "9 .. wrong length of image or marks; 10 mark value".
+unfoldable pub layoutRefusal : List ℕ → List ℕ → ℕ → ℕ → ℕ
+layoutRefusal image marks c density =
+    pick (not (eqb (length image) (imageLength c density))) wrongLength
+    (pick (not (eqb (length marks) (markCount c density))) wrongLength (pick (legalMarks marks) done markValue))
+
+-- A whole image, with the count that it says: "9 count above 16,384 ..". An image of less than two bytes has a wrong length.
 unfoldable pub wholeRefusal : List ℕ → List ℕ → ℕ → ℕ
 wholeRefusal image marks density =
     pick (ltb (length image) 2) wrongLength
-    (pick (ltb limit (countOf image)) wrongLength
-    (pick (not (eqb (length image) (imageLength (countOf image) density))) wrongLength
-    (pick (not (eqb (length marks) (markCount (countOf image) density))) wrongLength
-    (pick (legalMarks marks) done markValue))))
+    (pick (ltb limit (countOf image)) wrongLength (layoutRefusal image marks (countOf image) density))

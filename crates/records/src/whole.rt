@@ -8,19 +8,15 @@ use common::refusals::MARK_VALUE;
 use common::refusals::WRONG_LENGTH;
 use marks::legal_marks;
 ghost use mathlib.Core.Path.{_≡_};
-ghost use Rattle.records.specs.Whole.{wholeRefusal};
+ghost use Prim.Native.Nat.{_≤_};
+ghost use Rattle.records.specs.Count.{limit};
+ghost use Rattle.records.specs.Whole.{layoutRefusal, wholeRefusal};
 
-// Refused for a wrong length or a mark value.
-pub fn whole_refusal(image: &[u8], marks: &[u8], density: u8) -> u32
-    ensures { λ r. ⌜ r ≡ wholeRefusal (now (image .entry)) (now (marks .entry)) density ⌝ }
+// An image with this count, and its marks: refused for a wrong length or a mark value.
+pub fn layout_refusal(image: &[u8], marks: &[u8], count: usize, density: u8) -> u32
+    requires { ⌜ count ≤ limit ⌝ }
+    ensures { λ r. ⌜ r ≡ layoutRefusal (now (image .entry)) (now (marks .entry)) count density ⌝ }
 {
-    if image.len() < 2 {
-        return WRONG_LENGTH;
-    }
-    let count = count_of(image);
-    if LIMIT < count {
-        return WRONG_LENGTH;
-    }
     let length = image_length(count, density);
     if image.len() != length {
         return WRONG_LENGTH;
@@ -34,4 +30,18 @@ pub fn whole_refusal(image: &[u8], marks: &[u8], density: u8) -> u32
         return DONE;
     }
     MARK_VALUE
+}
+
+// A whole image, with the count that it says.
+pub fn whole_refusal(image: &[u8], marks: &[u8], density: u8) -> u32
+    ensures { λ r. ⌜ r ≡ wholeRefusal (now (image .entry)) (now (marks .entry)) density ⌝ }
+{
+    if image.len() < 2 {
+        return WRONG_LENGTH;
+    }
+    let count = count_of(image);
+    if LIMIT < count {
+        return WRONG_LENGTH;
+    }
+    layout_refusal(image, marks, count, density)
 }

@@ -1,60 +1,73 @@
 -- Laws of the result: what is known of one that is not refused, the final code, and as many bytes as fit.
 -- Assumes nothing.
 use borrow.Author.Tests.{eqb-true, eqb-false, ltb-false, not-true, not-false}
-use mathlib.Core.Path.{_≡_, sym, ap, subst, _∙_}
-use mathlib.Core.Bool.{Bool, true, false, not, _&&_, _||_}
+use mathlib.Core.Path.{_≡_, refl, sym, ap, subst, _∙_}
+use mathlib.Core.Bool.{Bool, true, false, not, _&&_, _||_, true≢false}
 use mathlib.Core.List.{List, [], _∷_}
 use Prim.Native.Nat.{ℕ, _+_, _-_, _≤_, min}
 use native.Mathlib.Omega.{arith}
+use lib.Dec.{eqb}
 use lib.ListN.{length, take, length-take}
 use Rattle.common.proofs.Parts.{part-least}
-use Rattle.common.proofs.PickLaws.{both-hold, pick-yes, pick-by, not-refused}
+use Rattle.common.proofs.PickLaws.{by-test, both-hold, pick-yes, pick-no, pick-by, not-refused, passed}
+use Rattle.marks.specs.Marks.{mostMarks}
 use Rattle.marks.specs.declared.Findings.{Findings}
 use Rattle.marks.specs.Scan.{isFound}
 use Rattle.records.specs.Count.{limit, countOf, unrotated}
 use Rattle.records.specs.Image.{imageLength}
-use Rattle.records.proofs.ImageLaws.{image-holds}
-use Rattle.records.proofs.WholeLaws.{whole}
+use Rattle.records.proofs.ImageLaws.{image-holds, blockettes-few, marks-most}
+use Rattle.records.proofs.WholeLaws.{laid, whole}
 use Rattle.status.specs.declared.drives.Drive.{Drive}
 use Rattle.operations.specs.declared.operation.Operation.{Operation}
-use Rattle.operations.specs.declared.operation.Operation.the-variants.{Read, SkipForward}
-use Rattle.operations.specs.Operation.{sameOperation}
+use Rattle.operations.specs.declared.operation.Operation.the-variants.{Read, SuppliedCount, SkipForward, SkipReverse}
+use Rattle.operations.specs.declared.store.Store.{Store}
+use Rattle.operations.specs.Operation.{numberOf, sameOperation, suppliesCount, isRead, bringsRecord}
+use Rattle.operations.specs.Store.{heldCount, suppliedCount}
 use Rattle.transfers.specs.declared.expected.Expected.{Expected}
-use Rattle.transfers.specs.declared.expected.Expected.the-variants.{Whole, Count, Nothing}
+use Rattle.transfers.specs.declared.expected.Expected.the-variants.{Whole, Supplied, Count, Nothing}
 use Rattle.transfers.specs.declared.verdict.Verdict.{Verdict}
-use Rattle.operations.specs.Codes.{offline, recoverable, unrecoverable}
-use Rattle.status.specs.Drives.{isGcr}
-use Rattle.operations.specs.Operation.{bringsRecord}
+use Rattle.operations.specs.Codes.{offline, blocketteNumberWrong, recoverable, unrecoverable}
+use Rattle.status.specs.Drives.{mfm, gcr, isGcr}
 use Rattle.transfers.specs.Data.{checkStore}
-use Rattle.transfers.specs.Expected.{wholeCode, expectedWhole, expectedOf, countRefusal, emptyRefusal, imageRefusal}
-use Rattle.transfers.specs.Results.{Result, resultRefusal, isGone, finalCode, readsGcr, usesImage, usedCount, verdictOf, fitting}
+use Rattle.transfers.specs.Expected.{wholeCode, expectedWhole, expectedSupplied, expectedOf, suppliedIn, countRefusal, emptyRefusal, imageRefusal}
+use Rattle.transfers.specs.Results.{Result, resultRefusal, isGone, codeReported, finalCode, readsGcr, usesImage, recordCount, usedCount, verdictOf, fitting}
 use Rattle.transfers.proofs.DataLaws.{gcr-alike}
 
 -- ---- a result that is not refused
 
--- an image that passes its test says a count within the limit, where it says one
-record Counted (image : List ℕ) : Type 0 where
-  within : countOf image ≤ limit
-  two : (length image ≡ 0 → ⊥) → 2 ≤ length image
+empty-none : (image marks : List ℕ) → emptyRefusal image marks ≡ 0 → (length image ≡ 0) × (length marks ≡ 0)
+unfolding emptyRefusal
+empty-none image marks e =
+    let l = not-refused _ _ _ (λ z. omega arith) e in (eqb-true _ _ (not-false _ (l .0)), eqb-true _ _ (passed _ _ (λ z. omega arith) (l .1)))
 
-none-counted : (image : List ℕ) → length image ≡ 0 → Counted image
+none-counted : (image : List ℕ) → length image ≡ 0 → countOf image ≤ limit
 unfolding countOf unrotated limit
-none-counted [] e = record { within = omega arith; two = λ some. absurd (some e) }
+none-counted [] e = omega arith
 none-counted (x ∷ xs) e = absurd (omega arith)
 
-empty-none : (image marks : List ℕ) → emptyRefusal image marks ≡ 0 → length image ≡ 0
-unfolding emptyRefusal
-empty-none image marks e = eqb-true _ _ (not-false _ (not-refused _ _ _ (λ z. omega arith) e .0))
-
-counted : (image marks : List ℕ) (expected : Expected) → imageRefusal image marks expected ≡ 0 → Counted image
+-- an image that passes its test, where there is one, has two bytes or more
+two-bytes : (image marks : List ℕ) (expected : Expected) → imageRefusal image marks expected ≡ 0 → (length image ≡ 0 → ⊥) → 2 ≤ length image
 unfolding imageRefusal countRefusal
-counted image marks (Whole density) e = let w = whole image marks density e in record { within = w .within; two = λ some. w .two }
-counted image marks Count e =
-    let l = not-refused _ _ _ (λ z. omega arith) e in
-    let c = not-refused _ _ _ (λ z. omega arith) (l .1) in
-    let two : length image ≡ 2 = eqb-true _ _ (not-false _ (l .0)) in
-    record { within = ltb-false _ _ (c .0); two = λ some. omega arith }
-counted image marks Nothing e = none-counted image (empty-none image marks e)
+two-bytes image marks (Whole density) e some = whole image marks density e .two
+two-bytes image marks (Supplied count) e some = omega (arith, laid image marks count gcr e .long, image-holds count gcr)
+two-bytes image marks Count e some =
+    let two : length image ≡ 2 = eqb-true _ _ (not-false _ (not-refused _ _ _ (λ z. omega arith) e .0)) in omega arith
+two-bytes image marks Nothing e some = absurd (some (empty-none image marks e .0))
+
+-- and the count that it says is within the limit, but where a count is supplied: then its own is not looked at
+abbrev OwnWithin : List ℕ → Expected → Type 0
+OwnWithin image (Whole density) = countOf image ≤ limit
+OwnWithin image (Supplied count) = Unit
+OwnWithin image Count = countOf image ≤ limit
+OwnWithin image Nothing = countOf image ≤ limit
+
+own-within : (image marks : List ℕ) (expected : Expected) → imageRefusal image marks expected ≡ 0 → OwnWithin image expected
+unfolding imageRefusal countRefusal
+own-within image marks (Whole density) e = whole image marks density e .within
+own-within image marks (Supplied count) e = tt
+own-within image marks Count e =
+    let l = not-refused _ _ _ (λ z. omega arith) e in ltb-false _ _ (not-refused _ _ _ (λ z. omega arith) (l .1) .0)
+own-within image marks Nothing e = none-counted image (empty-none image marks e .0)
 
 -- the image of a read or a forward skip is whole, where there is one
 abbrev LongFor : List ℕ → List ℕ → ℕ → Expected → Type 0
@@ -66,11 +79,37 @@ unfolding expectedWhole imageRefusal
 whole-long image marks density code mark =
     pick-by (LongFor image marks density) (wholeCode code && not mark)
     (λ brought e some. whole image marks density e .long)
-    (λ none e some. absurd (some (empty-none image marks e)))
+    (λ none e some. absurd (some (empty-none image marks e .0)))
 
-module _ (drive : Drive) (r : Result) (operation : Operation) where
+-- that of a supplied count has its length, and its marks
+record Fits (image marks : List ℕ) (count : ℕ) : Type 0 where
+  long : (length image ≡ 0 → ⊥) → length image ≡ imageLength count gcr
+  few : count ≤ limit → length marks ≤ mostMarks
+  none : count ≡ 0 → length image ≡ 0
+
+supplied-fits : (image marks : List ℕ) (count code : ℕ) → imageRefusal image marks (expectedSupplied count code) ≡ 0 → Fits image marks count
+unfolding expectedSupplied imageRefusal
+supplied-fits image marks count code =
+    pick-by (λ (x : Expected). imageRefusal image marks x ≡ 0 → Fits image marks count) (eqb code 0 && not (eqb count 0))
+    (λ brought e.
+    let lies = laid image marks count gcr e in
+    record {
+      long = λ some. lies .long;
+      few = λ within. omega (arith, lies .marked, marks-most count gcr, blockettes-few count within);
+      none = λ zero. absurd (eqb-false count 0 (not-true _ (both-hold (eqb code 0) (not (eqb count 0)) brought .1)) zero);
+    })
+    (λ none e.
+    let l = empty-none image marks e in
+    record { long = λ some. absurd (some (l .0)); few = λ within. omega (arith, l .1); none = λ zero. l .0 })
+
+-- of two, the first where the second does not hold
+left-holds : (a b : Bool) → (a || b) ≡ true → b ≡ false → a ≡ true
+left-holds true b either not = refl
+left-holds false b either not = absurd (true≢false (sym either ∙ not))
+
+module _ (drive : Drive) (r : Result) (operation : Operation) (store : Store) where
   abbrev Passes : Type 0
-  Passes = imageRefusal (r .image) (r .marks) (expectedOf operation (drive .density) (r .code) (r .mark)) ≡ 0
+  Passes = imageRefusal (r .image) (r .marks) (expectedOf operation store (drive .density) (r .code) (r .mark)) ≡ 0
 
   record-long : Passes → bringsRecord operation ≡ true → (length (r .image) ≡ 0 → ⊥) → length (r .image) ≡ imageLength (countOf (r .image)) (drive .density)
   unfolding expectedOf
@@ -78,59 +117,120 @@ module _ (drive : Drive) (r : Result) (operation : Operation) where
       whole-long (r .image) (r .marks) (drive .density) (r .code) (r .mark)
       (subst (λ (x : Expected). imageRefusal (r .image) (r .marks) x ≡ 0) (pick-yes _ _ brings) e)
 
+  -- a supplied count is none that the image says
+  supplied-alone : suppliesCount operation ≡ true → bringsRecord operation ≡ false
+  supplied-alone supplies = ap (λ (n : ℕ). eqb n (numberOf Read) || eqb n (numberOf SkipForward)) (eqb-true (numberOf operation) (numberOf SuppliedCount) supplies)
+
+  record-fits : Passes → suppliesCount operation ≡ true → Fits (r .image) (r .marks) (heldCount store)
+  unfolding expectedOf
+  record-fits e supplies =
+      supplied-fits (r .image) (r .marks) (heldCount store) (r .code)
+      (subst (λ (x : Expected). imageRefusal (r .image) (r .marks) x ≡ 0) (pick-no _ _ (supplied-alone supplies) ∙ pick-yes _ _ supplies) e)
+
+  image-within : Passes → suppliesCount operation ≡ false → countOf (r .image) ≤ limit
+  unfolding expectedOf expectedWhole
+  image-within e own =
+      let says = own-within (r .image) (r .marks) _ e in
+      let P : Expected → Type 0 = λ (x : Expected). OwnWithin (r .image) x → countOf (r .image) ≤ limit in
+      pick-by P (bringsRecord operation)
+      (λ brings. pick-by P (wholeCode (r .code) && not (r .mark)) (λ brought within. within) (λ none within. within))
+      (λ other. pick-by P (suppliesCount operation) (λ supplies. absurd (true≢false (sym supplies ∙ own)))
+      (λ said. pick-by P (sameOperation operation SkipReverse)
+      (λ back. pick-by P (not (eqb (drive .density) mfm) && (eqb (r .code) 0 && not (r .mark))) (λ two within. within) (λ none within. within))
+      (λ none within. within)))
+      says
+
   -- ---- by the verdict
 
   abbrev verdict : Verdict
-  verdict = verdictOf drive operation r
+  verdict = verdictOf drive operation store r
 
   -- an image that is used is not empty, and its count is the verdict's
   used-some : verdict .used ≡ true → length (r .image) ≡ 0 → ⊥
   unfolding verdictOf
   used-some used = eqb-false _ _ (not-true _ (both-hold (not (isGone drive operation)) _ used .1))
 
-  used-counted : verdict .used ≡ true → verdict .count ≡ countOf (r .image)
-  unfolding verdictOf usedCount
-  used-counted used = pick-yes _ _ used
+  used-own : suppliesCount operation ≡ false → verdict .used ≡ true → verdict .count ≡ countOf (r .image)
+  unfolding verdictOf usedCount recordCount
+  used-own own used = pick-yes _ _ used ∙ pick-no _ _ own
 
-  count-within : countOf (r .image) ≤ limit → verdict .count ≤ limit
-  unfolding verdictOf usedCount
-  count-within within = pick-by (λ (n : ℕ). n ≤ limit) (usesImage (isGone drive operation) (r .image)) (λ used. within) (λ unused. omega arith)
+  used-supplied : suppliesCount operation ≡ true → verdict .used ≡ true → verdict .count ≡ heldCount store
+  unfolding verdictOf usedCount recordCount
+  used-supplied supplies used = pick-yes _ _ used ∙ pick-yes _ _ supplies
+
+  count-within : Passes → suppliedCount operation store ≤ limit → verdict .count ≤ limit
+  unfolding verdictOf usedCount recordCount suppliedCount
+  count-within e within =
+      pick-by (λ (n : ℕ). n ≤ limit) (usesImage (isGone drive operation) (r .image))
+      (λ used. pick-by (λ (n : ℕ). n ≤ limit) (suppliesCount operation) (λ supplies. subst (λ (n : ℕ). n ≤ limit) (pick-yes _ _ supplies) within) (image-within e))
+      (λ unused. omega arith)
 
   -- in GCR its last blockettes are the check blockettes
   checked-long : Passes → verdict .renews ≡ true → verdict .used ≡ true → length (r .image) ≡ imageLength (verdict .count) 1
   unfolding verdictOf readsGcr
   checked-long e renews used =
-      let both = both-hold (bringsRecord operation) (isGcr drive) renews in
-      record-long e (both .0) (used-some used) ∙ gcr-alike drive _ (both .1) ∙ sym (ap (λ (n : ℕ). imageLength n 1) (used-counted used))
+      by-test (suppliesCount operation)
+      (λ supplies. record-fits e supplies .long (used-some used) ∙ sym (ap (λ (n : ℕ). imageLength n 1) (used-supplied supplies used)))
+      (λ own.
+      let both = both-hold (bringsRecord operation) (isGcr drive) (sym (ap (λ (t : Bool). t || (bringsRecord operation && isGcr drive)) own) ∙ renews) in
+      record-long e (both .0) (used-some used) ∙ gcr-alike drive _ (both .1) ∙ sym (ap (λ (n : ℕ). imageLength n 1) (used-own own used)))
 
-  read-long : Passes → sameOperation operation Read ≡ true → verdict .used ≡ true → 2 + verdict .count ≤ length (r .image)
-  read-long e is-read used =
-      let long = record-long e (ap (λ (b : Bool). b || sameOperation operation SkipForward) is-read) (used-some used) in
-      omega (arith, image-holds (countOf (r .image)) (drive .density), used-counted used)
+  read-long : Passes → isRead operation ≡ true → verdict .used ≡ true → 2 + verdict .count ≤ length (r .image)
+  read-long e reads used =
+      by-test (suppliesCount operation)
+      (λ supplies. omega (arith, record-fits e supplies .long (used-some used), image-holds (heldCount store) gcr, used-supplied supplies used))
+      (λ own.
+      let plain : sameOperation operation Read ≡ true = left-holds (sameOperation operation Read) (suppliesCount operation) reads own in
+      let long = record-long e (ap (λ (b : Bool). b || sameOperation operation SkipForward) plain) (used-some used) in
+      omega (arith, long, image-holds (countOf (r .image)) (drive .density), used-own own used))
 
   module _ (check : ℕ) where
     pub record Passed : Type 0 where
-      pub store : check ≡ checkStore
+      pub lent : check ≡ checkStore
       pub two : (length (r .image) ≡ 0 → ⊥) → 2 ≤ length (r .image)
+      pub few : suppliesCount operation ≡ true → length (r .marks) ≤ mostMarks
       pub within : verdict .count ≤ limit
       pub checked : verdict .renews ≡ true → verdict .used ≡ true → length (r .image) ≡ imageLength (verdict .count) 1
-      pub read : sameOperation operation Read ≡ true → verdict .used ≡ true → 2 + verdict .count ≤ length (r .image)
+      pub read : isRead operation ≡ true → verdict .used ≡ true → 2 + verdict .count ≤ length (r .image)
 
-    pub result-passed : resultRefusal drive operation r check ≡ 0 → Passed
+    passed-image : resultRefusal drive operation store r check ≡ 0 → (check ≡ checkStore) × Passes
     unfolding resultRefusal
-    result-passed e =
+    passed-image e =
         let s = not-refused _ _ _ (λ z. omega arith) e in
         let l = not-refused _ _ _ (λ z. omega arith) (s .1) in
-        let m = not-refused _ _ _ (λ z. omega arith) (l .1) in
-        let passes : Passes = m .1 in
-        let known = counted (r .image) (r .marks) _ passes in
+        (eqb-true _ _ (not-false _ (s .0)), not-refused _ _ _ (λ z. omega arith) (l .1) .1)
+
+    -- with a supplied count of 0 there is no image
+    pub supplied-none : resultRefusal drive operation store r check ≡ 0 → suppliesCount operation ≡ true → heldCount store ≡ 0 → length (r .image) ≡ 0
+    supplied-none e supplies = record-fits (passed-image e .1) supplies .none
+
+    pub result-passed : resultRefusal drive operation store r check ≡ 0 → suppliedCount operation store ≤ limit → Passed
+    unfolding suppliedCount
+    result-passed e within =
+        let (lent, passes) = passed-image e in
         record {
-          store = eqb-true _ _ (not-false _ (s .0));
-          two = known .two;
-          within = count-within (known .within);
+          lent = lent;
+          two = two-bytes (r .image) (r .marks) _ passes;
+          few = λ supplies. record-fits passes supplies .few (subst (λ (n : ℕ). n ≤ limit) (pick-yes _ _ supplies) within);
+          within = count-within passes within;
           checked = checked-long passes;
           read = read-long passes;
         }
+
+-- what is expected has no greater count than the one that is supplied
+pub expected-within :
+    (operation : Operation) (store : Store) (density code : ℕ) (mark : Bool)
+    → suppliedCount operation store ≤ limit
+    → suppliedIn (expectedOf operation store density code mark) ≤ limit
+unfolding expectedOf expectedWhole expectedSupplied suppliedIn suppliedCount
+expected-within operation store density code mark within =
+    let P : Expected → Type 0 = λ (x : Expected). suppliedIn x ≤ limit in
+    pick-by P (bringsRecord operation) (λ brings. pick-by P (wholeCode code && not mark) (λ brought. omega arith) (λ none. omega arith))
+    (λ other. pick-by P (suppliesCount operation)
+    (λ supplies. pick-by P (eqb code 0 && not (eqb (heldCount store) 0)) (λ brought. subst (λ (n : ℕ). n ≤ limit) (pick-yes _ _ supplies) within) (λ none. omega arith))
+    (λ said. pick-by P (sameOperation operation SkipReverse)
+    (λ back. pick-by P (not (eqb density mfm) && (eqb code 0 && not mark)) (λ two. omega arith) (λ none. omega arith))
+    (λ none. omega arith)))
 
 -- ---- the final code
 
@@ -141,6 +241,11 @@ final-zero gone code found e =
     let (there, told) = not-refused gone offline _ (λ z. omega arith) e in
     let (passed, mended) = not-refused (isFound (found .stop)) unrecoverable _ (λ z. omega arith) told in
     (there, not-refused (isFound (found .odd) || isFound (found .even)) recoverable code (λ z. omega arith) mended .1)
+
+-- the code that counts is 0 only where 0 was reported
+pub reported-zero : (operation : Operation) (store : Store) (code : ℕ) → codeReported operation store code ≡ 0 → code ≡ 0
+unfolding codeReported
+reported-zero operation store code e = not-refused _ blocketteNumberWrong code (λ z. omega arith) e .1
 
 -- ---- as many bytes as fit
 

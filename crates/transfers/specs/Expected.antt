@@ -1,4 +1,4 @@
--- What a result brings, and the test of it (document 01, Records, "Result"; Turned back, 9 and 10).
+-- What a result brings, and the test of it (document 01, Records, "Result"; Turned back, 9 and 10; document 02, Wish 1).
 -- Assumes nothing.
 use Prim.Native.Nat.{ℕ}
 use mathlib.Core.Bool.{Bool, not, _&&_, _||_}
@@ -8,14 +8,15 @@ use lib.ListN.{length}
 use Rattle.common.specs.Pick.{pick}
 use Rattle.common.specs.Refusals.{done, wrongLength}
 use Rattle.records.specs.Count.{limit, countOf}
-use Rattle.records.specs.Whole.{wholeRefusal}
-use Rattle.status.specs.Drives.{mfm}
+use Rattle.records.specs.Whole.{layoutRefusal, wholeRefusal}
+use Rattle.status.specs.Drives.{mfm, gcr}
 use Rattle.operations.specs.declared.operation.Operation.{Operation}
 use Rattle.operations.specs.declared.operation.Operation.the-variants.{SkipReverse}
-use Rattle.operations.specs.Operation.{sameOperation}
+use Rattle.operations.specs.declared.store.Store.{Store}
+use Rattle.operations.specs.Operation.{sameOperation, suppliesCount, bringsRecord}
+use Rattle.operations.specs.Store.{heldCount}
 use Rattle.transfers.specs.declared.expected.Expected.{Expected}
-use Rattle.transfers.specs.declared.expected.Expected.the-variants.{Whole, Count, Nothing}
-use Rattle.operations.specs.Operation.{bringsRecord}
+use Rattle.transfers.specs.declared.expected.Expected.the-variants.{Whole, Supplied, Count, Nothing}
 
 -- "code 0, 10, 11 or 12"
 unfoldable pub wholeCode : ℕ → Bool
@@ -25,15 +26,28 @@ wholeCode code = eqb code 0 || (eqb code 0x10 || (eqb code 0x11 || eqb code 0x12
 unfoldable pub expectedWhole : ℕ → ℕ → Bool → Expected
 expectedWhole density code mark = pick (wholeCode code && not mark) (Whole density) Nothing
 
+-- of a supplied count: "With code 0 the image and marks have the length which the supplied count gives"; "A supplied count of 0 takes an empty
+-- image"
+unfoldable pub expectedSupplied : ℕ → ℕ → Expected
+expectedSupplied count code = pick (eqb code 0 && not (eqb count 0)) (Supplied count) Nothing
+
 -- "..; two count bytes for a GCR reverse skip with code 0 and no mark"
 abbrev pub expectedCount : ℕ → ℕ → Bool → Expected
 expectedCount density code mark = pick (not (eqb density mfm) && (eqb code 0 && not mark)) Count Nothing
 
 -- "..; else image and marks are empty."
-unfoldable pub expectedOf : Operation → ℕ → ℕ → Bool → Expected
-expectedOf operation density code mark =
+unfoldable pub expectedOf : Operation → Store → ℕ → ℕ → Bool → Expected
+expectedOf operation store density code mark =
     pick (bringsRecord operation) (expectedWhole density code mark)
-    (pick (sameOperation operation SkipReverse) (expectedCount density code mark) Nothing)
+    (pick (suppliesCount operation) (expectedSupplied (heldCount store) code)
+    (pick (sameOperation operation SkipReverse) (expectedCount density code mark) Nothing))
+
+-- the count that is supplied with what is expected, 0 where none is
+unfoldable pub suppliedIn : Expected → ℕ
+suppliedIn (Supplied count) = count
+suppliedIn (Whole density) = 0
+suppliedIn Count = 0
+suppliedIn Nothing = 0
 
 -- "two count bytes", and no marks: "9 count above 16,384 or wrong length of image or marks"
 unfoldable pub countRefusal : List ℕ → List ℕ → ℕ
@@ -45,8 +59,9 @@ countRefusal image marks =
 unfoldable pub emptyRefusal : List ℕ → List ℕ → ℕ
 emptyRefusal image marks = pick (not (eqb (length image) 0)) wrongLength (pick (eqb (length marks) 0) done wrongLength)
 
--- what is expected decides
+-- what is expected decides; with a supplied count, "the image's own count is not looked at"
 unfoldable pub imageRefusal : List ℕ → List ℕ → Expected → ℕ
 imageRefusal image marks (Whole density) = wholeRefusal image marks density
+imageRefusal image marks (Supplied count) = layoutRefusal image marks count gcr
 imageRefusal image marks Count = countRefusal image marks
 imageRefusal image marks Nothing = emptyRefusal image marks

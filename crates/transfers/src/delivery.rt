@@ -8,7 +8,9 @@ use common::least;
 use marks::Findings;
 use marks::is_found;
 use operations::operation::Operation;
+use operations::operation::is_read;
 use operations::operation::same_operation;
+use operations::operation::supplies_count;
 use records::layout::blockette_count;
 ghost use mathlib.Core.Path.{_≡_};
 ghost use Prim.Native.Nat.{_+_, _≤_};
@@ -16,9 +18,9 @@ ghost use mathlib.Core.Bool.{true};
 ghost use lib.ListN.{length};
 ghost use Rattle.records.specs.Count.{limit};
 ghost use Rattle.records.specs.Image.{imageLength};
-ghost use Rattle.operations.specs.Operation.{sameOperation};
+ghost use Rattle.operations.specs.Operation.{isRead};
 ghost use Rattle.transfers.specs.Data.{checkStore};
-ghost use Rattle.transfers.specs.Results.{readCount, readBytes, deliveredBytes, fitting, fittingInto, resultCheck};
+ghost use Rattle.transfers.specs.Results.{readCount, readBytes, deliveredBytes, bytesRead, fitting, fittingInto, resultCheck};
 
 // How many bytes of its image a read delivers.
 fn read_count(count: usize, found: Findings) -> usize
@@ -43,7 +45,7 @@ fn read_bytes(image: &[u8], count: usize, found: Findings) -> &[u8]
     &image[2..end]
 }
 
-// What is to be delivered.
+// What is to be delivered, as the image or the check store has it.
 pub fn delivered_bytes<'a>(
     verdict: Verdict,
     operation: Operation,
@@ -51,10 +53,10 @@ pub fn delivered_bytes<'a>(
     check: &'a [u8],
 ) -> &'a [u8]
     requires { ⌜ verdict .count ≤ limit ⌝ }
-    requires { ⌜ (sameOperation operation Operation.Read ≡ true → verdict .used ≡ true → 2 + verdict .count ≤ length (now image)) ⌝ }
+    requires { ⌜ (isRead operation ≡ true → verdict .used ≡ true → 2 + verdict .count ≤ length (now image)) ⌝ }
     ensures { λ r. ⌜ now r ≡ deliveredBytes verdict operation (now (image .entry)) (now (check .entry)) ⌝ }
 {
-    if same_operation(operation, Operation::Read) {
+    if is_read(operation) {
         if verdict.used {
             return read_bytes(image, verdict.count, verdict.found);
         }
@@ -67,12 +69,25 @@ pub fn delivered_bytes<'a>(
 }
 
 // As many bytes as fit: how many they are.
-pub fn put_fitting(bytes: &[u8], space: &mut [u8]) -> usize
+fn put_fitting(bytes: &[u8], space: &mut [u8]) -> usize
     ensures { λ r. ⌜ r ≡ length (fitting (now (bytes .entry)) (length (now (space .entry)))) ⌝ }
     ensures { λ _. ⌜ now (space .exit) ≡ fittingInto (now (bytes .entry)) (now (space .entry)) ⌝ }
 {
     let n = least(bytes.len(), space.len());
     give(&bytes[..n], space);
+    n
+}
+
+// As many bytes as fit, as the operation reads them: those of a torn first blockette are zeros. How many they are.
+pub fn put_bytes_read(operation: Operation, bytes: &[u8], space: &mut [u8]) -> usize
+    ensures { λ r. ⌜ r ≡ length (fitting (bytesRead operation (now (bytes .entry))) (length (now (space .entry)))) ⌝ }
+    ensures { λ _. ⌜ now (space .exit) ≡ fittingInto (bytesRead operation (now (bytes .entry))) (now (space .entry)) ⌝ }
+{
+    let n = put_fitting(bytes, space);
+    if supplies_count(operation) {
+        let torn = least(n, BLOCKETTE_LENGTH);
+        clear(&mut space[..torn]);
+    }
     n
 }
 

@@ -5,16 +5,25 @@ use common::refusals::WRONG_LENGTH;
 use operations::operation::Operation;
 use operations::operation::brings_record;
 use operations::operation::same_operation;
+use operations::operation::supplies_count;
+use operations::store::Store;
+use operations::store::held_count;
 use records::count::LIMIT;
 use records::count::count_of;
+use records::whole::layout_refusal;
 use records::whole::whole_refusal;
+use status::drives::GCR;
 use status::drives::MFM;
 ghost use mathlib.Core.Path.{_≡_};
-ghost use Rattle.transfers.specs.Expected.{wholeCode, expectedWhole, expectedCount, expectedOf, countRefusal, emptyRefusal, imageRefusal};
+ghost use Prim.Native.Nat.{_≤_};
+ghost use Rattle.records.specs.Count.{limit};
+ghost use Rattle.transfers.specs.Expected.{wholeCode, expectedWhole, expectedSupplied, expectedCount, expectedOf, suppliedIn, countRefusal, emptyRefusal, imageRefusal};
 
-// What is to be handed in: a whole image of this density with its marks, two count bytes and no marks, or neither.
+// What is to be handed in: a whole image of this density with its marks, a GCR image of a supplied count with its marks, two count bytes and no
+// marks, or neither.
 pub enum Expected {
     Whole(u8),
+    Supplied(usize),
     Count,
     Nothing,
 }
@@ -36,6 +45,16 @@ fn expected_whole(density: u8, ending: Ending) -> Expected
     Expected::Nothing
 }
 
+// What a read with a supplied count brings.
+fn expected_supplied(count: usize, ending: Ending) -> Expected
+    ensures { λ r. ⌜ r ≡ expectedSupplied count (ending .code) ⌝ }
+{
+    if (ending.code == 0) & (count != 0) {
+        return Expected::Supplied(count);
+    }
+    Expected::Nothing
+}
+
 // What a reverse skip brings.
 fn expected_count(density: u8, ending: Ending) -> Expected
     ensures { λ r. ⌜ r ≡ expectedCount density (ending .code) (ending .mark) ⌝ }
@@ -47,11 +66,14 @@ fn expected_count(density: u8, ending: Ending) -> Expected
 }
 
 // What an operation brings.
-pub fn expected_of(operation: Operation, density: u8, ending: Ending) -> Expected
-    ensures { λ r. ⌜ r ≡ expectedOf operation density (ending .code) (ending .mark) ⌝ }
+pub fn expected_of(operation: Operation, store: Store, density: u8, ending: Ending) -> Expected
+    ensures { λ r. ⌜ r ≡ expectedOf operation store density (ending .code) (ending .mark) ⌝ }
 {
     if brings_record(operation) {
         return expected_whole(density, ending);
+    }
+    if supplies_count(operation) {
+        return expected_supplied(held_count(store), ending);
     }
     if same_operation(operation, Operation::SkipReverse) {
         return expected_count(density, ending);
@@ -90,10 +112,12 @@ fn empty_refusal(image: &[u8], marks: &[u8]) -> u32
 
 // What is expected: 9, 10, or 0.
 pub fn image_refusal(image: &[u8], marks: &[u8], expected: Expected) -> u32
+    requires { ⌜ suppliedIn expected ≤ limit ⌝ }
     ensures { λ r. ⌜ r ≡ imageRefusal (now (image .entry)) (now (marks .entry)) expected ⌝ }
 {
     match expected {
         Expected::Whole(density) => whole_refusal(image, marks, density),
+        Expected::Supplied(count) => layout_refusal(image, marks, count, GCR),
         Expected::Count => count_refusal(image, marks),
         Expected::Nothing => empty_refusal(image, marks),
     }

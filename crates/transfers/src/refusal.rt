@@ -10,8 +10,12 @@ use operations::answers::answer_of;
 use operations::operation::Operation;
 use operations::operation::is_search;
 use operations::operation::takes_mark;
+use operations::store::Store;
 use status::drives::Drive;
 ghost use mathlib.Core.Path.{_≡_};
+ghost use Prim.Native.Nat.{_≤_};
+ghost use Rattle.records.specs.Count.{limit};
+ghost use Rattle.operations.specs.Store.{suppliedCount};
 ghost use Rattle.transfers.specs.Results.{resultWith, markAgainst, resultRefusal};
 
 // Whether the mark flag is against its rule.
@@ -26,12 +30,14 @@ fn mark_against(operation: Operation, ending: Ending) -> bool
 pub fn result_refusal(
     drive: Drive,
     operation: Operation,
+    store: Store,
     ending: Ending,
     image: &[u8],
     marks: &[u8],
     check: usize,
 ) -> u32
-    ensures { λ r. ⌜ r ≡ resultRefusal drive operation (resultWith ending (now (image .entry)) (now (marks .entry))) check ⌝ }
+    requires { ⌜ suppliedCount operation store ≤ limit ⌝ }
+    ensures { λ r. ⌜ r ≡ resultRefusal drive operation store (resultWith ending (now (image .entry)) (now (marks .entry))) check ⌝ }
 {
     if check != CHECK_STORE {
         return CHECK_STORE_LENGTH;
@@ -42,6 +48,6 @@ pub fn result_refusal(
     if mark_against(operation, ending) | (4 <= ending.late) {
         return FLAGS_AGAINST_RULE;
     }
-    let expected = expected_of(operation, drive.density, ending);
+    let expected = expected_of(operation, store, drive.density, ending);
     image_refusal(image, marks, expected)
 }

@@ -55,11 +55,14 @@ fn wrote_well(operation: Operation, code: u8) -> bool
     same_operation(operation, Operation::Write) & (code == 0)
 }
 
-// Secondary after a result: the count of an image that is used, of a write with code 0, or as it was.
+// Secondary after a result: the supplied count, that of an image that is used, of a write with code 0, or as it was.
 fn result_secondary(verdict: Verdict, operation: Operation, store: Store, before: u32) -> u32
     requires { ⌜ verdict .count ≤ limit ⌝ }
     ensures { λ r. ⌜ r ≡ resultSecondary verdict operation store before ⌝ }
 {
+    if verdict.supplied {
+        return held_count(store) as u32;
+    }
     if verdict.used {
         return verdict.count as u32;
     }
@@ -88,7 +91,8 @@ fn result_bits(
     outcome.overflow = outcome.overflow | (space < bytes);
     outcome.wdl = outcome.wdl | (ending.late % 2 == 1);
     outcome.rdl = outcome.rdl | (ending.late / 2 % 2 == 1);
-    outcome.counted = outcome.counted | (verdict.used | wrote);
+    outcome.supplied = outcome.supplied | verdict.supplied;
+    outcome.counted = outcome.counted | (verdict.supplied | (verdict.used | wrote));
     outcome
 }
 

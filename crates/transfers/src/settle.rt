@@ -6,7 +6,7 @@ use crate::data::data_words;
 use crate::data::put_data_check;
 use crate::data::put_write_image;
 use crate::delivery::delivered_bytes;
-use crate::delivery::put_fitting;
+use crate::delivery::put_bytes_read;
 use crate::delivery::put_result_check;
 use crate::results::result_gap;
 use crate::results::result_words;
@@ -20,7 +20,7 @@ ghost use Prim.Native.Nat.{_≤_};
 ghost use lib.ListN.{length};
 ghost use Rattle.common.specs.Given.{given};
 ghost use Rattle.records.specs.Count.{limit};
-ghost use Rattle.operations.specs.Store.{heldCount};
+ghost use Rattle.operations.specs.Store.{heldCount, suppliedCount};
 ghost use Rattle.transfers.specs.Data.{dataRefusal, writeImage, dataCheck, settleData};
 ghost use Rattle.transfers.specs.Results.{resultWith, resultRefusal, resultInto, resultCheckInto, settleResult};
 
@@ -57,12 +57,13 @@ pub fn settle_result(
     space: &mut [u8],
     check: &mut [u8],
 ) -> After
-    requires { ⌜ resultRefusal drive operation (resultWith ending (now image) (now marks)) (length (now check)) ≡ 0 ⌝ }
+    requires { ⌜ resultRefusal drive operation store (resultWith ending (now image) (now marks)) (length (now check)) ≡ 0 ⌝ }
+    requires { ⌜ suppliedCount operation store ≤ limit ⌝ }
     ensures { λ r. ⌜ r ≡ settleResult words drive operation store (resultWith ending (now (image .entry)) (now (marks .entry))) (length (now (space .entry))) (now (check .entry)) ⌝ }
-    ensures { λ _. ⌜ now (space .exit) ≡ resultInto drive operation (resultWith ending (now (image .entry)) (now (marks .entry))) (now (space .entry)) (now (check .entry)) ⌝ }
-    ensures { λ _. ⌜ now (check .exit) ≡ resultCheckInto drive operation (resultWith ending (now (image .entry)) (now (marks .entry))) (now (check .entry)) ⌝ }
+    ensures { λ _. ⌜ now (space .exit) ≡ resultInto drive operation store (resultWith ending (now (image .entry)) (now (marks .entry))) (now (space .entry)) (now (check .entry)) ⌝ }
+    ensures { λ _. ⌜ now (check .exit) ≡ resultCheckInto drive operation store (resultWith ending (now (image .entry)) (now (marks .entry))) (now (check .entry)) ⌝ }
 {
-    let verdict = verdict_of(drive, operation, ending, image, marks);
+    let verdict = verdict_of(drive, operation, store, ending, image, marks);
     let gap = result_gap(drive, operation, verdict.code);
     let delivered = delivered_bytes(verdict, operation, image, check);
     let told = result_words(
@@ -74,7 +75,7 @@ pub fn settle_result(
         delivered.len(),
         space.len(),
     );
-    let bytes = put_fitting(delivered, space);
+    let bytes = put_bytes_read(operation, delivered, space);
     put_result_check(verdict, image, check);
     After {
         words: told,

@@ -2,7 +2,9 @@
 
 use crate::lines::{write_hex, Session, HOST_LIMIT};
 use crate::machine::{code, link, report, Job, Operation, Phase, OPERATIONS};
-use crate::records::{self, Density, BLOCKETTE, GOOD, IMAGE_LIMIT, MARKS_LIMIT, RECORD_LIMIT};
+use crate::records::{
+    self, Density, BLOCKETTE, GOOD, IMAGE_LIMIT, MARKS_LIMIT, RECORD_LIMIT, TORN,
+};
 use std::collections::VecDeque;
 
 /// Xorshift with a multiplied output; the seed is stirred so that near seeds differ at once.
@@ -82,6 +84,8 @@ impl ResultLine {
 pub struct Generator {
     random: Random,
     session: Session,
+    /// Whether stores with a supplied count are made.
+    supplied: bool,
     /// Lines that were decided on together, such as the bytes of a string.
     planned: VecDeque<Vec<u8>>,
     /// Loads still to be made after a result, to see what it left.
@@ -92,10 +96,11 @@ pub struct Generator {
 }
 
 impl Generator {
-    pub fn new(seed: u64) -> Generator {
+    pub fn new(seed: u64, supplied: bool) -> Generator {
         let mut generator = Generator {
             random: Random::new(seed),
             session: Session::new(None),
+            supplied,
             planned: VecDeque::new(),
             looks: 0,
             take_back: None,
@@ -135,7 +140,8 @@ impl Generator {
         // The counts and the check bytes are worth a look; winding and erasing leave none.
         if let Phase::ResultAwaited(job) = before {
             let moved = self.session.machine.phase != before;
-            if moved && self.session.machine.code() >= code::RECOVERABLE {
+            let bad = self.session.machine.code() >= code::RECOVERABLE;
+            if moved && (bad || job.supplied().is_some()) {
                 self.looks = 2;
             } else if moved && (job.operation.offers_eor() || job.operation.is_skip()) {
                 self.looks = self.random.pick(&[0, 0, 1, 1, 2]);
@@ -180,10 +186,12 @@ impl Generator {
             },
             Phase::ResultAwaited(job) => match self.random.below(40) {
                 0 => self.stray(),
-                1 | 2 if job.operation.moves_tape() => {
-                    let gone = self.random.byte() & !report::INSTALLED;
-                    let drive = self.session.machine.selected;
-                    report_line(drive, if self.random.chance(50) { 4 } else { gone })
+                1 | 2 if job.operation.moves_tape() => self.tape_gone(),
+                9..=11 if job.supplied().is_some() => self.tape_gone(),
+                3..=8 if job.supplied().is_some() && self.random.chance(60) => {
+                    let mut line = self.result_for(job);
+                    self.spoil_supplied(job.count(), &mut line);
+                    line.print()
                 }
                 3..=8 => {
                     let mut line = self.result_for(job);
@@ -198,6 +206,13 @@ impl Generator {
                 _ => byte_line(link::ACK),
             },
         }
+    }
+
+    /// The tape goes while a result is awaited.
+    fn tape_gone(&mut self) -> Vec<u8> {
+        let gone = self.random.byte() & !report::INSTALLED;
+        let drive = self.session.machine.selected;
+        report_line(drive, if self.random.chance(50) { 4 } else { gone })
     }
 
     fn when_idle(&mut self) -> Vec<u8> {
@@ -328,7 +343,7 @@ impl Generator {
             3 => b"K".to_vec(),
             4 | 5 => self.data_line(20),
             6 | 7 => {
-                let operation = self.random.pick(&OPERATIONS);
+                let operation = self.random.pick(self.operations());
                 let job = Job {
                     operation,
                     operand: [0; 4],
@@ -344,6 +359,14 @@ impl Generator {
         }
     }
 
+    /// The operations that stores may start.
+    fn operations(&self) -> &'static [Operation] {
+        match OPERATIONS.split_last() {
+            Some((Operation::SuppliedCount, others)) if !self.supplied => others,
+            _ => &OPERATIONS,
+        }
+    }
+
     // Strings -----------------------------------------------------------------------------------
 
     fn plan_load(&mut self) {
@@ -353,6 +376,10 @@ impl Generator {
     }
 
     fn plan_store(&mut self) {
+        if self.supplied && self.random.chance(16) {
+            return self.plan_supplied();
+        }
+        let operations = self.operations();
         let random = &mut self.random;
         let mut address = 0;
         let mut operand = [0; 4];
@@ -402,7 +429,7 @@ impl Generator {
                     65 => Operation::CheckBytes,
                     66..=73 => Operation::SearchForward,
                     74..=77 => Operation::WriteMark,
-                    _ => random.pick(&OPERATIONS),
+                    _ => random.pick(operations),
                 };
                 started = Some(operation);
                 match operation {
@@ -427,6 +454,7 @@ impl Generator {
                         5
                     }
                     Operation::Erase => 6,
+                    Operation::SuppliedCount => return self.plan_supplied(),
                     other => control(&mut operand, other.order()),
                 }
             }
@@ -439,11 +467,61 @@ impl Generator {
                 self.planned.push_back(line);
             }
         }
+        // Chance may have made one.
+        if !self.supplied && operation == 4 && operand[0] == 0x80 {
+            operand[0] = 0x81;
+        }
         let unused = self.random.pick(&[0, 0, 0, 0x5A]);
         let mut string = vec![link::STORE, address | operation << 4];
         string.extend_from_slice(&operand);
         string.push(unused);
         self.plan_string(string);
+    }
+
+    /// A read with a supplied count: mostly in GCR, with tape, and of a count that may be.
+    fn plan_supplied(&mut self) {
+        let mut drive = self.random.below(4);
+        let named = self.random.chance(85);
+        if !named {
+            drive = self.session.machine.selected;
+        }
+        let state = self.session.machine.drives[drive];
+        if state.density == Density::Mfm && self.random.chance(80) {
+            self.plan_string(vec![link::STORE, 0x38 | drive as u8, 0, 0, 0, 0x0D, 0]);
+            self.planned.push_back(b"T".to_vec());
+        }
+        if !Operation::SuppliedCount.may_start(&state) && self.random.chance(75) {
+            let line = self.good_report(drive);
+            self.planned.push_back(line);
+        }
+        let random = &mut self.random;
+        let mut address = 0x40
+            | match named {
+                true if random.chance(4) => 0x0C | random.below(4),
+                true => 0x08 | drive,
+                // The low bits are not looked at.
+                false => random.below(8),
+            } as u8;
+        if random.chance(45) {
+            address |= 0x80;
+        }
+        // Another byte than 80 asks nothing that is known.
+        let first = match random.below(25) {
+            0 => random.pick(&[0x81, 0x88, 0x90, 0xA0, 0xC0, 0xFF]),
+            _ => 0x80,
+        };
+        let second = random.byte();
+        let second = random.pick(&[0, 0, 0x80, second]);
+        let count = match random.below(20) {
+            0..=2 => 0,
+            3 => random.pick(&[0x4001, 0x4100, 0x8000, 0xFFFF]),
+            // Enough blockettes for a scan to stop among them.
+            4..=9 => 600 + random.below(2000) as u16,
+            _ => record_length(random) as u16,
+        };
+        let [high, low] = count.to_be_bytes();
+        let unused = random.pick(&[0, 0, 0, 0x5A]);
+        self.plan_string(vec![link::STORE, address, first, second, high, low, unused]);
     }
 
     /// Plans the bytes with their check byte, now and then a wrong one or a break.
@@ -565,6 +643,9 @@ impl Generator {
 
     /// A result that the machine takes for this job.
     fn result_for(&mut self, job: Job) -> ResultLine {
+        if let Some(count) = job.supplied() {
+            return self.supplied_result(count);
+        }
         let machine = &self.session.machine;
         let density = machine.drives[machine.selected].density;
         let random = &mut self.random;
@@ -581,11 +662,7 @@ impl Generator {
         let mut line = ResultLine {
             code,
             mark,
-            late: if random.chance(80) {
-                0
-            } else {
-                1 + random.below(3)
-            },
+            late: late(random),
             image: Vec::new(),
             marks: Vec::new(),
             space: 0,
@@ -612,17 +689,41 @@ impl Generator {
         {
             line.image = records::count_bytes(record_length(random) as u16).to_vec();
         }
+        line.space = space(&mut self.random, wanted);
+        line
+    }
+
+    /// A result of a read with a supplied count, whose own count may be anything.
+    fn supplied_result(&mut self, count: usize) -> ResultLine {
         let random = &mut self.random;
-        line.space = match random.below(12) {
-            0 => wanted.saturating_sub(1),
-            1 => wanted + 1,
-            2 => random.pick(&[0, 1, 255, 256, 257, 511, 512, 513]),
-            3 => random.below(wanted + 1),
-            4 => random.below(HOST_LIMIT + 1),
-            5 => HOST_LIMIT,
-            _ => wanted,
+        let mut line = ResultLine {
+            code: if random.chance(65) {
+                code::GOOD
+            } else {
+                random.pick(Operation::SuppliedCount.listed())
+            },
+            mark: false,
+            late: late(random),
+            image: Vec::new(),
+            marks: Vec::new(),
+            space: 0,
         };
-        line.space = line.space.min(HOST_LIMIT);
+        let mut wanted = 0;
+        if line.code == code::GOOD && count > 0 {
+            line.image = self.image(count, Density::Gcr);
+            line.marks = self.marks(records::marks_length(count, Density::Gcr));
+            let random = &mut self.random;
+            let any = random.below(65_536);
+            let own_count = random.pick(&[count, count, 0, count ^ 1, count ^ 256, 65_535, any]);
+            line.image[..2].copy_from_slice(&records::count_bytes(own_count as u16));
+            if random.chance(40) {
+                line.marks[0] = 1 + random.below(9) as u8;
+            }
+            let mut marks = line.marks.clone();
+            marks[0] = TORN;
+            wanted = records::readable(count, records::scan(&marks, None).verdict);
+        }
+        line.space = space(&mut self.random, wanted);
         line
     }
 
@@ -728,6 +829,43 @@ impl Generator {
         }
     }
 
+    /// What would be right for a read, or for another count, and is wrong for a supplied one.
+    fn spoil_supplied(&mut self, count: usize, line: &mut ResultLine) {
+        match self.random.below(8) {
+            0 => line.code = self.random.pick(Operation::Read.listed()),
+            1 => line.mark = true,
+            2 => {
+                let space = line.space;
+                *line = ResultLine {
+                    code: code::GOOD,
+                    mark: true,
+                    late: 0,
+                    image: Vec::new(),
+                    marks: Vec::new(),
+                    space,
+                };
+            }
+            // A whole record of another count, which its own count tells.
+            3 | 4 => {
+                let any = record_length(&mut self.random);
+                let less = count.saturating_sub(BLOCKETTE);
+                let more = (count + BLOCKETTE).min(RECORD_LIMIT);
+                let other = self.random.pick(&[any, less, more, 0]);
+                line.code = code::GOOD;
+                line.image = self.image(other, Density::Gcr);
+                line.marks = self.marks(records::marks_length(other, Density::Gcr));
+            }
+            // An image with a code that brings none, or none with the code that brings one.
+            5 if line.image.is_empty() => line.code = code::GOOD,
+            5 => line.code = self.random.pick(&Operation::SuppliedCount.listed()[1..]),
+            6 => line.marks.clear(),
+            _ if !line.marks.is_empty() => {
+                line.marks[0] = self.random.pick(&[TORN, 10, 14, 16, 0xFF]);
+            }
+            _ => line.marks = vec![GOOD; 2],
+        }
+    }
+
     // Unreadable lines --------------------------------------------------------------------------
 
     fn unreadable(&mut self) -> Vec<u8> {
@@ -814,6 +952,28 @@ fn report_line(drive: usize, report: u8) -> Vec<u8> {
     format!("S,{drive},{report:02X}").into_bytes()
 }
 
+fn late(random: &mut Random) -> usize {
+    if random.chance(80) {
+        0
+    } else {
+        1 + random.below(3)
+    }
+}
+
+/// Host space: what is wanted, or near it, or any.
+fn space(random: &mut Random, wanted: usize) -> usize {
+    let space = match random.below(12) {
+        0 => wanted.saturating_sub(1),
+        1 => wanted + 1,
+        2 => random.pick(&[0, 1, 255, 256, 257, 511, 512, 513]),
+        3 => random.below(wanted + 1),
+        4 => random.below(HOST_LIMIT + 1),
+        5 => HOST_LIMIT,
+        _ => wanted,
+    };
+    space.min(HOST_LIMIT)
+}
+
 /// Lengths around the edges of blockettes, with long ones seldom.
 fn record_length(random: &mut Random) -> usize {
     match random.below(40) {
@@ -831,7 +991,15 @@ fn record_length(random: &mut Random) -> usize {
 
 /// A session of so many lines. The last #0A is left out in every second session.
 pub fn session(seed: u64, lines: usize) -> Vec<u8> {
-    let mut generator = Generator::new(seed);
+    write_session(Generator::new(seed, true), seed, lines)
+}
+
+/// The same without stores that supply a count, for a program that does not know them.
+pub fn session_without_supplied(seed: u64, lines: usize) -> Vec<u8> {
+    write_session(Generator::new(seed, false), seed, lines)
+}
+
+fn write_session(mut generator: Generator, seed: u64, lines: usize) -> Vec<u8> {
     let mut text = Vec::new();
     for _ in 0..lines {
         text.extend_from_slice(&generator.line());

@@ -1,9 +1,10 @@
-//! The controller: its state and the eight calls, as document 01 has them.
+//! The controller: its state and the eight calls, as document 01 has them, with the read of
+//! document 02's first wish, whose count the host supplies.
 //!
 //! Refusal 1, a damaged state, is not here: the state's types and the calls keep it whole.
 
 use crate::mutants::Mutant;
-use crate::records::{self, Density, Verdict};
+use crate::records::{self, Density, Verdict, BLOCKETTE};
 
 // ---------------------------------------------------------------------------------------------
 // Registers, bits and bytes, with document 01's numbers
@@ -69,6 +70,7 @@ pub mod primary {
     pub const UNDERFLOW: u32 = bit(18);
     pub const LATE_1: u32 = bit(19);
     pub const LATE_2: u32 = bit(20);
+    pub const COUNT_SUPPLIED: u32 = bit(21);
     pub const COUNT_VALID: u32 = bit(22);
     pub const DENSITY: u32 = bit(23);
     /// Bits 16-20: each of them asks a retry.
@@ -92,6 +94,7 @@ pub mod code {
     pub const NOT_READY: u8 = 0x04;
     pub const NO_GO: u8 = 0x05;
     pub const TAPE_GONE: u8 = 0x07;
+    pub const BLOCKETTE_NUMBER: u8 = 0x13;
     pub const RECOVERABLE: u8 = 0x15;
     pub const UNRECOVERABLE: u8 = 0x16;
 }
@@ -112,7 +115,7 @@ pub enum Gap {
     Lost = 3,
 }
 
-/// The eleven operations that await a result.
+/// The twelve operations that await a result.
 #[derive(Clone, Copy, Debug, PartialEq, Eq, Hash, PartialOrd, Ord)]
 pub enum Operation {
     Read,
@@ -126,9 +129,12 @@ pub enum Operation {
     SearchForward,
     SearchReverse,
     WriteMark,
+    /// A read of a GCR record whose count the host supplies.
+    SuppliedCount,
 }
 
-pub const OPERATIONS: [Operation; 11] = [
+/// Document 01's eleven, then that of document 02.
+pub const OPERATIONS: [Operation; 12] = [
     Operation::Read,
     Operation::CheckBytes,
     Operation::Write,
@@ -140,6 +146,7 @@ pub const OPERATIONS: [Operation; 11] = [
     Operation::SearchForward,
     Operation::SearchReverse,
     Operation::WriteMark,
+    Operation::SuppliedCount,
 ];
 
 impl Operation {
@@ -156,6 +163,7 @@ impl Operation {
             Operation::SearchForward => 0x22,
             Operation::SearchReverse => 0x23,
             Operation::WriteMark => 0x24,
+            Operation::SuppliedCount => 0x80,
         }
     }
 
@@ -176,6 +184,7 @@ impl Operation {
             Operation::Erase => &[0x00, 0x06, 0x07, 0x08, 0x17],
             Operation::Rewind | Operation::FastForward => &[0x00, 0x06, 0x07],
             Operation::CheckBytes => &[0x00],
+            Operation::SuppliedCount => &[0x00, 0x07, 0x08, 0x09, 0x0A, 0x13, 0x14, 0x17],
         }
     }
 
@@ -186,7 +195,10 @@ impl Operation {
     pub fn is_forward_move(self) -> bool {
         matches!(
             self,
-            Operation::Read | Operation::SkipForward | Operation::SearchForward
+            Operation::Read
+                | Operation::SuppliedCount
+                | Operation::SkipForward
+                | Operation::SearchForward
         )
     }
 
@@ -210,7 +222,7 @@ impl Operation {
         )
     }
 
-    /// Whether it reads a whole record, so that a good result brings a whole image.
+    /// Whether it reads a whole record, which tells its count itself.
     pub fn reads_record(self) -> bool {
         matches!(self, Operation::Read | Operation::SkipForward)
     }
@@ -218,7 +230,7 @@ impl Operation {
     pub fn offers_eor(self) -> bool {
         matches!(
             self,
-            Operation::Read | Operation::Write | Operation::CheckBytes
+            Operation::Read | Operation::SuppliedCount | Operation::Write | Operation::CheckBytes
         )
     }
 
@@ -324,15 +336,25 @@ pub struct Job {
 }
 
 impl Job {
-    /// Data bytes of a write.
+    /// Data bytes of a write, or of a record read with a supplied count.
     pub fn count(&self) -> usize {
-        u16::from_be_bytes([self.operand[2], self.operand[3]]) as usize
+        count_of_operand(self.operand)
+    }
+
+    /// The supplied count of a read that has one.
+    pub fn supplied(&self) -> Option<usize> {
+        (self.operation == Operation::SuppliedCount).then(|| self.count())
     }
 
     /// Host bytes of a write that come first and are thrown away.
     pub fn thrown_away(&self) -> usize {
         self.operand[1] as usize
     }
+}
+
+/// The last two bytes of a store's operand.
+fn count_of_operand(operand: [u8; 4]) -> usize {
+    u16::from_be_bytes([operand[2], operand[3]]) as usize
 }
 
 /// What a sent string is for, which decides what its end brings.
@@ -404,7 +426,7 @@ pub struct Machine {
 // Decode: what a store asks, and whether a result may be taken
 // ---------------------------------------------------------------------------------------------
 
-/// What a store asks, before any look at the drive.
+/// What a store asks, before any look at the drive's report.
 enum Decoded {
     Reset,
     Code(u8),
@@ -414,7 +436,8 @@ enum Decoded {
     Operation(Operation),
 }
 
-fn decode(operation: u8, operand: [u8; 4]) -> Decoded {
+/// The density is that of the drive which the store selected.
+fn decode(operation: u8, operand: [u8; 4], density: Density, mutant: Option<Mutant>) -> Decoded {
     match operation {
         0 => Decoded::Reset,
         3 => match operand[3] {
@@ -436,9 +459,12 @@ fn decode(operation: u8, operand: [u8; 4]) -> Decoded {
         4 => match operand[0] {
             0x00 => Decoded::Operation(Operation::Read),
             0x40 => Decoded::Operation(Operation::CheckBytes),
+            _ if asks_supplied_count(operand, density, mutant) => {
+                Decoded::Operation(Operation::SuppliedCount)
+            }
             _ => Decoded::Code(code::NO_SUCH_OPERATION),
         },
-        5 if u16::from_be_bytes([operand[2], operand[3]]) as usize <= records::RECORD_LIMIT => {
+        5 if count_of_operand(operand) <= records::RECORD_LIMIT => {
             Decoded::Operation(Operation::Write)
         }
         6 => Decoded::Operation(Operation::Erase),
@@ -446,12 +472,28 @@ fn decode(operation: u8, operand: [u8; 4]) -> Decoded {
     }
 }
 
+/// First operand byte 80, in GCR, with a count that a record may have.
+fn asks_supplied_count(operand: [u8; 4], density: Density, mutant: Option<Mutant>) -> bool {
+    let wrong = |rule| mutant == Some(rule);
+    let named = match operand[0] {
+        0x80 => !wrong(Mutant::SuppliedNotKnown),
+        0x81.. => wrong(Mutant::SuppliedByOneBit),
+        _ => false,
+    };
+    let gcr = density == Density::Gcr || wrong(Mutant::SuppliedInMfm);
+    let short = count_of_operand(operand) <= records::RECORD_LIMIT;
+    named && gcr && (short || wrong(Mutant::SuppliedAboveLimit))
+}
+
 /// Refusals 7 to 10, which look at the result as it was handed in, tape or no tape.
 fn check_reported(
-    operation: Operation,
+    job: Job,
     density: Density,
     reported: &Reported,
+    mutant: Option<Mutant>,
 ) -> Result<(), Refusal> {
+    let wrong = |rule| job.supplied().is_some() && mutant == Some(rule);
+    let operation = job.operation;
     let Reported {
         code,
         mark,
@@ -459,38 +501,71 @@ fn check_reported(
         image,
         marks,
     } = *reported;
-    if !operation.listed().contains(&code) {
+    let listed = if wrong(Mutant::SuppliedCodesOfRead) {
+        Operation::Read.listed()
+    } else {
+        operation.listed()
+    };
+    if !listed.contains(&code) {
         return Err(Refusal::CodeNotListed);
     }
     let good = code == code::GOOD;
-    let may_find_mark =
-        operation == Operation::Read || operation.is_skip() || operation.is_search();
+    let may_find_mark = operation == Operation::Read
+        || operation.is_skip()
+        || operation.is_search()
+        || wrong(Mutant::SuppliedMarkFlag);
     if mark && !(good && may_find_mark) || operation.is_search() && good && !mark || late > 3 {
         return Err(Refusal::Flags);
     }
-    let whole = operation.reads_record() && matches!(code, 0x00 | 0x10 | 0x11 | 0x12) && !mark;
-    let count_alone =
-        operation == Operation::SkipReverse && density == Density::Gcr && good && !mark;
-    if whole || count_alone {
-        let count = records::count_of(image).ok_or(Refusal::Length)?;
-        let lengths = if whole {
-            (
-                records::image_length(count, density),
-                records::marks_length(count, density),
-            )
-        } else {
-            (2, 0)
-        };
-        if count > records::RECORD_LIMIT || (image.len(), marks.len()) != lengths {
-            return Err(Refusal::Length);
-        }
-    } else if !image.is_empty() || !marks.is_empty() {
+    if wanted_lengths(job, density, reported, mutant) != Some((image.len(), marks.len())) {
         return Err(Refusal::Length);
     }
-    if !marks.iter().all(|&mark| records::is_mark(mark)) {
+    let unread = wrong(Mutant::SuppliedFirstMarkUnread) as usize;
+    if !marks
+        .iter()
+        .skip(unread)
+        .all(|&mark| records::is_mark(mark))
+    {
         return Err(Refusal::MarkValue);
     }
     Ok(())
+}
+
+/// The lengths of image and marks that a result has to bring. None if they hang on the image's
+/// own count, and that is missing or above the limit.
+fn wanted_lengths(
+    job: Job,
+    density: Density,
+    reported: &Reported,
+    mutant: Option<Mutant>,
+) -> Option<(usize, usize)> {
+    let Reported {
+        code, mark, image, ..
+    } = *reported;
+    let good = code == code::GOOD && !mark;
+    let own_count = records::count_of(image).filter(|&count| count <= records::RECORD_LIMIT);
+    let of_record = |count| {
+        (
+            records::image_length(count, density),
+            records::marks_length(count, density),
+        )
+    };
+    if let Some(count) = job.supplied() {
+        // The image's own count is not looked at; a record of no bytes brings not even that.
+        return match count {
+            _ if !good => Some((0, 0)),
+            _ if mutant == Some(Mutant::SuppliedOwnCount) => own_count.map(of_record),
+            0 if mutant != Some(Mutant::SuppliedNoneAsRecord) => Some((0, 0)),
+            _ => Some(of_record(count)),
+        };
+    }
+    if job.operation.reads_record() && matches!(code, 0x00 | 0x10 | 0x11 | 0x12) && !mark {
+        own_count.map(of_record)
+    } else if job.operation == Operation::SkipReverse && density == Density::Gcr && good {
+        own_count.map(|_| (2, 0))
+    } else {
+        Some((0, 0))
+    }
 }
 
 // ---------------------------------------------------------------------------------------------
@@ -637,36 +712,57 @@ impl Machine {
         if check_store.len() != records::CHECK_BYTES {
             return Err(Refusal::CheckStore);
         }
-        let density = self.drive().density;
-        check_reported(job.operation, density, &reported)?;
+        // Held with a supplied count, a record is GCR whatever the drive has become.
+        let supplied = job.supplied();
+        let density = match supplied {
+            Some(_) => Density::Gcr,
+            None => self.drive().density,
+        };
+        check_reported(job, density, &reported, self.mutant)?;
 
         // The tape may have gone meanwhile: then nothing that was reported is used.
         let tape_gone = job.operation.moves_tape()
             && !self.drive().reports(report::INSTALLED)
             && !self.wrong(Mutant::TapeGoneUnnoticed);
-        let mut code = if tape_gone {
+        // A record of no bytes has no first blockette that could have been found.
+        let none_found = supplied == Some(0)
+            && reported.code == code::GOOD
+            && !self.wrong(Mutant::SuppliedNoneIsGood);
+        let mut code = if tape_gone && !(none_found && self.wrong(Mutant::SuppliedNoneFirst)) {
             code::TAPE_GONE
+        } else if none_found {
+            code::BLOCKETTE_NUMBER
         } else {
             reported.code
         };
         let mark = reported.mark && !tape_gone;
         // The count of an image, where one came and is used.
-        let used = if tape_gone {
-            None
-        } else {
-            records::count_of(reported.image)
+        let used = match (records::count_of(reported.image), supplied) {
+            _ if tape_gone => None,
+            (Some(_), Some(count)) if !self.wrong(Mutant::SuppliedOwnCount) => Some(count),
+            (own_count, _) => own_count,
         };
 
         // Errors of a GCR record replace the code.
         let mut verdict = Verdict::Clean;
-        if job.operation.reads_record() && density == Density::Gcr {
-            let keep = self.wrong(Mutant::CheckStoreKeptByMark) && mark;
+        let reads_record = job.operation.reads_record() || supplied.is_some();
+        if reads_record && density == Density::Gcr {
+            let keep = self.wrong(Mutant::CheckStoreKeptByMark) && mark
+                || self.wrong(Mutant::SuppliedCorrectionKept)
+                    && supplied.is_some()
+                    && used.is_none();
             if !keep {
                 self.clear_correction(check_store);
             }
             if used.is_some() {
-                keep_check_blockettes(reported.image, check_store);
-                let scan = records::scan(reported.marks, self.mutant);
+                if supplied.is_none() || !self.wrong(Mutant::SuppliedChecksUnread) {
+                    keep_check_blockettes(reported.image, check_store);
+                }
+                let mut marks = reported.marks.to_vec();
+                if supplied.is_some() {
+                    self.tear_first(&mut marks);
+                }
+                let scan = records::scan(&marks, self.mutant);
                 self.tertiary = scan.tertiary;
                 self.quintary = scan.quintary;
                 verdict = scan.verdict;
@@ -685,11 +781,21 @@ impl Machine {
                 (Operation::Read, Some(count)) => {
                     &reported.image[2..2 + records::readable(count, verdict)]
                 }
+                (Operation::SuppliedCount, Some(count)) => {
+                    let mut readable = records::readable(count, verdict);
+                    if self.wrong(Mutant::SuppliedWholeFirst) {
+                        readable = readable.max(BLOCKETTE);
+                    }
+                    &reported.image[2..2 + readable]
+                }
                 (Operation::CheckBytes, _) => check_store,
                 _ => &[],
             };
             let fitting = bytes.len().min(host_space.len());
             host_space[..fitting].copy_from_slice(&bytes[..fitting]);
+            if supplied.is_some() && !self.wrong(Mutant::SuppliedFirstDelivered) {
+                host_space[..fitting.min(BLOCKETTE)].fill(0);
+            }
             let wanted = match used {
                 Some(count) if self.wrong(Mutant::OverflowAgainstCount) => count,
                 _ => bytes.len(),
@@ -708,9 +814,19 @@ impl Machine {
             flags |= primary::LATE_2;
         }
         let written = job.operation == Operation::Write && code == code::GOOD;
-        if let Some(count) = used.or(written.then(|| job.count())) {
+        // A supplied count is told whatever became of the read, one that is 0 never.
+        let told = match supplied {
+            Some(0) if !self.wrong(Mutant::SuppliedNoneTold) => None,
+            Some(_) if self.wrong(Mutant::SuppliedToldIfUsed) => used,
+            Some(count) => Some(count),
+            None => used.or(written.then(|| job.count())),
+        };
+        if let Some(count) = told {
             flags |= primary::COUNT_VALID;
             self.secondary = count as u16;
+            if supplied.is_some() && !self.wrong(Mutant::SuppliedBitMissing) {
+                flags |= primary::COUNT_SUPPLIED;
+            }
         }
         if mark {
             flags |= primary::MARK;
@@ -840,6 +956,7 @@ impl Machine {
         } else {
             self.outcome = 0;
         }
+        let last_density = self.drive().density;
         if names_drive {
             if number > 3 {
                 return self.end_with(code::NO_SUCH_DRIVE, interrupt);
@@ -849,11 +966,20 @@ impl Machine {
             }
             self.selected = number;
         }
-        let decoded = decode(address::operation(address), operand);
-        if self.wrong(Mutant::TestBeforeDecode)
-            && address::operation(address) == 5
-            && !Operation::Write.may_start(self.drive())
-        {
+        let density = if self.wrong(Mutant::SuppliedDensityOfLastDrive) {
+            last_density
+        } else {
+            self.drive().density
+        };
+        let decoded = decode(address::operation(address), operand, density, self.mutant);
+        let tested_first = match (address::operation(address), operand[0]) {
+            (5, _) if self.wrong(Mutant::TestBeforeDecode) => Some(Operation::Write),
+            (4, 0x80) if self.wrong(Mutant::SuppliedTestBeforeDecode) => {
+                Some(Operation::SuppliedCount)
+            }
+            _ => None,
+        };
+        if tested_first.is_some_and(|operation| !operation.may_start(self.drive())) {
             return self.end_with(code::NOT_READY, interrupt);
         }
         match decoded {
@@ -892,15 +1018,24 @@ impl Machine {
 
     fn start(&mut self, job: Job) -> Action {
         let operation = job.operation;
-        if !operation.may_start(self.drive()) {
+        let tested = match operation {
+            Operation::SuppliedCount if self.wrong(Mutant::SuppliedTestOfWind) => Operation::Rewind,
+            _ => operation,
+        };
+        if !tested.may_start(self.drive()) {
             return self.end_with(code::NOT_READY, job.interrupt);
         }
-        let keeps =
-            self.wrong(Mutant::SecondaryKeptByReverseSkip) && operation == Operation::SkipReverse;
+        let keeps = match operation {
+            Operation::SkipReverse => self.wrong(Mutant::SecondaryKeptByReverseSkip),
+            Operation::SuppliedCount => self.wrong(Mutant::SuppliedSecondaryKept),
+            _ => false,
+        };
         // A count may be read or written, so the old one goes.
-        if (matches!(operation, Operation::Read | Operation::Write) || operation.is_skip())
-            && !keeps
-        {
+        let counts = matches!(
+            operation,
+            Operation::Read | Operation::SuppliedCount | Operation::Write
+        );
+        if (counts || operation.is_skip()) && !keeps {
             self.secondary = 0;
         }
         match operation {
@@ -922,8 +1057,12 @@ impl Machine {
     /// The motion order: operation, drive, track, density, last two operand bytes.
     fn order(&self, job: Job) -> [u8; 6] {
         let drive = self.drive();
+        let operation = match job.operation {
+            Operation::SuppliedCount if self.wrong(Mutant::SuppliedOrderOfRead) => Operation::Read,
+            operation => operation,
+        };
         [
-            job.operation.order(),
+            operation.order(),
             self.selected as u8,
             drive.track,
             (drive.density == Density::Gcr) as u8,
@@ -958,7 +1097,8 @@ impl Machine {
 
     /// A result came or GO failed: EOR where the operation offers it.
     fn end(&mut self, job: Job) -> Action {
-        if job.operation.offers_eor() {
+        let missed = job.supplied().is_some() && self.wrong(Mutant::SuppliedNoEor);
+        if job.operation.offers_eor() && !missed {
             if self.wrong(Mutant::ReviewAtEorOffer) {
                 self.review();
             }
@@ -1073,6 +1213,19 @@ impl Machine {
 
     fn drive_mut(&mut self) -> &mut Drive {
         &mut self.drives[self.selected]
+    }
+
+    /// The first blockette, whose count was not to be had, is an error whatever came for it.
+    fn tear_first(&self, marks: &mut [u8]) {
+        if let Some(mark) = marks.first_mut() {
+            let kept = match *mark {
+                records::GOOD => self.wrong(Mutant::SuppliedFirstGoodKept),
+                _ => self.wrong(Mutant::SuppliedFirstErrorKept),
+            };
+            if !kept {
+                *mark = records::TORN;
+            }
+        }
     }
 
     /// Zeroes what is known of a GCR record's errors before the next one.

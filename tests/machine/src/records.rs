@@ -13,6 +13,8 @@ pub const IMAGE_LIMIT: usize = 2 + RECORD_LIMIT + CHECK_BYTES;
 /// The most marks: 64 data blockettes and two check blockettes.
 pub const MARKS_LIMIT: usize = RECORD_LIMIT / BLOCKETTE + 2;
 
+/// For the first blockette of a record whose count is supplied; it never comes as a mark.
+pub const TORN: u8 = 0;
 pub const FIRST_ERROR: u8 = 1;
 pub const LAST_ERROR: u8 = 9;
 pub const GOOD: u8 = 15;

@@ -2,11 +2,11 @@
 
 use machine::generator;
 use machine::lines::{self, Line, Session};
-use machine::machine::{link, primary, Action, Operation, Phase, Send, OPERATIONS};
+use machine::machine::{link, primary, Action, Machine, Operation, Phase, Send, OPERATIONS};
 use machine::records::{self, Density};
 use std::collections::BTreeMap;
 
-const SESSIONS: u64 = 200;
+const SESSIONS: u64 = 300;
 const LINES: usize = 500;
 
 type Counts = BTreeMap<String, usize>;
@@ -40,6 +40,23 @@ fn count_session(seed: u64, counts: &mut Counts) {
         let refusal = String::from_utf8_lossy(out.split(|&byte| byte == b',').next().unwrap());
         count(format!("phase {}", phase_name(&after.phase)));
         count(format!("refusal {refusal}"));
+        if let (Phase::ResultAwaited(job), Some(Line::Result { image, marks, .. })) =
+            (before.phase, lines::read(line))
+        {
+            if let Some(supplied) = job.supplied() {
+                count(format!("supplied: result, refusal {refusal}"));
+                let blank = if supplied == 0 { "0" } else { "a count" };
+                if refusal == "9" {
+                    count(format!(
+                        "supplied {blank}: {}",
+                        image_kind(&image, supplied)
+                    ));
+                }
+                if refusal == "10" && !records::is_mark(marks[0]) {
+                    count("supplied: first mark not legal".to_string());
+                }
+            }
+        }
         if refusal != "0" {
             assert!(
                 before == *after,
@@ -51,7 +68,12 @@ fn count_session(seed: u64, counts: &mut Counts) {
             (
                 Phase::ResultAwaited(job),
                 Some(Line::Result {
-                    code, mark, image, ..
+                    code,
+                    mark,
+                    image,
+                    marks,
+                    space,
+                    ..
                 }),
             ) => {
                 let operation = job.operation;
@@ -74,9 +96,36 @@ fn count_session(seed: u64, counts: &mut Counts) {
                         "code {last:02X} that delivers less than the record"
                     ));
                 }
-                for bit in [17, 18, 19, 20, 22] {
+                for bit in [17, 18, 19, 20, 21, 22] {
                     if after.outcome & 1 << (31 - bit) != 0 {
                         count(format!("bit {bit} after {operation:?}"));
+                    }
+                }
+                if let Some(supplied) = job.supplied() {
+                    let blank = if supplied == 0 { "0" } else { "a count" };
+                    count(format!("supplied {blank}: {code:02X} ends as {last:02X}"));
+                    if last == 0x15 || last == 0x16 {
+                        let first = if marks[0] == records::GOOD {
+                            "good"
+                        } else {
+                            "bad"
+                        };
+                        count(format!("supplied: {last:02X}, first mark {first}"));
+                        let own = records::count_of(&image) == Some(supplied);
+                        let own = if own { "the same" } else { "another" };
+                        count(format!("supplied: {last:02X}, own count {own}"));
+                        let whole = if fits && delivered < supplied {
+                            "stopped in the data"
+                        } else if !fits && space < 256 {
+                            "space short of the first blockette"
+                        } else if !fits {
+                            "space short"
+                        } else if supplied < 256 {
+                            "less than a blockette"
+                        } else {
+                            "all delivered"
+                        };
+                        count(format!("supplied: {last:02X}, {whole}"));
                     }
                 }
             }
@@ -88,6 +137,9 @@ fn count_session(seed: u64, counts: &mut Counts) {
                     count(format!("store {operation}"));
                     if operation == 3 {
                         count(format!("control {:02X}", string[5]));
+                    }
+                    if operation == 4 && string[2] == 0x80 {
+                        count_supplied_store(&string, &before, after, &mut count);
                     }
                     if operation != 0 && after.code() != 0 {
                         count(format!("store ends with code {:02X}", after.code()));
@@ -119,6 +171,48 @@ fn count_session(seed: u64, counts: &mut Counts) {
     assert_eq!(number, LINES, "seed {seed}");
 }
 
+/// What was wrong with the lengths of a result for a supplied count.
+fn image_kind(image: &[u8], supplied: usize) -> &'static str {
+    let own_count = records::count_of(image).unwrap_or(65_536);
+    match image.len() {
+        0 => "no image",
+        2 if image == [0, 0] => "the image of no bytes",
+        length if length == records::image_length(supplied, Density::Gcr) => "wrong marks",
+        length if length == records::image_length(own_count, Density::Gcr) => "a whole record",
+        _ => "a wrong length",
+    }
+}
+
+fn count_supplied_store(
+    string: &[u8; 8],
+    before: &Machine,
+    after: &Machine,
+    count: &mut impl FnMut(String),
+) {
+    let drive = after.drives[after.selected];
+    let density = match (drive.density, before.drives[before.selected].density) {
+        _ if after.code() == 1 => "no such drive",
+        (Density::Gcr, Density::Mfm) => "GCR after MFM",
+        (Density::Mfm, Density::Gcr) => "MFM after GCR",
+        (Density::Gcr, _) => "GCR",
+        (Density::Mfm, _) => "MFM",
+    };
+    let size = match u16::from_be_bytes([string[4], string[5]]) {
+        0 => "0",
+        1..=16_384 => "a count",
+        _ => "too much",
+    };
+    let ready = if Operation::SuppliedCount.may_start(&drive) {
+        "ready"
+    } else {
+        "not ready"
+    };
+    let code = after.code();
+    count(format!(
+        "supplied {size}: store, {density}, {ready}: {code:02X}"
+    ));
+}
+
 #[test]
 fn sessions_reach_everything() {
     let mut counts = Counts::new();
@@ -138,7 +232,9 @@ fn sessions_reach_everything() {
             wanted.push(format!("result {operation:?} {code:02X}"));
         }
         for density in [Density::Mfm, Density::Gcr] {
-            wanted.push(format!("result {operation:?} {density:?}"));
+            if (operation, density) != (Operation::SuppliedCount, Density::Mfm) {
+                wanted.push(format!("result {operation:?} {density:?}"));
+            }
             wanted.push(format!("data {density:?}"));
         }
         if operation.is_search() || operation.is_skip() {
@@ -198,6 +294,7 @@ fn sessions_reach_everything() {
     ] {
         wanted.push(name.to_string());
     }
+    wanted.extend(wanted_of_supplied());
     let missing: Vec<&String> = wanted
         .iter()
         .filter(|name| !counts.contains_key(*name))
@@ -207,9 +304,84 @@ fn sessions_reach_everything() {
     assert!(!counts.contains_key("refusal 6") && !counts.contains_key("refusal 11"));
 }
 
+/// Reading with a supplied count, rule by rule.
+fn wanted_of_supplied() -> Vec<String> {
+    let mut wanted = Vec::new();
+    for refusal in [0, 7, 8, 9, 10] {
+        wanted.push(format!("result, refusal {refusal}"));
+    }
+    for code in [0x15, 0x16] {
+        for what in [
+            "first mark good",
+            "first mark bad",
+            "own count the same",
+            "own count another",
+            "space short of the first blockette",
+            "space short",
+            "less than a blockette",
+            "all delivered",
+        ] {
+            wanted.push(format!("{code:02X}, {what}"));
+        }
+    }
+    wanted.push("16, stopped in the data".to_string());
+    wanted.push("first mark not legal".to_string());
+    let mut wanted: Vec<String> = wanted
+        .iter()
+        .map(|what| format!("supplied: {what}"))
+        .collect();
+    for (size, what) in [
+        ("a count", "no image"),
+        ("a count", "wrong marks"),
+        ("a count", "a whole record"),
+        ("a count", "a wrong length"),
+        ("0", "the image of no bytes"),
+        ("0", "a whole record"),
+        ("a count", "00 ends as 15"),
+        ("a count", "00 ends as 16"),
+        ("a count", "00 ends as 07"),
+        ("a count", "14 ends as 07"),
+        ("0", "00 ends as 13"),
+        ("0", "00 ends as 07"),
+        ("0", "14 ends as 14"),
+        ("a count", "store, GCR, ready: 00"),
+        ("a count", "store, GCR after MFM, ready: 00"),
+        ("a count", "store, GCR, not ready: 04"),
+        ("a count", "store, MFM, ready: 02"),
+        ("a count", "store, MFM after GCR, ready: 02"),
+        ("a count", "store, MFM, not ready: 02"),
+        ("0", "store, GCR, ready: 00"),
+        ("0", "store, MFM, ready: 02"),
+        ("too much", "store, GCR, ready: 02"),
+        ("too much", "store, GCR, not ready: 02"),
+        ("a count", "store, no such drive, ready: 01"),
+    ] {
+        wanted.push(format!("supplied {size}: {what}"));
+    }
+    wanted.extend([17, 19, 20, 21, 22].map(|bit| format!("bit {bit} after SuppliedCount")));
+    wanted
+}
+
+/// With the stores switched off, no first operand byte is 80 and no such result is awaited.
+#[test]
+fn sessions_without_supplied() {
+    for seed in 1..=SESSIONS {
+        let mut session = Session::new(None);
+        let mut out = Vec::new();
+        for line in lines::split(&generator::session_without_supplied(seed, LINES)) {
+            if let Phase::AckOffered { string } = session.machine.phase {
+                let store = string[0] == link::STORE && string[1] >> 4 & 7 == 4;
+                assert!(!store || string[2] != 0x80, "seed {seed}");
+            }
+            session.answer(line, &mut out);
+            out.clear();
+        }
+    }
+}
+
 #[test]
 fn refusals_that_no_session_reaches() {
-    use machine::machine::{Machine, Refusal, Reported};
+    use machine::machine::{Refusal, Reported};
     let mut machine = Machine::fresh();
     let mut image = [0; 1];
     let empty = Reported {
@@ -259,6 +431,10 @@ fn refusals_that_no_session_reaches() {
 fn a_seed_gives_one_session() {
     for seed in [0, 1, 2, 77, u64::MAX] {
         assert_eq!(generator::session(seed, 300), generator::session(seed, 300));
+        assert_ne!(
+            generator::session(seed, 300),
+            generator::session_without_supplied(seed, 300)
+        );
     }
     assert_ne!(generator::session(1, 300), generator::session(2, 300));
 }

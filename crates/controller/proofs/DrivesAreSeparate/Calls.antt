@@ -12,9 +12,9 @@ use Rattle.common.specs.Given.{given}
 use Rattle.common.proofs.GivenLaws.{given-front}
 use Rattle.common.proofs.PickLaws.{by-test, pick-yes, pick-no}
 use Rattle.operations.specs.declared.operation.Operation.{Operation}
-use Rattle.operations.specs.declared.operation.Operation.the-variants.{Read, CheckBytes, Write, Erase, Rewind, FastForward, SkipForward, SkipReverse, SearchForward, SearchReverse, WriteMark}
+use Rattle.operations.specs.declared.operation.Operation.the-variants.{Read, CheckBytes, SuppliedCount, Write, Erase, Rewind, FastForward, SkipForward, SkipReverse, SearchForward, SearchReverse, WriteMark}
 use Rattle.operations.specs.declared.decode.Decoded.{Decoded}
-use Rattle.operations.specs.Operation.{orderByte, sameOperation}
+use Rattle.operations.specs.Operation.{orderByte, sameOperation, isRead}
 use Rattle.records.specs.Image.{imageOf}
 use Rattle.status.specs.declared.drives.Drive.{Drive}
 use Rattle.status.specs.Drives.{driveOf, withReport, copyReport}
@@ -24,17 +24,17 @@ use Rattle.link.specs.declared.state.Phase.the-variants.{GoOffered, DataAwaited
 use Rattle.link.specs.declared.state.Body.{Body}
 use Rattle.controller.specs.declared.controller.Controller.{Controller}
 use Rattle.link.specs.State.{withSelected, currentDrive}
-use Rattle.operations.specs.Store.{askedFor, thrownAway, heldCount}
+use Rattle.operations.specs.Store.{askedFor, thrownAway, heldCount, suppliedCount}
 use Rattle.link.specs.Link.{yesToGo, noToGo}
 use Rattle.link.specs.Bytes.{ack}
 use Rattle.controller.specs.Controller.{carried}
 use Rattle.controller.specs.Stores.{orderMove}
 use Rattle.transfers.specs.Data.{recordBytes, writeImage, settleData}
-use Rattle.transfers.specs.Results.{Result, isGone, verdictOf, deliveredBytes, delivered, fitting, resultGap, settleResult}
+use Rattle.transfers.specs.Results.{Result, isGone, codeReported, recordCount, usedCount, verdictOf, deliveredBytes, delivered, fitting, resultGap, settleResult}
 use Rattle.controller.specs.Records.{wordsOf, withStatus, withAfter, dataDone, resultDone}
 use Rattle.controller.specs.Machine.{reportNoted, Call, plain}
 use Rattle.controller.specs.Machine.Call.{byte, report, hostData, result}
-use Rattle.controller.specs.Lists.{asksFor}
+use Rattle.controller.specs.Lists.{asksFor, asksRead}
 use Rattle.controller.specs.Separation.{Output, isOf, awaitsGo, eventOf, ordersFor, bytesGiven, transferOf}
 use Rattle.controller.specs.Separation.Event.{reportCame, goAnswered, dataCame, resultCame}
 use Rattle.controller.specs.Separation.Output.{motion, image, delivery}
@@ -166,20 +166,21 @@ module _ (d : ℕ) (last : Store) (b : Body) (store : Store) (host space check :
 
 -- a read's bytes depend on the drive's report and on nothing else of the state
 read-seen :
-    (operation : Operation) (drive : Drive) (r : Result) (check : List ℕ) (space : ℕ)
-    → pick (sameOperation operation Read) (delivery (fitting (delivered drive operation r check) space) ∷ []) [] ≡ pick (sameOperation operation Read) (delivery (fitting (delivered (copyReport drive) operation r []) space) ∷ []) []
-unfolding deliveredBytes verdictOf isGone pick
-read-seen Read drive r check space = refl
-read-seen CheckBytes drive r check space = refl
-read-seen Write drive r check space = refl
-read-seen Erase drive r check space = refl
-read-seen Rewind drive r check space = refl
-read-seen FastForward drive r check space = refl
-read-seen SkipForward drive r check space = refl
-read-seen SkipReverse drive r check space = refl
-read-seen SearchForward drive r check space = refl
-read-seen SearchReverse drive r check space = refl
-read-seen WriteMark drive r check space = refl
+    (operation : Operation) (drive : Drive) (store : Store) (r : Result) (check : List ℕ) (space : ℕ)
+    → pick (isRead operation) (delivery (fitting (delivered drive operation store r check) space) ∷ []) [] ≡ pick (isRead operation) (delivery (fitting (delivered (copyReport drive) operation (bare store) r []) space) ∷ []) []
+unfolding deliveredBytes verdictOf isGone usedCount recordCount heldCount pick
+read-seen Read drive store r check space = refl
+read-seen CheckBytes drive store r check space = refl
+read-seen SuppliedCount drive store r check space = refl
+read-seen Write drive store r check space = refl
+read-seen Erase drive store r check space = refl
+read-seen Rewind drive store r check space = refl
+read-seen FastForward drive store r check space = refl
+read-seen SkipForward drive store r check space = refl
+read-seen SkipReverse drive store r check space = refl
+read-seen SearchForward drive store r check space = refl
+read-seen SearchReverse drive store r check space = refl
+read-seen WriteMark drive store r check space = refl
 
 module _ (d : ℕ) (low : d ≤ 3) (last : Store) (b : Body) (operation : Operation) (store : Store) (r : Result) (space check : List ℕ) where
   abbrev moving : Controller
@@ -188,9 +189,9 @@ module _ (d : ℕ) (low : d ≤ 3) (last : Store) (b : Body) (operation : Operat
   pub result-follows :
       Held last (b .selected) operation store
       → Follows d (viewOf d last moving) last moving (record { call = result r space check; answer = resultDone b (currentDrive b) operation store r space check })
-  unfolding eventOf transferOf bytesGiven told gives resultDone settleResult verdictOf resultGap isGone handIn driveAfterResult givenAtResult asksFor
+  unfolding eventOf transferOf bytesGiven told gives resultDone settleResult verdictOf resultGap isGone codeReported heldCount handIn driveAfterResult givenAtResult asksFor asksRead
   result-follows held =
-      let bytes = delivered (currentDrive b) operation r check in
+      let bytes = delivered (currentDrive b) operation store r check in
       let body = withAfter b (settleResult (wordsOf b) (currentDrive b) operation store r (length space) check) in
       let rests = ending-rests body operation store in
       let fits = fitting bytes (length space) in
@@ -202,14 +203,14 @@ module _ (d : ℕ) (low : d ≤ 3) (last : Store) (b : Body) (operation : Operat
         done = refl;
         view =
             rests-view d low last body _ rests
-            ∙ ap resting (set-own d low b (b .selected) (λ (x : Drive). moved x operation r) e)
+            ∙ ap resting (set-own d low b (b .selected) (λ (x : Drive). moved x operation store r) e)
             ∙ sym (ap (λ (h : Hand). resting (driveAfterResult (seen d b) r h)) hand);
         given =
             ap₂ (λ (l m : List Output). l ++ m)
-            (ap₂ (λ (t : Bool) (asks : Decoded). pick (t && asksFor Read asks) (delivery (take (length fits) (given fits space)) ∷ []) []) own (held .asks)
-            ∙ ap (λ (l : List ℕ). pick (sameOperation operation Read) (delivery l ∷ []) [])
-            (given-front fits space ∙ ap (λ (n : ℕ). fitting (delivered (driveOf (b .drives) n) operation r check) (length space)) e)
-            ∙ read-seen operation (driveOf (b .drives) d) r check (length space))
+            (ap₂ (λ (t : Bool) (asks : Decoded). pick (t && asksRead asks) (delivery (take (length fits) (given fits space)) ∷ []) []) own (held .asks)
+            ∙ ap (λ (l : List ℕ). pick (isRead operation) (delivery l ∷ []) [])
+            (given-front fits space ∙ ap (λ (n : ℕ). fitting (delivered (driveOf (b .drives) n) operation store r check) (length space)) e)
+            ∙ read-seen operation (driveOf (b .drives) d) store r check (length space))
             (none-for d _ (rests .quiet))
             ∙ append-nil _
             ∙ sym (ap (givenAtResult (seen d b) r (length space)) hand);
@@ -220,9 +221,9 @@ module _ (d : ℕ) (low : d ≤ 3) (last : Store) (b : Body) (operation : Operat
       record {
         view =
             rests-view d low last body _ rests
-            ∙ ap resting (set-other d low b (moved (currentDrive b) operation r) within differs)
+            ∙ ap resting (set-other d low b (moved (currentDrive b) operation store r) within differs)
             ∙ sym (other-view d last moving _ other refl);
-        transfer = pick-no _ [] (ap (λ (t : Bool). t && asksFor Read (askedFor last)) other);
+        transfer = pick-no _ [] (ap (λ (t : Bool). t && asksRead (askedFor last)) other);
         quiet = none-for d _ (rests .quiet);
       })
       (free-held last _ _ (rests .free))

@@ -116,7 +116,7 @@ module _ (d : ℕ) (low : d ≤ 3) where
   results-case : OfResults Followed
   unfolding resultIn InHand lastStore carriesOut isTaken pick
   results-case b operation held r space check =
-      result-for Followed refusals-case b held _ operation r space check (λ last mine admitted. result-follows d low last b operation held r space check mine)
+      result-for Followed refusals-case b held _ operation r space check (λ good last mine admitted. result-follows d low last b operation held r space check mine)
 
   -- a reset is not admitted
   resets-case : OfResets Followed

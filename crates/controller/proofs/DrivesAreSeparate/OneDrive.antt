@@ -6,11 +6,11 @@ use mathlib.Core.Bool.{Bool, true, false, _||_}
 use mathlib.Core.List.{List, [], _∷_, _++_}
 use Rattle.common.specs.Pick.{pick}
 use Rattle.operations.specs.declared.operation.Operation.{Operation}
-use Rattle.operations.specs.declared.operation.Operation.the-variants.{Read, CheckBytes, Write}
+use Rattle.operations.specs.declared.operation.Operation.the-variants.{CheckBytes, Write}
 use Rattle.operations.specs.declared.decode.Decoded.{Decoded}
 use Rattle.operations.specs.declared.decode.Decoded.the-variants.{Reset, Code, Track, Enable, Density, Operate}
-use Rattle.operations.specs.Operation.{moveOf, orderByte, sameOperation}
-use Rattle.operations.specs.Decode.{decodeOf}
+use Rattle.operations.specs.Operation.{moveOf, orderByte, sameOperation, isRead}
+use Rattle.operations.specs.Decode.{decodeOf, inDensity}
 use Rattle.operations.specs.Test.{mayMove}
 use Rattle.records.specs.Image.{imageOf}
 use Rattle.status.specs.declared.drives.Drive.{Drive}
@@ -96,18 +96,18 @@ givenAtData d drive host (goOffered store) = []
 givenAtData d drive host (resultAwaited operation store) = []
 
 -- the drive with the gap that a result leaves
-abbrev pub moved : Drive → Operation → Result → Drive
-moved drive operation r = withGap drive (resultGap drive operation (verdictOf drive operation r .code))
+abbrev pub moved : Drive → Operation → Store → Result → Drive
+moved drive operation store r = withGap drive (resultGap drive operation (verdictOf drive operation store r .code))
 
 unfoldable pub driveAfterResult : Drive → Result → Hand → Drive
-driveAfterResult drive r (resultAwaited operation store) = copyReport (moved drive operation r)
+driveAfterResult drive r (resultAwaited operation store) = copyReport (moved drive operation store r)
 driveAfterResult drive r empty = drive
 driveAfterResult drive r (goOffered store) = drive
 driveAfterResult drive r (dataAwaited store) = drive
 
 unfoldable pub givenAtResult : Drive → Result → ℕ → Hand → List Output
 givenAtResult drive r space (resultAwaited operation store) =
-    pick (sameOperation operation Read) (delivery (fitting (delivered drive operation r []) space) ∷ []) []
+    pick (isRead operation) (delivery (fitting (delivered drive operation store r []) space) ∷ []) []
 givenAtResult drive r space empty = []
 givenAtResult drive r space (goOffered store) = []
 givenAtResult drive r space (dataAwaited store) = []
@@ -117,7 +117,7 @@ givenAtResult drive r space (dataAwaited store) = []
 unfoldable pub told : View → Event → View
 told v (reportCame r) = record { drive = copyReport (withReport (v .drive) r); hand = v .hand }
 told v (storeCame operation first second third fourth) =
-    begins (v .drive) (operand first second third fourth) (decodeOf operation first third fourth)
+    begins (v .drive) (operand first second third fourth) (inDensity (v .drive .density) (decodeOf operation first third fourth))
 told v (goAnswered answer) = record { drive = v .drive; hand = handAfterGo answer (v .hand) }
 told v (dataCame host) = record { drive = v .drive; hand = handAfterData (v .hand) }
 told v (resultCame r space) = resting (driveAfterResult (v .drive) r (v .hand))
@@ -125,7 +125,7 @@ told v (resultCame r space) = resting (driveAfterResult (v .drive) r (v .hand))
 unfoldable pub gives : ℕ → View → Event → List Output
 gives d v (reportCame r) = []
 gives d v (storeCame operation first second third fourth) =
-    givenAtStore d (v .drive) (operand first second third fourth) (decodeOf operation first third fourth)
+    givenAtStore d (v .drive) (operand first second third fourth) (inDensity (v .drive .density) (decodeOf operation first third fourth))
 gives d v (goAnswered answer) = []
 gives d v (dataCame host) = givenAtData d (v .drive) host (v .hand)
 gives d v (resultCame r space) = givenAtResult (v .drive) r space (v .hand)

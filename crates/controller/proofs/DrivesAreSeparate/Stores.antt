@@ -11,7 +11,7 @@ use Rattle.common.specs.Pick.{pick}
 use Rattle.common.specs.Given.{given}
 use Rattle.common.proofs.PickLaws.{by-test, pick-by, pick-yes, pick-no}
 use Rattle.operations.specs.declared.operation.Operation.{Operation}
-use Rattle.operations.specs.declared.operation.Operation.the-variants.{Read, CheckBytes, Write, Erase, Rewind, FastForward, SkipForward, SkipReverse, SearchForward, SearchReverse, WriteMark}
+use Rattle.operations.specs.declared.operation.Operation.the-variants.{Read, CheckBytes, SuppliedCount, Write, Erase, Rewind, FastForward, SkipForward, SkipReverse, SearchForward, SearchReverse, WriteMark}
 use Rattle.operations.specs.declared.course.Course.{Course}
 use Rattle.operations.specs.declared.decode.Decoded.{Decoded}
 use Rattle.operations.specs.declared.decode.Decoded.the-variants.{Reset, Code, Track, Enable, Density, Operate}
@@ -29,8 +29,9 @@ use Rattle.link.specs.declared.state.Action.the-variants.{Order}
 use Rattle.link.specs.declared.state.Turn.{Turn}
 use Rattle.link.specs.State.{withSelected, withFlags, withCurrentDrive}
 use Rattle.operations.specs.Codes.{illegalDrive, illegalMotion}
-use Rattle.operations.specs.Store.{namesDrive, namedDrive, namesUnknown, selectedBy, askedFor}
-use Rattle.operations.specs.Course.{testOf, courseBy, courseOf}
+use Rattle.operations.specs.Store.{namesDrive, namedDrive, namesUnknown, selectedBy, askedFor, askedIn}
+use Rattle.operations.specs.Course.{testOf, courseOf}
+use Rattle.operations.proofs.DensityLaws.{by-density, asked-operation}
 use Rattle.controller.specs.Controller.{carried}
 use Rattle.controller.specs.Stores.{endWith, motionOrder, pastTest, orderMove, begin, follow, clearOutcome, carryOutOn, carryOut}
 use Rattle.controller.specs.Machine.{plain}
@@ -108,6 +109,7 @@ module _ (d : ℕ) (store : Store) where
     begun-own e Write = record { view = refl; given = refl }
     begun-own e CheckBytes = record { view = refl; given = refl }
     begun-own e Read = ordered-own (pastTest (withSelected b n) Read) Read e
+    begun-own e SuppliedCount = ordered-own (pastTest (withSelected b n) SuppliedCount) SuppliedCount e
     begun-own e Erase = ordered-own (withSelected b n) Erase e
     begun-own e Rewind = ordered-own (withSelected b n) Rewind e
     begun-own e FastForward = ordered-own (withSelected b n) FastForward e
@@ -122,6 +124,7 @@ module _ (d : ℕ) (store : Store) where
     begun-other other Write = record { same = refl; quiet = refl }
     begun-other other CheckBytes = record { same = refl; quiet = refl }
     begun-other other Read = ordered-other (pastTest (withSelected b n) Read) Read other
+    begun-other other SuppliedCount = ordered-other (pastTest (withSelected b n) SuppliedCount) SuppliedCount other
     begun-other other Erase = ordered-other (withSelected b n) Erase other
     begun-other other Rewind = ordered-other (withSelected b n) Rewind other
     begun-other other FastForward = ordered-other (withSelected b n) FastForward other
@@ -139,6 +142,7 @@ module _ (d : ℕ) (store : Store) where
     begun-held Write held = held
     begun-held CheckBytes held = held
     begun-held Read held = held
+    begun-held SuppliedCount held = held
     begun-held Erase held = held
     begun-held Rewind held = held
     begun-held FastForward held = held
@@ -178,7 +182,7 @@ module _ (d : ℕ) (low : d ≤ 3) (store : Store) (b : Body) (n : ℕ) where
       n ≡ d → (decode : Decoded)
       → asksReset decode ≡ false
       → Starts d (begins (seen d b) (bare store) decode) (givenAtStore d (seen d b) (bare store) decode) (decoded selecting store decode)
-  unfolding follow courseBy testOf begins givenAtStore asksReset
+  unfolding follow courseOf testOf begins givenAtStore asksReset
   decoded-own e Reset keeps = absurd (true≢false keeps)
   decoded-own e (Code code) keeps = rests-start d low _ _ (ended-rests selecting store code)
   decoded-own e (Track track) keeps =
@@ -199,7 +203,7 @@ module _ (d : ℕ) (low : d ≤ 3) (store : Store) (b : Body) (n : ℕ) where
 
   decoded-other :
       n ≤ 3 → (n ≡ d → ⊥) → (decode : Decoded) → asksReset decode ≡ false → Leaves d (seen d b) (decoded selecting store decode)
-  unfolding follow courseBy asksReset
+  unfolding follow courseOf asksReset
   decoded-other within other Reset keeps = absurd (true≢false keeps)
   decoded-other within other (Code code) keeps = rests-leave d low _ _ (ended-rests selecting store code)
   decoded-other within other (Track track) keeps =
@@ -220,7 +224,7 @@ module _ (d : ℕ) (low : d ≤ 3) (store : Store) (b : Body) (n : ℕ) where
       → asksReset decode ≡ false
       → ((operation : Operation) → decode ≡ Operate operation → Held store n operation store)
       → InHand store (decoded selecting store decode .body .selected) (decoded selecting store decode .phase)
-  unfolding follow courseBy asksReset
+  unfolding follow courseOf asksReset
   decoded-held Reset keeps held = absurd (true≢false keeps)
   decoded-held (Code code) keeps held = free-held store _ _ (ended-rests selecting store code .free)
   decoded-held (Track track) keeps held =
@@ -265,6 +269,10 @@ module _ (d : ℕ) (low : d ≤ 3) (c : Controller) (store : Store) (holds : hol
   abbrev answered : Turn → Type 0
   answered t = Follows d (resting (seen d (c .body))) store c (record { call = taken; answer = plain (carried t) })
 
+  -- what it asks for of a drive, by that drive's density
+  abbrev askedOn : ℕ → Decoded
+  askedOn n = askedIn store (driveOf (c .body .drives) n .density)
+
   -- no drive of this number: no drive is concerned
   unknown-follows : (b : Body) → b .drives ≡ c .body .drives → 4 ≤ namedDrive store → answered (endWith b store illegalDrive)
   unfolding transferOf
@@ -282,18 +290,27 @@ module _ (d : ℕ) (low : d ≤ 3) (c : Controller) (store : Store) (holds : hol
   decoded-follows :
       namedDrive store ≤ 3
       → asksReset (askedFor store) ≡ false
-      → answered (decoded (withSelected (clearOutcome (c .body)) (namedDrive store)) store (askedFor store))
-  unfolding clearOutcome transferOf told gives storeEvent askedFor
+      → answered (decoded (withSelected (clearOutcome (c .body)) (namedDrive store)) store (askedOn (namedDrive store)))
+  unfolding clearOutcome transferOf told gives storeEvent askedFor asksReset
   decoded-follows within keeps =
       let b = clearOutcome (c .body) in
-      let next = carried (decoded (withSelected b (namedDrive store)) store (askedFor store)) .controller in
+      let asked = askedOn (namedDrive store) in
+      let stays = by-density (λ (x : Decoded). asksReset x ≡ false) _ (askedFor store) keeps (λ operation is. refl) in
+      let next = carried (decoded (withSelected b (namedDrive store)) store asked) .controller in
       owned-follows d store c _ _ (storeEvent store) (carried-event d store c holds)
-      (λ own. let starts = decoded-own d low store b (namedDrive store) (own-number d store names own) (askedFor store) keeps in
-      record { done = refl; view = own-view d store next _ own (starts .view); given = starts .given })
-      (λ other. let leaves = decoded-other d low store b (namedDrive store) within (other-number d store names other) (askedFor store) keeps in
+      (λ own.
+      let e = own-number d store names own in
+      let starts = decoded-own d low store b (namedDrive store) e asked stays in
+      record {
+        done = refl;
+        view = own-view d store next _ own (starts .view ∙ ap (λ (n : ℕ). begins (seen d b) (bare store) (askedOn n)) e);
+        given = starts .given ∙ ap (λ (n : ℕ). givenAtStore d (seen d b) (bare store) (askedOn n)) e;
+      })
+      (λ other. let leaves = decoded-other d low store b (namedDrive store) within (other-number d store names other) asked stays in
       record { view = other-view d store next _ other (leaves .same); transfer = refl; quiet = leaves .quiet })
-      (decoded-held d low store b (namedDrive store) (askedFor store) keeps
-      (λ (operation : Operation) (asks : askedFor store ≡ Operate operation). record { same = refl; selects = refl; names = names; low = within; asks = asks }))
+      (decoded-held d low store b (namedDrive store) asked stays
+      (λ (operation : Operation) (asks : asked ≡ Operate operation).
+      record { same = refl; selects = refl; names = names; low = within; asks = asked-operation _ (askedFor store) operation asks }))
 
   -- the drive is named
   choose-follows :
@@ -308,8 +325,8 @@ module _ (d : ℕ) (low : d ≤ 3) (c : Controller) (store : Store) (holds : hol
   choose-follows false above ended turned selected e ends turns = absurd (false≢true e)
 
   pub carried-follows : resets store ≡ false → answered (carryOut (c .body) store)
-  unfolding carryOut carryOutOn courseOf clearOutcome namesUnknown selectedBy resets
+  unfolding carryOut carryOutOn clearOutcome namesUnknown selectedBy resets
   carried-follows keeps =
-      choose-follows (namesDrive store) (leb 4 (namedDrive store)) _ (λ n. decoded (withSelected (clearOutcome (c .body)) n) store (askedFor store)) _ names
+      choose-follows (namesDrive store) (leb 4 (namedDrive store)) _ (λ n. decoded (withSelected (clearOutcome (c .body)) n) store (askedOn n)) _ names
       (λ high. unknown-follows _ refl (leb-true 4 (namedDrive store) high))
       (λ few. let below = leb-false 4 (namedDrive store) few in decoded-follows (omega arith) (subst (λ (t : Bool). (not t && asksReset (askedFor store)) ≡ false) few keeps))

@@ -1,5 +1,6 @@
-//! `compare PROGRAM [--seed S] [--sessions N] [--lines L] [-- ARGUMENTS of PROGRAM]`
+//! `compare PROGRAM [--seed S] [--sessions N] [--lines L] [--supplied 0] [-- ARGUMENTS of PROGRAM]`
 //!
+//! `--supplied 0` makes no stores that supply a count, for a program that does not know them.
 //! Exit 0: no difference; 1: a difference, shrunk and printed; 2: the comparison itself failed.
 
 use machine::comparison::{join, shown, Program, TIME_LIMIT};
@@ -13,6 +14,7 @@ struct Options {
     seed: u64,
     sessions: u64,
     lines: usize,
+    supplied: bool,
 }
 
 fn options() -> Option<Options> {
@@ -26,6 +28,7 @@ fn options() -> Option<Options> {
         seed: 1,
         sessions: 100,
         lines: 500,
+        supplied: true,
     };
     while let Some(argument) = arguments.next() {
         if argument == "--" {
@@ -37,6 +40,7 @@ fn options() -> Option<Options> {
             "--seed" => options.seed = number,
             "--sessions" => options.sessions = number,
             "--lines" => options.lines = number as usize,
+            "--supplied" => options.supplied = number != 0,
             "--seconds" => options.program.time_limit = Duration::from_secs(number),
             _ => return None,
         }
@@ -48,7 +52,7 @@ fn main() -> ExitCode {
     let Some(options) = options() else {
         eprintln!(
             "usage: compare PROGRAM [--seed S] [--sessions N] [--lines L] [--seconds LIMIT] \
-             [-- ARGUMENTS of PROGRAM]"
+             [--supplied 0] [-- ARGUMENTS of PROGRAM]"
         );
         return ExitCode::from(2);
     };
@@ -68,7 +72,11 @@ fn compare(options: &Options) -> io::Result<bool> {
     let mut compared = 0;
     for session in 0..options.sessions {
         let seed = options.seed.wrapping_add(session);
-        let text = generator::session(seed, options.lines);
+        let text = if options.supplied {
+            generator::session(seed, options.lines)
+        } else {
+            generator::session_without_supplied(seed, options.lines)
+        };
         if let Some(difference) = options.program.difference(&text)? {
             let line = lines::split(&text).nth(difference.line);
             writeln!(out, "seed {seed}, line {}", difference.line + 1)?;

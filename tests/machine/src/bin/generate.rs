@@ -1,4 +1,5 @@
-//! `generate SEED LINES`: prints a random session; the same seed gives the same one.
+//! `generate SEED LINES [0]`: prints a random session; the same seed gives the same one.
+//! With the 0 there are no stores that supply a count.
 
 use machine::generator;
 use std::io::{self, Write};
@@ -7,11 +8,14 @@ use std::process::ExitCode;
 fn main() -> ExitCode {
     let arguments: Vec<String> = std::env::args().skip(1).collect();
     let numbers: Option<Vec<u64>> = arguments.iter().map(|text| text.parse().ok()).collect();
-    let Some([seed, lines]) = numbers.as_deref() else {
-        eprintln!("usage: generate SEED LINES");
-        return ExitCode::from(2);
+    let text = match numbers.as_deref() {
+        Some([seed, lines]) => generator::session(*seed, *lines as usize),
+        Some([seed, lines, 0]) => generator::session_without_supplied(*seed, *lines as usize),
+        _ => {
+            eprintln!("usage: generate SEED LINES [0]");
+            return ExitCode::from(2);
+        }
     };
-    let text = generator::session(*seed, *lines as usize);
     match io::stdout().lock().write_all(&text) {
         Ok(()) => ExitCode::SUCCESS,
         Err(error) => {

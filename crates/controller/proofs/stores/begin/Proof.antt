@@ -8,7 +8,7 @@ use types.Run.{OneOf, miss}
 use denote.Enum.Declared.{tagOf}
 use Rattle.common.specs.Pick.{pick}
 use Rattle.operations.specs.declared.operation.Operation.{Operation}
-use Rattle.operations.specs.declared.operation.Operation.the-variants.{Read, CheckBytes, Write, Erase, Rewind, FastForward, SkipForward, SkipReverse, SearchForward, SearchReverse, WriteMark}
+use Rattle.operations.specs.declared.operation.Operation.the-variants.{Read, CheckBytes, SuppliedCount, Write, Erase, Rewind, FastForward, SkipForward, SkipReverse, SearchForward, SearchReverse, WriteMark}
 use Rattle.operations.proofs.operation.Operation.{the-type}
 use Rattle.operations.specs.declared.store.Store.{Store}
 use Rattle.link.specs.declared.state.Body.{Body}
@@ -17,15 +17,16 @@ use Rattle.controller.proofs.stores.begin.Statement.{statement}
 use Rattle.controller.proofs.stores.begin.Tie as tie
 
 -- the operations of the last arm, by their numbers
-abbrev nine : List ℕ
-nine = 0 ∷ 3 ∷ 4 ∷ 5 ∷ 6 ∷ 7 ∷ 8 ∷ 9 ∷ 10 ∷ []
+abbrev ten : List ℕ
+ten = 0 ∷ 2 ∷ 4 ∷ 5 ∷ 6 ∷ 7 ∷ 8 ∷ 9 ∷ 10 ∷ 11 ∷ []
 
 others : (b : Body) (operation : Operation) (store : Store) →
-    OneOf nine (tagOf the-type operation) → begin b operation store ≡ orderMove (pastTest b operation) operation store
+    OneOf ten (tagOf the-type operation) → begin b operation store ≡ orderMove (pastTest b operation) operation store
 unfolding begin pick
-others b Write store key = absurd (miss nine 2 tt key)
-others b CheckBytes store key = absurd (miss nine 1 tt key)
+others b Write store key = absurd (miss ten 3 tt key)
+others b CheckBytes store key = absurd (miss ten 1 tt key)
 others b Read store key = refl
+others b SuppliedCount store key = refl
 others b Erase store key = refl
 others b Rewind store key = refl
 others b FastForward store key = refl

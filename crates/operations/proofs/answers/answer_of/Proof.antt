@@ -12,9 +12,9 @@ use borrow.Author.Needs.{needs}
 use borrow.Author.Tests.{ne-eqb}
 use Rattle.common.specs.Pick.{pick}
 use Rattle.operations.specs.declared.operation.Operation.{Operation}
-use Rattle.operations.specs.declared.operation.Operation.the-variants.{Read, CheckBytes, Write, Erase, Rewind, FastForward, SkipForward, SkipReverse, SearchForward, SearchReverse, WriteMark}
+use Rattle.operations.specs.declared.operation.Operation.the-variants.{Read, CheckBytes, SuppliedCount, Write, Erase, Rewind, FastForward, SkipForward, SkipReverse, SearchForward, SearchReverse, WriteMark}
 use Rattle.operations.specs.Operation.{numberOf}
-use Rattle.operations.specs.Answers.{forwardCodes, reverseCodes, endCodes, listedCodes, isIn, answerOf}
+use Rattle.operations.specs.Answers.{forwardCodes, reverseCodes, endCodes, suppliedCodes, listedCodes, isIn, answerOf}
 use Rattle.operations.proofs.Table.{both, both-left, both-right, every, at}
 use Rattle.operations.proofs.answers.answer_of.Statement.{statement}
 use Rattle.operations.proofs.answers.answer_of.Tie as tie
@@ -33,6 +33,7 @@ table : List (List ℕ)
 table =
     row 0x10000002222022222222000200000000 ∷
     row 0x10000000000000000000000000000000 ∷
+    row 0x10000002222000000002200200000000 ∷
     row 0x10000002220222222222200200000000 ∷
     row 0x10000022200000000000000200000000 ∷
     row 0x10000022000000000000000000000000 ∷
@@ -60,13 +61,14 @@ digit operation code x = eqb x (48 + answerOf operation code)
 -- the operation has a row, of 32 digits, each of them its answer, and no code that it lists is above them
 ruled : Operation → Bool
 ruled operation =
-    both (leb (numberOf operation) 10)
+    both (leb (numberOf operation) 11)
     (both (allBelow (listedCodes operation)) (both (eqb (length (rowFor operation)) 32) (every (digit operation) 0 (rowFor operation))))
 
 every-row : (operation : Operation) → T (ruled operation)
-unfolding ruled digit table pick answerOf isIn listedCodes forwardCodes reverseCodes endCodes
+unfolding ruled digit table pick answerOf isIn listedCodes forwardCodes reverseCodes endCodes suppliedCodes
 every-row Read = tt
 every-row CheckBytes = tt
+every-row SuppliedCount = tt
 every-row Write = tt
 every-row Erase = tt
 every-row Rewind = tt
@@ -85,13 +87,13 @@ not-in code (x ∷ rest) below above =
     simp (ne-eqb code x (λ e. omega arith), not-in code rest (both-right (leb x 31) (allBelow rest) below) above)
 
 module _ (operation : Operation) where
-  few : numberOf operation ≤ 10
+  few : numberOf operation ≤ 11
   unfolding ruled
-  few = leb→le (numberOf operation) 10 (both-left (leb (numberOf operation) 10) _ (every-row operation))
+  few = leb→le (numberOf operation) 11 (both-left (leb (numberOf operation) 11) _ (every-row operation))
 
   listed-below : T (allBelow (listedCodes operation))
   unfolding ruled
-  listed-below = both-left (allBelow (listedCodes operation)) _ (both-right (leb (numberOf operation) 10) _ (every-row operation))
+  listed-below = both-left (allBelow (listedCodes operation)) _ (both-right (leb (numberOf operation) 11) _ (every-row operation))
 
   -- what stands in its row at a code
   module _ (n code : ℕ) (e : n ≡ numberOf operation) (h : code ≤ 31) where
@@ -99,7 +101,7 @@ module _ (operation : Operation) where
     unfolding ruled digit
     entry =
         let this = rowFor operation in
-        let here = both-right (allBelow (listedCodes operation)) _ (both-right (leb (numberOf operation) 10) _ (every-row operation)) in
+        let here = both-right (allBelow (listedCodes operation)) _ (both-right (leb (numberOf operation) 11) _ (every-row operation)) in
         let long : length this ≡ 32 = eqb→eq (length this) 32 (both-left (eqb (length this) 32) (every (digit operation) 0 this) here) in
         let there = at (digit operation) 0 this (both-right (eqb (length this) 32) (every (digit operation) 0 this) here) code (omega arith) in
         rw e (eqb→eq (getD this code 0) (48 + answerOf operation code) there)

@@ -1,7 +1,11 @@
--- `transfers::expected::image_refusal` meets its contract: at each return the case that led there says which case holds.
+-- `transfers::expected::image_refusal` meets its contract: by what is expected.
 -- Assumes nothing.
 use borrow.Author.Needs.{needs}
-use Rattle.transfers.specs.Expected.{imageRefusal}
+use mathlib.Core.Path.{subst}
+use Prim.Native.Nat.{_≤_}
+use Rattle.records.specs.Count.{limit}
+use Rattle.transfers.specs.declared.expected.Expected.{Expected}
+use Rattle.transfers.specs.Expected.{suppliedIn, imageRefusal}
 use Rattle.transfers.proofs.expected.image_refusal.Statement.{statement}
 use Rattle.transfers.proofs.expected.image_refusal.Tie as tie
 
@@ -10,6 +14,15 @@ enum-known-expected c = search needs
 
 whole-refusal-requires : tie.Need-whole-refusal-requires
 whole-refusal-requires c κs = search needs
+
+enum-known-expected-2 : tie.Need-enum-known-expected-2
+enum-known-expected-2 c = search needs
+
+layout-refusal-requires : tie.Need-layout-refusal-requires
+unfolding suppliedIn
+layout-refusal-requires c κs =
+    let e = c .before .before .before .before .before in
+    subst (λ (x : Expected). suppliedIn x ≤ limit) (c .before .expected2 .given .1) (e .pre)
 
 enum-told : tie.Need-enum-told
 enum-told c = search needs
@@ -25,15 +38,31 @@ empty-refusal-requires c κs = search needs
 
 returns : tie.Need-returns
 unfolding imageRefusal
-returns c = simp (c .whole-refusal .ensures, c .before .before .expected .given .1)
+returns c = simp (
+  c .whole-refusal .ensures,
+  c .before .before .expected .given .1,
+)
 
 returns-2 : tie.Need-returns-2
 unfolding imageRefusal
-returns-2 c = simp (c .count-refusal .ensures, c .before .enum-told .given .1)
+returns-2 c = simp (
+  c .layout-refusal .ensures,
+  c .before .before .expected2 .given .1,
+)
 
 returns-3 : tie.Need-returns-3
 unfolding imageRefusal
-returns-3 c = simp (c .empty-refusal .ensures, c .before .enum-told2 .given .1)
+returns-3 c = simp (
+  c .count-refusal .ensures,
+  c .before .enum-told .given .1,
+)
+
+returns-4 : tie.Need-returns-4
+unfolding imageRefusal
+returns-4 c = simp (
+  c .empty-refusal .ensures,
+  c .before .enum-told2 .given .1,
+)
 
 pub image-refusal-spec : {M : Type 1} → statement M
 image-refusal-spec =
@@ -41,10 +70,13 @@ image-refusal-spec =
     (tie.spec
     enum-known-expected
     whole-refusal-requires
+    enum-known-expected-2
+    layout-refusal-requires
     enum-told
     count-refusal-requires
     enum-told-2
     empty-refusal-requires
     returns
     returns-2
-    returns-3)
+    returns-3
+    returns-4)

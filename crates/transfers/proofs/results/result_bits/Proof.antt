@@ -16,12 +16,11 @@ motion-of-requires c κs = search needs
 
 returns : tie.Need-returns
 unfolding resultBits
-returns c =
-    simp (
-      c .before .before .before .before .before .before .before .before .before .motion-of .ensures,
-      c .before .before .before .before .before .before .before .before .before .before .move-of .ensures,
-      c .before .before .before .before .before .before .before .before .before .before .before .wrote-well .ensures,
-    )
+returns c = simp (
+  c .before .before .before .before .before .before .before .before .before .before .before .before .motion-of .ensures,
+  c .before .before .before .before .before .before .before .before .before .before .before .before .before .move-of .ensures,
+  c .before .before .before .before .before .before .before .before .before .before .before .before .before .before .wrote-well .ensures,
+)
 
 pub result-bits-spec : {M : Type 1} → statement M
 result-bits-spec =

@@ -1,54 +1,79 @@
--- `transfers::results::result_secondary` meets its contract: the count of the image, of the write, or the old one.
+-- `transfers::results::result_secondary` meets its contract: the supplied count, that of the image, of the write, or the old one.
 -- Assumes nothing.
+use Rattle.common.specs.Pick.{pick}
 use borrow.Author.Needs.{needs}
 use native.Mathlib.Omega.{arith}
-use Rattle.common.specs.Pick.{pick}
 use Rattle.records.specs.Count.{limit}
 use Rattle.operations.specs.Store.{heldCount}
 use Rattle.transfers.specs.Results.{resultSecondary}
 use Rattle.transfers.proofs.results.result_secondary.Statement.{statement}
 use Rattle.transfers.proofs.results.result_secondary.Tie as tie
 
+held-count-requires : tie.Need-held-count-requires
+held-count-requires c κs = search needs
+
 cast-result : tie.Need-cast-result
-unfolding limit
+unfolding heldCount
 cast-result c = omega arith
 
 returns : tie.Need-returns
 unfolding resultSecondary pick
-returns c = simp (c .before .if1 .taken)
-
-wrote-well-requires : tie.Need-wrote-well-requires
-wrote-well-requires c κs = search needs
-
-held-count-requires : tie.Need-held-count-requires
-held-count-requires c κs = search needs
+returns c = simp (
+  c .held-count .ensures,
+  c .before .if1 .taken,
+)
 
 cast-result-2 : tie.Need-cast-result-2
-unfolding heldCount
+unfolding limit
 cast-result-2 c = omega arith
 
 returns-2 : tie.Need-returns-2
 unfolding resultSecondary pick
-returns-2 c =
-    simp (
-      c .held-count .ensures,
-      c .before .if2 .taken,
-      ← c .before .before .wrote-well .ensures,
-      c .before .before .before .if1 .left,
-    )
+returns-2 c = simp (
+  c .before .if2 .taken,
+  c .before .before .if1 .left,
+)
+
+wrote-well-requires : tie.Need-wrote-well-requires
+wrote-well-requires c κs = search needs
+
+held-count-requires-2 : tie.Need-held-count-requires-2
+held-count-requires-2 c κs = search needs
+
+cast-result-3 : tie.Need-cast-result-3
+unfolding heldCount
+cast-result-3 c = omega arith
 
 returns-3 : tie.Need-returns-3
 unfolding resultSecondary pick
-returns-3 c = simp (c .if2 .left, ← c .before .wrote-well .ensures, c .before .before .if1 .left)
+returns-3 c = simp (
+  c .held-count2 .ensures,
+  c .before .if3 .taken,
+  ← c .before .before .wrote-well .ensures,
+  c .before .before .before .if2 .left,
+  c .before .before .before .before .if1 .left,
+)
+
+returns-4 : tie.Need-returns-4
+unfolding resultSecondary pick
+returns-4 c = simp (
+  c .if3 .left,
+  ← c .before .wrote-well .ensures,
+  c .before .before .if2 .left,
+  c .before .before .before .if1 .left,
+)
 
 pub result-secondary-spec : {M : Type 1} → statement M
 result-secondary-spec =
     tie.close
     (tie.spec
+    held-count-requires
     cast-result
     returns
-    wrote-well-requires
-    held-count-requires
     cast-result-2
     returns-2
-    returns-3)
+    wrote-well-requires
+    held-count-requires-2
+    cast-result-3
+    returns-3
+    returns-4)

@@ -3,6 +3,7 @@
 -- Assumes nothing.
 use borrow.Author.Needs.{needs}
 use Rattle.transfers.specs.Results.{settleResult}
+use Rattle.transfers.proofs.ReadLaws.{read-length}
 use Rattle.transfers.proofs.ResultLaws.{result-passed}
 use Rattle.transfers.proofs.settle.settle_result.Statement.{statement}
 use Rattle.transfers.proofs.settle.settle_result.Tie as tie
@@ -10,7 +11,8 @@ use Rattle.transfers.proofs.settle.settle_result.Tie as tie
 verdict-of-requires : tie.Need-verdict-of-requires
 verdict-of-requires c κs =
     let e = c .before .before .before .before in
-    result-passed (e .args .drive) _ (e .args .operation) _ (e .pre) .two
+    let h = result-passed (e .args .drive) _ (e .args .operation) (e .args .store) _ (e .pre .0) (e .pre .1) in
+    (h .two, h .few)
 
 result-gap-requires : tie.Need-result-gap-requires
 result-gap-requires c κs = search needs
@@ -19,25 +21,25 @@ delivered-bytes-requires : tie.Need-delivered-bytes-requires
 delivered-bytes-requires c κs =
     let v = c .before .before in
     let e = v .before .before .before .before .before in
-    let h = result-passed (e .args .drive) _ (e .args .operation) _ (e .pre) in
+    let h = result-passed (e .args .drive) _ (e .args .operation) (e .args .store) _ (e .pre .0) (e .pre .1) in
     rw (v .verdict-of .ensures) (h .within, h .read)
 
 result-words-requires : tie.Need-result-words-requires
 result-words-requires c κs =
     let v = c .before .before .before in
     let e = v .before .before .before .before .before in
-    rw (v .verdict-of .ensures) (result-passed (e .args .drive) _ (e .args .operation) _ (e .pre) .within)
+    rw (v .verdict-of .ensures) (result-passed (e .args .drive) _ (e .args .operation) (e .args .store) _ (e .pre .0) (e .pre .1) .within)
 
-put-fitting-requires : tie.Need-put-fitting-requires
-put-fitting-requires c κs = search needs
+put-bytes-read-requires : tie.Need-put-bytes-read-requires
+put-bytes-read-requires c κs = search needs
 
 put-result-check-requires : tie.Need-put-result-check-requires
 put-result-check-requires c κs =
     let d = c .before .before .before .before .before .before in
     let v = d .before .before .before in
     let e = v .before .before .before .before .before in
-    let h = result-passed (e .args .drive) _ (e .args .operation) _ (e .pre) in
-    rw (v .verdict-of .ensures) (h .within, (h .store, h .checked))
+    let h = result-passed (e .args .drive) _ (e .args .operation) (e .args .store) _ (e .pre .0) (e .pre .1) in
+    rw (v .verdict-of .ensures) (h .within, (h .lent, h .checked))
 
 same-length : tie.Need-same-length
 same-length c = search needs
@@ -54,8 +56,8 @@ returns c =
     let d = m .before in
     let r = d .before .before in
     let v = r .before in (
-      simp (m .result-words .ensures, r .result-gap .ensures, g .put-fitting .ensures .0, d .delivered-bytes .ensures, v .verdict-of .ensures),
-      (simp (g .put-fitting .ensures .1, d .delivered-bytes .ensures, v .verdict-of .ensures), simp (k .put-result-check .ensures, v .verdict-of .ensures)),
+      simp (m .result-words .ensures, r .result-gap .ensures, g .put-bytes-read .ensures .0, d .delivered-bytes .ensures, v .verdict-of .ensures, read-length),
+      (simp (g .put-bytes-read .ensures .1, d .delivered-bytes .ensures, v .verdict-of .ensures), simp (k .put-result-check .ensures, v .verdict-of .ensures)),
     )
 
 pub settle-result-spec : {M : Type 1} → statement M
@@ -66,7 +68,7 @@ settle-result-spec =
     result-gap-requires
     delivered-bytes-requires
     result-words-requires
-    put-fitting-requires
+    put-bytes-read-requires
     put-result-check-requires
     same-length
     same-length-2

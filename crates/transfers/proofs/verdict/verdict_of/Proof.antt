@@ -10,23 +10,29 @@ use Rattle.transfers.specs.Results.{verdictOf}
 use Rattle.transfers.proofs.verdict.verdict_of.Statement.{statement}
 use Rattle.transfers.proofs.verdict.verdict_of.Tie as tie
 
-findings-of-requires : tie.Need-findings-of-requires
-findings-of-requires c κs = search needs
+findings-read-requires : tie.Need-findings-read-requires
+findings-read-requires c κs = c .before .before .pre .1
 
 is-gone-requires : tie.Need-is-gone-requires
 is-gone-requires c κs = search needs
 
+supplied-count-requires : tie.Need-supplied-count-requires
+supplied-count-requires c κs = search needs
+
 reads-gcr-requires : tie.Need-reads-gcr-requires
 reads-gcr-requires c κs = search needs
+
+code-reported-requires : tie.Need-code-reported-requires
+code-reported-requires c κs = search needs
 
 final-code-requires : tie.Need-final-code-requires
 final-code-requires c κs = search needs
 
 used-count-requires : tie.Need-used-count-requires
 used-count-requires c κs used =
-    let g = c .before .before in
+    let g = c .before .before .before .before in
     let e = g .before .before .before .before in
-    e .pre (eqb-false _ _ (not-true _ (both-hold (not (g .is-gone .result)) (not (eqb (length (e .args .image .now)) 0)) used .1)))
+    e .pre .0 (eqb-false _ _ (not-true _ (both-hold (not (g .is-gone .result)) (not (eqb (length (e .args .image .now)) 0)) used .1)))
 
 returns : tie.Need-returns
 unfolding verdictOf
@@ -34,18 +40,22 @@ returns c =
     simp (
       c .used-count .ensures,
       c .before .final-code .ensures,
-      c .before .before .reads-gcr .ensures,
-      c .before .before .before .is-gone .ensures,
-      c .before .before .before .before .findings-of .ensures,
+      c .before .before .code-reported .ensures,
+      c .before .before .before .reads-gcr .ensures,
+      c .before .before .before .before .supplied-count .ensures,
+      c .before .before .before .before .before .is-gone .ensures,
+      c .before .before .before .before .before .before .findings-read .ensures,
     )
 
 pub verdict-of-spec : {M : Type 1} → statement M
 verdict-of-spec =
     tie.close
     (tie.spec
-    findings-of-requires
+    findings-read-requires
     is-gone-requires
+    supplied-count-requires
     reads-gcr-requires
+    code-reported-requires
     final-code-requires
     used-count-requires
     returns)
