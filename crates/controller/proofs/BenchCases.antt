@@ -11,16 +11,16 @@ use Rattle.common.specs.Given.{given, filled}
 use Rattle.blockettes.specs.Xor.{_⊕_, xorAll}
 use Rattle.blockettes.specs.Blockettes.{blocketteAt, numbered, ofParity, foldParity, checkOf}
 use Rattle.marks.specs.Marks.{legalMark, legalMarks, isError, tornMarks}
-use Rattle.marks.specs.Scan.{scanFrom, scanMarks, kindOf, numberOf, defectAt, isFound, findingsOf}
+use Rattle.marks.specs.Scan.{scanFrom, scanMarks, kindOf, numberOf, defectAt, isFound, findingsOf, checksAlone}
 use Rattle.records.specs.Count.{limit, rotated, countBytes, unrotated, countOf}
 use Rattle.records.specs.Image.{blocketteCount, hasBlockettes, blockettesOf, bodyOf, imageOf, imageLength, markCount}
 use Rattle.records.specs.Whole.{layoutRefusal, wholeRefusal}
 use Rattle.transfers.specs.Expected.{wholeCode, expectedWhole, expectedSupplied, expectedOf, countRefusal, emptyRefusal, imageRefusal}
-use Rattle.operations.specs.Operation.{movesTape, isSearch, takesMark}
+use Rattle.operations.specs.Operation.{movesTape, isSkip, isSearch, takesMark}
 use Rattle.operations.specs.Decode.{controlOf, countedOf, readOf, decodeOf, inDensity}
 use Rattle.operations.specs.Test.{mayMove}
-use Rattle.operations.specs.Answers.{forwardCodes, reverseCodes, endCodes, suppliedCodes, listedCodes, isIn, answerOf}
-use Rattle.operations.specs.After.{losesTape, motionOf, gapOf, gapAfter, retryOf}
+use Rattle.operations.specs.Answers.{forwardCodes, reverseCodes, endCodes, suppliedCodes, listedCodes, trailingCodes, clearCodes, isIn, answerOf}
+use Rattle.operations.specs.After.{losesTape, motionOf, gapOf, gapAfter, ownRetry, codeRetry, retryOf}
 use Rattle.status.specs.Drives.{reports, withTrack, driveOf, withDrive, withReport, anyDiffers, copyReports, freshDrives, resetDrives}
 use Rattle.status.specs.Words.{bitOf, noOutcome, anyBit, primaryOf, secondaryWord, digitsOf, tertiaryOf, quintaryOf, reportsWord}
 use Rattle.status.specs.Strings.{stringOf, orderOf}
@@ -132,15 +132,15 @@ pub record BenchCases : Type 0 where
 pub bench-cases : BenchCases
 unfolding pick given filled _⊕_ xorAll blocketteAt numbered ofParity foldParity checkOf legalMark legalMarks isError tornMarks scanFrom scanMarks kindOf
     numberOf defectAt limit rotated countBytes unrotated countOf blocketteCount hasBlockettes blockettesOf bodyOf imageOf imageLength markCount
-    layoutRefusal wholeRefusal countRefusal emptyRefusal imageRefusal controlOf countedOf readOf decodeOf inDensity mayMove forwardCodes reverseCodes endCodes suppliedCodes listedCodes isIn
-    answerOf losesTape motionOf gapOf gapAfter retryOf reports driveOf withDrive withReport anyDiffers copyReports freshDrives resetDrives bitOf
+    layoutRefusal wholeRefusal countRefusal emptyRefusal imageRefusal controlOf countedOf readOf decodeOf inDensity mayMove forwardCodes reverseCodes endCodes suppliedCodes listedCodes trailingCodes clearCodes isIn
+    answerOf losesTape motionOf gapOf gapAfter ownRetry codeRetry retryOf reports driveOf withDrive withReport anyDiffers copyReports freshDrives resetDrives bitOf
     noOutcome anyBit primaryOf secondaryWord digitsOf tertiaryOf quintaryOf reportsWord stringOf orderOf startBody fresh resetState review idle
     primaryNow sendWord sendInterrupt complete wholeLength appendByte loadXor isGoodString firstByte lastByte nextByte yesToSend giveUp noToSend
     asksInterrupt noToGo yesToGo collectByte answerToSend answerToGo tickAfterReview idleTick loadWord carryOutLoad storeOf namesDrive namedDrive
     askedFor endWith settle withTrack motionOrder pastTest orderMove begin clearOutcome namesUnknown selectedBy testOf courseOf follow
-    carryOutOn carryOut checkBytes thrownAway heldCount suppliedCount recordBytes runsShort dataRefusal dataDone dataFor resultFor takesMark isSearch markAgainst
+    carryOutOn carryOut checkBytes thrownAway heldCount suppliedCount recordBytes runsShort dataRefusal dataDone dataFor resultFor takesMark isSkip isSearch markAgainst
     wholeCode expectedWhole expectedSupplied expectedOf resultRefusal movesTape isGone marksRead codeReported finalCode readsGcr resultTertiary resultQuintary resultCheck readBytes fitting
-    wroteWell resultSecondary resultBits withRetry endOperation resultDone isFound findingsOf dataWords settleData recordCount usedCount verdictOf readCount
+    wroteWell resultSecondary resultBits withRetry endOperation resultDone isFound findingsOf checksAlone dataWords settleData recordCount usedCount verdictOf readCount
     deliveredBytes tornBytes bytesRead resultWords resultGap settleResult soundDrive soundDrives soundBody soundLead soundPart soundString soundCount soundHeld soundPhase
     isSound byteIn brokenIn tickIn byteCall brokenCall tickCall carryOutString takenIn takenCall reportCall resetCall dataIn dataCall resultIn
     resultCall step

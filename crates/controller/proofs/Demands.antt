@@ -1,23 +1,28 @@
 -- The three demands, of the calls themselves. 1: `calls-meet-their-contracts` and `refused-calls-change-nothing`. 2: `calls-run-the-machine`: a list of exchanges from a fresh
 -- controller in which every answer is one that the contract of its call's own function allows is the machine's run. 3:
 -- `calls-keep-drives-separate`: the drives are separate in any two such lists. And of every such list: `calls-count-their-own-record`, and
--- `calls-order-what-was-asked`.
+-- `calls-order-what-was-asked`; of any result: `calls-ask-trusted-retries`.
 -- Assumes nothing.
 pub mod Contracts
 use mathlib.Core.Path.{_≡_, refl, sym, ap, ap₂, subst, subst₂, _∙_}
+use Prim.Native.Nat.{ℕ}
 use mathlib.Core.List.{List, [], _∷_}
 use Rattle.controller.specs.declared.controller.Controller.{Controller}
 use Rattle.controller.specs.Controller.{fresh}
 use Rattle.controller.specs.Records.{Answer}
 use Rattle.controller.specs.Machine.{Call, Exchange, step, run}
+use Rattle.controller.specs.Machine.Call.{result}
+use Rattle.transfers.specs.Results.{Result}
 use Rattle.controller.specs.Refused.{RefusedUnchanged}
 use Rattle.controller.specs.Separation.{Separate}
 use Rattle.controller.specs.Counts.{CountsAreOwn}
 use Rattle.controller.specs.Orders.{OrdersAreAsked}
+use Rattle.controller.specs.Retry.{RetryTrusted}
 use Rattle.controller.proofs.RefusedCalls.{steps-refused-unchanged}
 use Rattle.controller.proofs.DrivesAreSeparate.{drives-are-separate}
 use Rattle.controller.proofs.CountsAreOwn.{counts-are-own}
 use Rattle.controller.proofs.OrdersAreAsked.{orders-are-asked}
+use Rattle.controller.proofs.RetriesAreTrusted.{retries-are-trusted}
 use Rattle.controller.proofs.controller.fresh_controller.Reads as fresh-reads
 use Rattle.controller.proofs.Demands.Contracts.{Allows, Meet, all-met, answers-are-steps, steps-are-allowed}
 
@@ -89,3 +94,12 @@ calls-count-their-own-record xs made = subst CountsAreOwn (sym (calls-run-the-ma
 -- Every motion order is the one that its store asked for, of the drive that it selected; none goes out unasked, and no store gives two.
 pub calls-order-what-was-asked : (xs : List Exchange) → FromFresh xs → OrdersAreAsked xs
 calls-order-what-was-asked xs made = subst OrdersAreAsked (sym (calls-run-the-machine xs made)) (orders-are-asked (callsOf xs))
+
+-- ---- the retry bit
+
+-- After a forward skip that went well bit 2 of primary is clear, and a code that loses the tape, or 16, always sets it: of any result that is not
+-- refused, whatever state it is handed.
+pub calls-ask-trusted-retries : (c : Controller) (r : Result) (space check : List ℕ) (answer : Answer) → Allows c (result r space check) answer → RetryTrusted c r answer
+unfolding step
+calls-ask-trusted-retries c r space check answer allowed =
+    subst (RetryTrusted c r) (sym (answers-are-steps c (result r space check) answer allowed)) (retries-are-trusted c r space check)

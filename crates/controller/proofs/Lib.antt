@@ -6,5 +6,6 @@ pub mod RefusedCalls
 pub mod DrivesAreSeparate
 pub mod CountsAreOwn
 pub mod OrdersAreAsked
+pub mod RetriesAreTrusted
 pub mod Demands
 pub mod WrongAnswers

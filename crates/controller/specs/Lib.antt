@@ -7,3 +7,4 @@ pub mod Lists
 pub mod Separation
 pub mod Counts
 pub mod Orders
+pub mod Retry

@@ -5,7 +5,7 @@ use Prim.Native.Nat.{ℕ}
 use Rattle.common.specs.Pick.{pick}
 use Rattle.status.specs.declared.strings.Six.{Six}
 use Rattle.status.specs.Drives.{driveOf}
-use Rattle.status.specs.Words.{noOutcome, withCode}
+use Rattle.status.specs.Words.{noOutcome}
 use Rattle.status.specs.Strings.{orderOf}
 use Rattle.operations.specs.declared.operation.Operation.{Operation}
 use Rattle.operations.specs.declared.operation.Operation.the-variants.{CheckBytes, Write}
@@ -13,6 +13,7 @@ use Rattle.operations.specs.declared.store.Store.{Store}
 use Rattle.operations.specs.declared.course.Course.{Course}
 use Rattle.operations.specs.declared.course.Course.the-variants.{Reset, End, Enable, Set, Begin}
 use Rattle.operations.specs.Codes.{illegalDrive}
+use Rattle.operations.specs.After.{withCode}
 use Rattle.operations.specs.Operation.{sameOperation, orderByte, countsBytes, offersEnd}
 use Rattle.operations.specs.Store.{asksInterrupt, namesUnknown, selectedBy, askedIn}
 use Rattle.operations.specs.Course.{courseOf}

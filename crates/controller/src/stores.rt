@@ -9,6 +9,7 @@ use link::state::Action;
 use link::state::Body;
 use link::state::Phase;
 use link::state::Turn;
+use operations::after::with_code;
 use operations::codes::ILLEGAL_DRIVE;
 use operations::course::Course;
 use operations::course::course_of;
@@ -25,7 +26,6 @@ use status::drives::drive_of;
 use status::strings::Six;
 use status::strings::order_of;
 use status::words::no_outcome;
-use status::words::with_code;
 ghost use mathlib.Core.Path.{_≡_};
 ghost use Rattle.controller.specs.Stores.{settle, endWith, endOperation, motionOrder, orderMove, offerGo, awaitCheckBytes, pastTest, begin, follow, clearOutcome, carryOutOn, carryOut};
 

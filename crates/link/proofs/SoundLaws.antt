@@ -3,11 +3,11 @@
 -- Assumes nothing.
 use Prim.Native.Nat.{ℕ, _≤_, _<_}
 use native.Mathlib.Omega.{arith}
-use mathlib.Core.Path.{_≡_, refl, sym, ap, _∙_}
+use mathlib.Core.Path.{_≡_, sym, ap, _∙_}
 use mathlib.Core.Bool.{Bool, true, false, not, _&&_, _||_, or-true, false≢true}
 use lib.Dec.{ltb, eqb}
 use borrow.Author.Tests.{ltb-true, leb-true, eqb-true}
-use Rattle.common.proofs.PickLaws.{pick-by, both-hold}
+use Rattle.common.proofs.PickLaws.{by-either, both-hold, pick-by}
 use Rattle.records.specs.Count.{limit}
 use Rattle.operations.specs.declared.operation.Operation.{Operation}
 use Rattle.operations.specs.declared.operation.Operation.the-variants.{Write}
@@ -22,11 +22,6 @@ use Rattle.link.specs.declared.state.Body.{Body}
 use Rattle.link.specs.Bytes.{loadLead, storeLength, mostNoes}
 use Rattle.link.specs.Link.{wholeLength}
 use Rattle.link.specs.Damaged.{soundBody, soundLead, soundPart, soundCount, soundHeld, soundPhase, isSound}
-
--- what follows from either of two tests, one of which holds
-by-either : {P : Type 0} (a b : Bool) → (a ≡ true → P) → (b ≡ true → P) → (a || b) ≡ true → P
-by-either true b f g e = f refl
-by-either false b f g e = g e
 
 whole-at-most : (lead : ℕ) → wholeLength lead ≤ storeLength
 unfolding wholeLength

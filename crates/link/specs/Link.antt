@@ -16,7 +16,7 @@ use Rattle.link.specs.declared.state.Body.{Body}
 use Rattle.link.specs.declared.state.Action.the-variants.{Nothing, Byte, Text}
 use Rattle.link.specs.declared.state.Turn.{Turn}
 use Rattle.link.specs.Bytes.{ack, nack, endOfRecord, loadLead, storeLead, loadLength, storeLength, interrupt, mostNoes}
-use Rattle.status.specs.Words.{withCode}
+use Rattle.operations.specs.After.{withCode}
 use Rattle.operations.specs.Codes.{noGo}
 use Rattle.link.specs.State.{withOutcome, withFlags, nothingCollected, keepCollecting, idle, review}
 use Rattle.link.specs.Completion.{primaryNow, sendWord}

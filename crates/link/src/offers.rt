@@ -5,10 +5,10 @@ use crate::state::Action;
 use crate::state::Body;
 use crate::state::Phase;
 use crate::state::Turn;
+use operations::after::with_code;
 use operations::codes::NO_GO;
 use operations::store::Store;
 use operations::store::asks_interrupt;
-use status::words::with_code;
 ghost use mathlib.Core.Path.{_≡_};
 ghost use Rattle.link.specs.Link.{noToGo, yesToGo, answerToGo};
 

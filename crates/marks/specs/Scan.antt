@@ -3,7 +3,7 @@
 -- follow them, so `after` has the parity of the number, is the number of a check blockette, and is 2 above that of data.
 -- Assumes nothing.
 use Prim.Native.Nat.{ℕ, suc, _-_, _%_}
-use mathlib.Core.Bool.{Bool, not}
+use mathlib.Core.Bool.{Bool, not, _&&_}
 use mathlib.Core.List.{List, [], _∷_}
 use lib.Dec.{leb, ltb, eqb}
 use lib.ListN.{length, getD}
@@ -29,9 +29,16 @@ scanFrom (mark ∷ marks) at end odd even =
 unfoldable pub scanMarks : List ℕ → Scan
 scanMarks marks = scanFrom marks 0 (length marks) (length marks) (length marks)
 
--- "kind (1 data, 2 check)", by the number of places after it
+-- "kind (1 data, 2 check)"
+abbrev pub dataKind : ℕ
+dataKind = 1
+
+abbrev pub checkKind : ℕ
+checkKind = 2
+
+-- by the number of places after it
 unfoldable pub kindOf : ℕ → ℕ
-kindOf after = pick (leb 2 after) 1 2
+kindOf after = pick (leb 2 after) dataKind checkKind
 
 -- "its number", one byte: no record has more than 256 blockettes
 unfoldable pub numberOf : ℕ → ℕ
@@ -62,3 +69,7 @@ findingsOf marks =
 -- the same where the first blockette is torn
 abbrev pub findingsTorn : List ℕ → Findings
 findingsTorn marks = findingsOf (tornMarks marks)
+
+-- "only check blockettes are bad" (document 02, Wish 2): no error that the scan found is a data blockette's
+unfoldable pub checksAlone : Findings → Bool
+checksAlone found = not (eqb (found .odd .kind) dataKind) && not (eqb (found .even .kind) dataKind)

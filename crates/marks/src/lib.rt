@@ -4,10 +4,15 @@ ghost use mathlib.Core.Path.{_≡_};
 ghost use Prim.Native.Nat.{_≤_};
 ghost use lib.ListN.{length};
 ghost use Rattle.marks.specs.Marks.{legalMark, legalMarks, tornMarks, mostMarks};
-ghost use Rattle.marks.specs.Scan.{scanMarks, defectAt, isFound, findingsOf, findingsTorn};
+ghost use Rattle.marks.specs.Scan.{scanMarks, defectAt, isFound, findingsOf, findingsTorn, checksAlone};
 
 // The mark of a good blockette.
 const GOOD: u8 = 15;
+
+// What an error is of: a data blockette or a check blockette.
+const DATA_KIND: u8 = 1;
+
+const CHECK_KIND: u8 = 2;
 
 // The mark of a torn one, which no blockette comes with.
 const TORN: u8 = 0;
@@ -109,14 +114,14 @@ pub fn defect_at(marks: &[u8], place: usize) -> Defect
         let number = ((after - 2) % 256) as u8;
         return Defect {
             mark,
-            kind: 1,
+            kind: DATA_KIND,
             number,
         };
     }
     let number = after as u8;
     Defect {
         mark,
-        kind: 2,
+        kind: CHECK_KIND,
         number,
     }
 }
@@ -164,4 +169,11 @@ pub fn findings_torn(marks: &[u8]) -> Findings
     let end = marks.len();
     put_torn_marks(marks, &mut seen[..end]);
     findings_of(&seen[..end])
+}
+
+// Whether no error that the scan found is a data blockette's.
+pub fn checks_alone(found: Findings) -> bool
+    ensures { λ r. ⌜ r ≡ checksAlone found ⌝ }
+{
+    (found.odd.kind != DATA_KIND) & (found.even.kind != DATA_KIND)
 }

@@ -1,12 +1,16 @@
--- What an operation leaves (document 01, Records): motion, gap and retry.
+-- What an operation leaves (document 01, Records; document 02, Wish 2): motion, gap and retry.
 -- Assumes nothing.
 use Prim.Native.Nat.{ℕ}
-use mathlib.Core.Bool.{Bool, not, _||_}
+use mathlib.Core.Bool.{Bool, false, not, _&&_, _||_}
 use lib.Dec.{eqb}
 use Rattle.common.specs.Pick.{pick}
+use Rattle.status.specs.declared.words.Outcome.{Outcome}
 use Rattle.status.specs.Drives.{gapProper, gapImproper, gapUnfinished, gapLost}
+use Rattle.operations.specs.declared.operation.Operation.{Operation}
 use Rattle.operations.specs.declared.operation.Move.{Move}
 use Rattle.operations.specs.declared.operation.Move.the-variants.{Still, Forward, Reverse, Rewinding, Winding, Writing, Erasing}
+use Rattle.operations.specs.Codes.{recoverable}
+use Rattle.operations.specs.Answers.{neverReported, asksRetry, answerOf}
 
 -- motion "11": nobody knows where the tape is
 abbrev pub lost : ℕ
@@ -44,6 +48,34 @@ gapOf Erasing code = pick (eqb code 0) gapProper gapImproper
 unfoldable pub gapAfter : Move → ℕ → ℕ → ℕ
 gapAfter move code gap = pick (eqb (motionOf move code) 0) gap (pick (eqb (motionOf move code) lost) gapLost (gapOf move code))
 
--- "Bit 2 (retry): code not 0, or any of bits 16-20."
-unfoldable pub retryOf : ℕ → Bool → Bool
-retryOf code anyBit = not (eqb code 0) || anyBit
+-- ---- retry (document 02, Wish 2)
+
+-- a code that no result reports, 01 to 05, 15 or 16: "code 15 where only check blockettes are bad" leaves bit 2 clear, every other sets it
+unfoldable pub ownRetry : ℕ → Bool → Bool
+ownRetry code checksAlone = not (eqb code recoverable && checksAlone)
+
+-- a code that a result reports: "1 reported and no retry, 2 reported with retry"
+unfoldable pub codeRetry : Operation → ℕ → Bool → Bool
+codeRetry operation code checksAlone =
+    pick (eqb (answerOf operation code) neverReported) (ownRetry code checksAlone) (eqb (answerOf operation code) asksRetry)
+
+-- "Bit 2 (retry)": by the final code, or by any of bits 16-20 that counts
+unfoldable pub retryOf : Operation → ℕ → Bool → Bool → Bool
+retryOf operation code checksAlone anyBit = codeRetry operation code checksAlone || anyBit
+
+-- "A code here ends the store with motion 00."
+abbrev pub withCode : Outcome → ℕ → Outcome
+withCode outcome code =
+    record {
+      retry = ownRetry code false;
+      mark = outcome .mark;
+      motion = 0;
+      code = code;
+      parity = outcome .parity;
+      overflow = outcome .overflow;
+      underflow = outcome .underflow;
+      wdl = outcome .wdl;
+      rdl = outcome .rdl;
+      supplied = outcome .supplied;
+      counted = outcome .counted;
+    }

@@ -1,5 +1,6 @@
 -- The codes that a result may report (document 01, Records): "The .. answers, .. operations by 32 codes, stand in one table: 0 never, 1
--- reported and no retry, 2 reported with retry. Code 0 is 1; others in the list are 2." Document 02, Wish 1: "The table grows to 384 answers".
+-- reported and no retry, 2 reported with retry. Code 0 is 1; others in the list are 2." Document 02, Wish 1: "The table grows to 384 answers"; Wish 2: "The table's entries
+-- follow, and it stays the single place for reported codes."
 -- Assumes nothing.
 use Prim.Native.Nat.{ℕ}
 use mathlib.Core.Bool.{Bool, false, _||_}
@@ -40,6 +41,35 @@ listedCodes SearchForward = forwardCodes
 listedCodes SearchReverse = reverseCodes
 listedCodes WriteMark = 0x7 ∷ 0x8 ∷ 0x9 ∷ 0xB ∷ 0xC ∷ 0xD ∷ 0x17 ∷ []
 
+-- "Codes 10, 11 and 12": of what trails a record
+unfoldable pub trailingCodes : List ℕ
+trailingCodes = 0x10 ∷ 0x11 ∷ 0x12 ∷ []
+
+-- "Codes 10, 11 and 12 on a read, forward skip or forward search leave bit 2 clear. So do C, D and F on a forward skip"
+unfoldable pub clearCodes : Operation → List ℕ
+clearCodes Read = trailingCodes
+clearCodes SkipForward = 0xC ∷ 0xD ∷ 0xF ∷ trailingCodes
+clearCodes SearchForward = trailingCodes
+clearCodes CheckBytes = []
+clearCodes SuppliedCount = []
+clearCodes Write = []
+clearCodes Erase = []
+clearCodes Rewind = []
+clearCodes FastForward = []
+clearCodes SkipReverse = []
+clearCodes SearchReverse = []
+clearCodes WriteMark = []
+
+-- "0 never, 1 reported and no retry, 2 reported with retry"
+abbrev pub neverReported : ℕ
+neverReported = 0
+
+abbrev pub asksNoRetry : ℕ
+asksNoRetry = 1
+
+abbrev pub asksRetry : ℕ
+asksRetry = 2
+
 -- whether a code is in a list
 unfoldable pub isIn : ℕ → List ℕ → Bool
 isIn code [] = false
@@ -47,4 +77,6 @@ isIn code (listed ∷ rest) = eqb code listed || isIn code rest
 
 -- the entry of an operation and a code; a code above 31 is never reported
 unfoldable pub answerOf : Operation → ℕ → ℕ
-answerOf operation code = pick (eqb code 0) 1 (pick (isIn code (listedCodes operation)) 2 0)
+answerOf operation code =
+    pick (eqb code 0 || isIn code (clearCodes operation)) asksNoRetry
+    (pick (isIn code (listedCodes operation)) asksRetry neverReported)

@@ -81,6 +81,10 @@ holdsCount operation = sameOperation operation Write || suppliesCount operation
 abbrev pub bringsRecord : Operation → Bool
 bringsRecord operation = sameOperation operation Read || sameOperation operation SkipForward
 
+-- "both skips"
+unfoldable pub isSkip : Operation → Bool
+isSkip operation = sameOperation operation SkipForward || sameOperation operation SkipReverse
+
 -- "a search"
 unfoldable pub isSearch : Operation → Bool
 isSearch operation = sameOperation operation SearchForward || sameOperation operation SearchReverse

@@ -1,11 +1,17 @@
 // What an operation leaves: motion, gap and retry.
+use crate::answers::ASKS_RETRY;
+use crate::answers::NEVER_REPORTED;
+use crate::answers::answer_of;
+use crate::codes::RECOVERABLE;
 use crate::operation::Move;
+use crate::operation::Operation;
 use status::drives::GAP_IMPROPER;
 use status::drives::GAP_LOST;
 use status::drives::GAP_PROPER;
 use status::drives::GAP_UNFINISHED;
+use status::words::Outcome;
 ghost use mathlib.Core.Path.{_≡_};
-ghost use Rattle.operations.specs.After.{losesTape, usualMotion, motionOf, gapOf, gapAfter, retryOf};
+ghost use Rattle.operations.specs.After.{losesTape, usualMotion, motionOf, gapOf, gapAfter, ownRetry, codeRetry, retryOf, withCode};
 
 // The motion after which nobody knows where the tape is.
 const LOST: u8 = 3;
@@ -74,9 +80,38 @@ pub fn gap_after(movement: Move, code: u8, gap: u8) -> u8
     gap_of(movement, code)
 }
 
-// Bit 2, by the final code and whether any of bits 16-20 is set.
-pub fn retry_of(code: u8, any_bit: bool) -> bool
-    ensures { λ r. ⌜ r ≡ retryOf code «any_bit» ⌝ }
+// Of a code that no result reports, whether it asks a retry: all but 15 where only check blockettes are bad.
+fn own_retry(code: u8, checks_alone: bool) -> bool
+    ensures { λ r. ⌜ r ≡ ownRetry code «checks_alone» ⌝ }
 {
-    !(code == 0) | any_bit
+    !((code == RECOVERABLE) & checks_alone)
+}
+
+// Of a final code, whether it asks a retry: one that a result reports by its entry in the table.
+fn code_retry(operation: Operation, code: u8, checks_alone: bool) -> bool
+    ensures { λ r. ⌜ r ≡ codeRetry operation code «checks_alone» ⌝ }
+{
+    let answer = answer_of(operation, code);
+    if answer == NEVER_REPORTED {
+        return own_retry(code, checks_alone);
+    }
+    answer == ASKS_RETRY
+}
+
+// Bit 2, by the final code and whether any of bits 16-20 is set that counts.
+pub fn retry_of(operation: Operation, code: u8, checks_alone: bool, any_bit: bool) -> bool
+    ensures { λ r. ⌜ r ≡ retryOf operation code «checks_alone» «any_bit» ⌝ }
+{
+    code_retry(operation, code, checks_alone) | any_bit
+}
+
+// An outcome with a code that ends a store before any motion.
+pub fn with_code(mut outcome: Outcome, code: u8) -> Outcome
+    ensures { λ r. ⌜ r ≡ withCode outcome code ⌝ }
+{
+    let again = own_retry(code, false);
+    outcome.retry = again;
+    outcome.motion = 0;
+    outcome.code = code;
+    outcome
 }

@@ -1,6 +1,6 @@
 // An operation, and what of it counts in more than one rule.
 ghost use mathlib.Core.Path.{_≡_};
-ghost use Rattle.operations.specs.Operation.{rowOf, numberOf, sameOperation, moveOf, orderByte, countsBytes, offersEnd, movesTape, suppliesCount, isRead, holdsCount, bringsRecord, isSearch, takesMark};
+ghost use Rattle.operations.specs.Operation.{rowOf, numberOf, sameOperation, moveOf, orderByte, countsBytes, offersEnd, movesTape, suppliesCount, isRead, holdsCount, bringsRecord, isSkip, isSearch, takesMark};
 
 pub enum Operation {
     Read,
@@ -130,6 +130,14 @@ pub fn brings_record(operation: Operation) -> bool
     ensures { λ r. ⌜ r ≡ bringsRecord operation ⌝ }
 {
     same_operation(operation, Operation::Read) | same_operation(operation, Operation::SkipForward)
+}
+
+// A skip, forward or reverse.
+pub fn is_skip(operation: Operation) -> bool
+    ensures { λ r. ⌜ r ≡ isSkip operation ⌝ }
+{
+    same_operation(operation, Operation::SkipForward)
+        | same_operation(operation, Operation::SkipReverse)
 }
 
 // A search for a mark.

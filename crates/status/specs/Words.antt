@@ -2,7 +2,7 @@
 -- from 0, the most significant."
 -- Assumes nothing.
 use Prim.Native.Nat.{ℕ, _+_, _*_, _/_, _%_}
-use mathlib.Core.Bool.{Bool, true, false, _||_}
+use mathlib.Core.Bool.{Bool, false, _&&_, _||_}
 use Rattle.common.specs.Pick.{pick}
 use Rattle.marks.specs.declared.Defect.{Defect}
 use Rattle.status.specs.declared.drives.Drive.{Drive}
@@ -31,23 +31,6 @@ noOutcome =
       counted = false;
     }
 
--- "A code here ends the store with motion 00.", and asks a retry
-abbrev pub withCode : Outcome → ℕ → Outcome
-withCode outcome code =
-    record {
-      retry = true;
-      mark = outcome .mark;
-      motion = 0;
-      code = code;
-      parity = outcome .parity;
-      overflow = outcome .overflow;
-      underflow = outcome .underflow;
-      wdl = outcome .wdl;
-      rdl = outcome .rdl;
-      supplied = outcome .supplied;
-      counted = outcome .counted;
-    }
-
 -- "fewer host bytes than thrown away plus count: zeros fill, bit 18"
 abbrev pub withUnderflow : Outcome → Bool → Outcome
 withUnderflow outcome short =
@@ -65,9 +48,10 @@ withUnderflow outcome short =
       counted = outcome .counted;
     }
 
--- "any of bits 16-20"
-unfoldable pub anyBit : Outcome → Bool
-anyBit outcome = outcome .parity || (outcome .overflow || (outcome .underflow || (outcome .wdl || outcome .rdl)))
+-- "any of bits 16-20", of which bit 19 does not count everywhere (document 02, Wish 2)
+unfoldable pub anyBit : Outcome → Bool → Bool
+anyBit outcome wdlCounts =
+    outcome .parity || (outcome .overflow || (outcome .underflow || ((outcome .wdl && wdlCounts) || outcome .rdl)))
 
 -- "Primary: changed, enable, retry, track (3-5), drive (6-7), .."
 abbrev pub primaryFirst : Bool → Bool → Outcome → ℕ → Drive → ℕ

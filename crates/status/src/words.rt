@@ -9,7 +9,7 @@ use crate::drives::Drives;
 use marks::Defect;
 ghost use mathlib.Core.Path.{_≡_};
 ghost use Prim.Native.Nat.{_≤_};
-ghost use Rattle.status.specs.Words.{zeroWord, bitOf, noOutcome, withCode, withUnderflow, anyBit, primaryFirst, primarySecond, primaryThird, primaryOf, secondaryWord, digitsOf, tertiaryOf, quintaryOf, reportsWord};
+ghost use Rattle.status.specs.Words.{zeroWord, bitOf, noOutcome, withUnderflow, anyBit, primaryFirst, primarySecond, primaryThird, primaryOf, secondaryWord, digitsOf, tertiaryOf, quintaryOf, reportsWord};
 
 pub struct Word {
     pub b0: u8,
@@ -60,16 +60,6 @@ pub fn no_outcome() -> Outcome
     }
 }
 
-// An outcome with a code that ends a store before any motion.
-pub fn with_code(mut outcome: Outcome, code: u8) -> Outcome
-    ensures { λ r. ⌜ r ≡ withCode outcome code ⌝ }
-{
-    outcome.retry = true;
-    outcome.motion = 0;
-    outcome.code = code;
-    outcome
-}
-
 // An outcome with bit 18 set where host bytes run short.
 pub fn with_underflow(mut outcome: Outcome, short: bool) -> Outcome
     ensures { λ r. ⌜ r ≡ withUnderflow outcome short ⌝ }
@@ -78,11 +68,12 @@ pub fn with_underflow(mut outcome: Outcome, short: bool) -> Outcome
     outcome
 }
 
-// Whether any of bits 16-20 is set.
-pub fn any_bit(outcome: Outcome) -> bool
-    ensures { λ r. ⌜ r ≡ anyBit outcome ⌝ }
+// Whether any of bits 16-20 is set that counts: bit 19 where it does.
+pub fn any_bit(outcome: Outcome, wdl_counts: bool) -> bool
+    ensures { λ r. ⌜ r ≡ anyBit outcome «wdl_counts» ⌝ }
 {
-    outcome.parity | (outcome.overflow | (outcome.underflow | (outcome.wdl | outcome.rdl)))
+    outcome.parity
+        | (outcome.overflow | (outcome.underflow | ((outcome.wdl & wdl_counts) | outcome.rdl)))
 }
 
 // The first byte of primary: changed, enable, retry, track and drive.

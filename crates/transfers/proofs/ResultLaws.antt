@@ -1,7 +1,7 @@
 -- Laws of the result: what is known of one that is not refused, the final code, and as many bytes as fit.
 -- Assumes nothing.
 use borrow.Author.Tests.{eqb-true, eqb-false, ltb-false, not-true, not-false}
-use mathlib.Core.Path.{_≡_, refl, sym, ap, subst, _∙_}
+use mathlib.Core.Path.{_≡_, sym, ap, subst, _∙_}
 use mathlib.Core.Bool.{Bool, true, false, not, _&&_, _||_, true≢false}
 use mathlib.Core.List.{List, [], _∷_}
 use Prim.Native.Nat.{ℕ, _+_, _-_, _≤_, min}
@@ -9,7 +9,7 @@ use native.Mathlib.Omega.{arith}
 use lib.Dec.{eqb}
 use lib.ListN.{length, take, length-take}
 use Rattle.common.proofs.Parts.{part-least}
-use Rattle.common.proofs.PickLaws.{by-test, both-hold, pick-yes, pick-no, pick-by, not-refused, passed}
+use Rattle.common.proofs.PickLaws.{by-test, by-either, both-hold, pick-yes, pick-no, pick-by, not-refused, passed}
 use Rattle.marks.specs.Marks.{mostMarks}
 use Rattle.marks.specs.declared.Findings.{Findings}
 use Rattle.marks.specs.Scan.{isFound}
@@ -102,11 +102,6 @@ supplied-fits image marks count code =
     let l = empty-none image marks e in
     record { long = λ some. absurd (some (l .0)); few = λ within. omega (arith, l .1); none = λ zero. l .0 })
 
--- of two, the first where the second does not hold
-left-holds : (a b : Bool) → (a || b) ≡ true → b ≡ false → a ≡ true
-left-holds true b either not = refl
-left-holds false b either not = absurd (true≢false (sym either ∙ not))
-
 module _ (drive : Drive) (r : Result) (operation : Operation) (store : Store) where
   abbrev Passes : Type 0
   Passes = imageRefusal (r .image) (r .marks) (expectedOf operation store (drive .density) (r .code) (r .mark)) ≡ 0
@@ -180,7 +175,7 @@ module _ (drive : Drive) (r : Result) (operation : Operation) (store : Store) wh
       by-test (suppliesCount operation)
       (λ supplies. omega (arith, record-fits e supplies .long (used-some used), image-holds (heldCount store) gcr, used-supplied supplies used))
       (λ own.
-      let plain : sameOperation operation Read ≡ true = left-holds (sameOperation operation Read) (suppliesCount operation) reads own in
+      let plain : sameOperation operation Read ≡ true = by-either (sameOperation operation Read) (suppliesCount operation) (λ plain. plain) (λ supplies. absurd (true≢false (sym supplies ∙ own))) reads in
       let long = record-long e (ap (λ (b : Bool). b || sameOperation operation SkipForward) plain) (used-some used) in
       omega (arith, long, image-holds (countOf (r .image)) (drive .density), used-own own used))
 

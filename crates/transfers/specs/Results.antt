@@ -1,4 +1,4 @@
--- The result (document 01, Records; document 02, Wish 1), as far as it concerns one drive: its refusals, the verdict on it, and what is told by that: the bytes
+-- The result (document 01, Records; document 02, Wishes 1 and 2), as far as it concerns one drive: its refusals, the verdict on it, and what is told by that: the bytes
 -- that are delivered, the check store, the status words and the gap.
 -- Assumes nothing.
 use Prim.Native.Nat.{ℕ, _*_, _/_, _%_, min}
@@ -12,7 +12,7 @@ use Rattle.common.specs.Refusals.{checkStoreLength, codeNotListed, flagsAgainst
 use Rattle.blockettes.specs.Blockettes.{blocketteLength}
 use Rattle.marks.specs.declared.Findings.{Findings}
 use Rattle.marks.specs.Marks.{tornMarks}
-use Rattle.marks.specs.Scan.{isFound, findingsOf}
+use Rattle.marks.specs.Scan.{isFound, findingsOf, checksAlone}
 use Rattle.records.specs.Count.{countOf}
 use Rattle.records.specs.Image.{blocketteCount}
 use Rattle.status.specs.declared.drives.Drive.{Drive}
@@ -24,7 +24,7 @@ use Rattle.operations.specs.declared.operation.Operation.{Operation}
 use Rattle.operations.specs.declared.operation.Operation.the-variants.{CheckBytes, Write}
 use Rattle.operations.specs.declared.store.Store.{Store}
 use Rattle.operations.specs.Operation.{sameOperation, moveOf}
-use Rattle.operations.specs.Answers.{answerOf}
+use Rattle.operations.specs.Answers.{neverReported, answerOf}
 use Rattle.operations.specs.After.{motionOf, gapAfter, retryOf}
 use Rattle.operations.specs.Store.{heldCount, suppliedCount}
 use Rattle.transfers.specs.declared.verdict.Ending.{Ending}
@@ -33,7 +33,7 @@ use Rattle.transfers.specs.declared.after.Words.{Words}
 use Rattle.transfers.specs.declared.after.After.{After}
 use Rattle.operations.specs.Codes.{offline, blocketteNumberWrong, recoverable, unrecoverable}
 use Rattle.status.specs.Drives.{isGcr}
-use Rattle.operations.specs.Operation.{suppliesCount, isRead, bringsRecord, isSearch, takesMark, movesTape}
+use Rattle.operations.specs.Operation.{suppliesCount, isRead, bringsRecord, isSkip, isSearch, takesMark, movesTape}
 use Rattle.transfers.specs.Data.{checkStore, checkBytes}
 use Rattle.transfers.specs.Expected.{expectedOf, imageRefusal}
 
@@ -64,7 +64,7 @@ markAgainst operation code mark =
 unfoldable pub resultRefusal : Drive → Operation → Store → Result → ℕ → ℕ
 resultRefusal drive operation store r check =
     pick (not (eqb check checkStore)) checkStoreLength
-    (pick (eqb (answerOf operation (r .code)) 0) codeNotListed
+    (pick (eqb (answerOf operation (r .code)) neverReported) codeNotListed
     (pick (markAgainst operation (r .code) (r .mark) || leb 4 (r .late)) flagsAgainstRule
     (imageRefusal (r .image) (r .marks) (expectedOf operation store (drive .density) (r .code) (r .mark)))))
 
@@ -198,11 +198,12 @@ resultBits verdict outcome operation mark late bytes space =
       counted = outcome .counted || (verdict .supplied || (verdict .used || wroteWell operation (verdict .code)));
     }
 
--- "Bit 2 (retry): code not 0, or any of bits 16-20."
-unfoldable pub withRetry : Outcome → Outcome
-withRetry outcome =
+-- "Bit 2 (retry)": by the final code and what the scan found, or any of bits 16-20; "Bit 19, the late flag 1, leaves it clear in both skips.
+-- Another bit among 16-20 still sets it." (document 02, Wish 2)
+unfoldable pub withRetry : Outcome → Operation → Findings → Outcome
+withRetry outcome operation found =
     record {
-      retry = retryOf (outcome .code) (anyBit outcome);
+      retry = retryOf operation (outcome .code) (checksAlone found) (anyBit outcome (not (isSkip operation)));
       mark = outcome .mark;
       motion = outcome .motion;
       code = outcome .code;
@@ -219,7 +220,7 @@ withRetry outcome =
 unfoldable pub resultWords : Words → Verdict → Operation → Store → Bool → ℕ → ℕ → ℕ → Words
 resultWords words verdict operation store mark late bytes space =
     record {
-      outcome = withRetry (resultBits verdict (words .outcome) operation mark late bytes space);
+      outcome = withRetry (resultBits verdict (words .outcome) operation mark late bytes space) operation (verdict .found);
       secondary = resultSecondary verdict operation store (words .secondary);
       tertiary = resultTertiary verdict (words .tertiary);
       quintary = resultQuintary verdict (words .quintary);

@@ -6,6 +6,7 @@ use crate::verdict::Ending;
 use common::refusals::CHECK_STORE_LENGTH;
 use common::refusals::CODE_NOT_LISTED;
 use common::refusals::FLAGS_AGAINST_RULE;
+use operations::answers::NEVER_REPORTED;
 use operations::answers::answer_of;
 use operations::operation::Operation;
 use operations::operation::is_search;
@@ -42,7 +43,7 @@ pub fn result_refusal(
     if check != CHECK_STORE {
         return CHECK_STORE_LENGTH;
     }
-    if answer_of(operation, ending.code) == 0 {
+    if answer_of(operation, ending.code) == NEVER_REPORTED {
         return CODE_NOT_LISTED;
     }
     if mark_against(operation, ending) | (4 <= ending.late) {

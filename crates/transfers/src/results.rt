@@ -2,10 +2,13 @@
 use crate::after::Words;
 use crate::verdict::Ending;
 use crate::verdict::Verdict;
+use marks::Findings;
+use marks::checks_alone;
 use operations::after::gap_after;
 use operations::after::motion_of;
 use operations::after::retry_of;
 use operations::operation::Operation;
+use operations::operation::is_skip;
 use operations::operation::move_of;
 use operations::operation::same_operation;
 use operations::store::Store;
@@ -96,11 +99,12 @@ fn result_bits(
     outcome
 }
 
-// An outcome with bit 2, which the code and bits 16-20 decide.
-fn with_retry(mut outcome: Outcome) -> Outcome
-    ensures { λ r. ⌜ r ≡ withRetry outcome ⌝ }
+// An outcome with bit 2, which the code and bits 16-20 decide; bit 19 does not count in a skip.
+fn with_retry(mut outcome: Outcome, operation: Operation, found: Findings) -> Outcome
+    ensures { λ r. ⌜ r ≡ withRetry outcome operation found ⌝ }
 {
-    let again = retry_of(outcome.code, any_bit(outcome));
+    let bits = any_bit(outcome, !is_skip(operation));
+    let again = retry_of(operation, outcome.code, checks_alone(found), bits);
     outcome.retry = again;
     outcome
 }
@@ -119,7 +123,7 @@ pub fn result_words(
     ensures { λ r. ⌜ r ≡ resultWords words verdict operation store (ending .mark) (ending .late) bytes space ⌝ }
 {
     let bits = result_bits(verdict, words.outcome, operation, ending, bytes, space);
-    let outcome = with_retry(bits);
+    let outcome = with_retry(bits, operation, verdict.found);
     let secondary = result_secondary(verdict, operation, store, words.secondary);
     let tertiary = result_tertiary(verdict, words.tertiary);
     let quintary = result_quintary(verdict, words.quintary);

@@ -1,7 +1,7 @@
 //! Random sessions that go deep: the generator runs the machine, so it knows what is awaited.
 
 use crate::lines::{write_hex, Session, HOST_LIMIT};
-use crate::machine::{code, link, report, Job, Operation, Phase, OPERATIONS};
+use crate::machine::{code, link, report, Entry, Job, Operation, Phase, OPERATIONS};
 use crate::records::{
     self, Density, BLOCKETTE, GOOD, IMAGE_LIMIT, MARKS_LIMIT, RECORD_LIMIT, TORN,
 };
@@ -90,6 +90,8 @@ pub struct Generator {
     planned: VecDeque<Vec<u8>>,
     /// Loads still to be made after a result, to see what it left.
     looks: usize,
+    /// Whether the next of them is primary, which alone has the retry bit.
+    look_at_primary: bool,
     /// A report to be taken back after so many lines, so that a review between shows.
     take_back: Option<(usize, Vec<u8>)>,
     answer: Vec<u8>,
@@ -103,6 +105,7 @@ impl Generator {
             supplied,
             planned: VecDeque::new(),
             looks: 0,
+            look_at_primary: false,
             take_back: None,
             answer: Vec::new(),
         };
@@ -146,6 +149,11 @@ impl Generator {
             } else if moved && (job.operation.offers_eor() || job.operation.is_skip()) {
                 self.looks = self.random.pick(&[0, 0, 1, 1, 2]);
             }
+            // An interrupt shows primary anyway.
+            if moved && !job.interrupt && self.random.chance(60) {
+                self.looks = self.looks.max(1);
+                self.look_at_primary = true;
+            }
         }
         line
     }
@@ -186,14 +194,14 @@ impl Generator {
             },
             Phase::ResultAwaited(job) => match self.random.below(40) {
                 0 => self.stray(),
-                1 | 2 if job.operation.moves_tape() => self.tape_gone(),
-                9..=11 if job.supplied().is_some() => self.tape_gone(),
-                3..=8 if job.supplied().is_some() && self.random.chance(60) => {
+                1..=3 if job.operation.moves_tape() => self.tape_gone(),
+                10 | 11 if job.supplied().is_some() || job.operation.is_skip() => self.tape_gone(),
+                4..=9 if job.supplied().is_some() && self.random.chance(60) => {
                     let mut line = self.result_for(job);
                     self.spoil_supplied(job.count(), &mut line);
                     line.print()
                 }
-                3..=8 => {
+                4..=9 => {
                     let mut line = self.result_for(job);
                     self.spoil(&mut line);
                     line.print()
@@ -246,7 +254,10 @@ impl Generator {
     /// Something that shows what the last result left: a status word or the check bytes.
     fn plan_look(&mut self) {
         let drive = self.random.below(8) as u8;
-        if self.random.chance(15) {
+        if self.look_at_primary {
+            self.look_at_primary = false;
+            self.plan_string(vec![link::LOAD, 0x10 | drive, 0]);
+        } else if self.random.chance(15) {
             self.plan_string(vec![link::STORE, 0x40 | drive, 0x40, 0, 0, 0, 0]);
         } else {
             let operation: u8 = self.random.pick(&[1, 1, 2, 3, 5]);
@@ -422,13 +433,14 @@ impl Generator {
             19 if random.chance(30) => 0,
             other => {
                 let operation = match other {
-                    20..=40 => Operation::Read,
-                    41..=51 => Operation::Write,
-                    52..=60 => Operation::SkipForward,
-                    61..=64 => Operation::SkipReverse,
-                    65 => Operation::CheckBytes,
-                    66..=73 => Operation::SearchForward,
-                    74..=77 => Operation::WriteMark,
+                    20..=38 => Operation::Read,
+                    39..=48 => Operation::Write,
+                    49..=61 => Operation::SkipForward,
+                    62..=66 => Operation::SkipReverse,
+                    67 => Operation::CheckBytes,
+                    68..=74 => Operation::SearchForward,
+                    75 | 76 => Operation::SearchReverse,
+                    77..=79 => Operation::WriteMark,
                     _ => random.pick(operations),
                 };
                 started = Some(operation);
@@ -650,19 +662,23 @@ impl Generator {
         let density = machine.drives[machine.selected].density;
         let random = &mut self.random;
         let operation = job.operation;
-        let listed = operation.listed();
+        let mut codes = operation.listed().to_vec();
+        // Those that ask no retry are few among the others.
+        let excused = |code: &u8| operation.entry(*code) == Entry::NoRetry;
+        if random.chance(35) && codes[1..].iter().any(excused) {
+            codes = codes[1..].iter().copied().filter(excused).collect();
+        }
         let code = match random.below(10) {
             0..=2 => 0,
             3 if !operation.is_search() => 0,
-            4 if listed.contains(&0x10) => random.pick(&[0x10, 0x11, 0x12]),
-            _ => random.pick(listed),
+            _ => random.pick(&codes),
         };
         let seeks = operation == Operation::Read || operation.is_skip();
         let mark = code == 0 && (operation.is_search() || seeks && random.chance(15));
         let mut line = ResultLine {
             code,
             mark,
-            late: late(random),
+            late: late(random, operation),
             image: Vec::new(),
             marks: Vec::new(),
             space: 0,
@@ -703,7 +719,7 @@ impl Generator {
                 random.pick(Operation::SuppliedCount.listed())
             },
             mark: false,
-            late: late(random),
+            late: late(random, Operation::SuppliedCount),
             image: Vec::new(),
             marks: Vec::new(),
             space: 0,
@@ -740,7 +756,8 @@ impl Generator {
         image
     }
 
-    /// Legal marks: none bad, one, one of each parity, two of one, check blockettes, many.
+    /// Legal marks: none bad, one, one of each parity, two of one, check blockettes beside data or
+    /// alone, many.
     fn marks(&mut self, length: usize) -> Vec<u8> {
         let mut marks = vec![GOOD; length];
         if length == 0 {
@@ -749,15 +766,15 @@ impl Generator {
         let random = &mut self.random;
         let first = random.below(length);
         let error = |random: &mut Random| 1 + random.below(9) as u8;
-        match random.below(9) {
-            0 => {}
-            1 | 2 => marks[first] = error(random),
-            3 => {
+        match random.below(12) {
+            0 | 1 => {}
+            2 | 3 => marks[first] = error(random),
+            4 => {
                 marks[first] = error(random);
                 let other = (first + 1) % length;
                 marks[other] = error(random);
             }
-            4 => {
+            5 => {
                 marks[first] = error(random);
                 let other = if first + 2 < length {
                     first + 2
@@ -766,12 +783,18 @@ impl Generator {
                 };
                 marks[other] = error(random);
             }
-            5 => {
+            6 => {
                 marks[first] = error(random);
                 let check = length - 1 - random.below(2);
                 marks[check] = error(random);
             }
-            6 | 7 => {
+            7 | 8 => {
+                let (from, to) = random.pick(&[(2, 1), (2, 0), (1, 0)]);
+                for mark in &mut marks[length - from..length - to] {
+                    *mark = error(random);
+                }
+            }
+            9 | 10 => {
                 let bad = 1 + random.below(5);
                 for _ in 0..bad {
                     let place = random.below(length);
@@ -952,8 +975,11 @@ fn report_line(drive: usize, report: u8) -> Vec<u8> {
     format!("S,{drive},{report:02X}").into_bytes()
 }
 
-fn late(random: &mut Random) -> usize {
-    if random.chance(80) {
+/// Late flags, more of them in a skip, where 1 asks no retry.
+fn late(random: &mut Random, operation: Operation) -> usize {
+    if operation.is_skip() {
+        random.pick(&[0, 0, 1, 1, 2, 2, 3])
+    } else if random.chance(75) {
         0
     } else {
         1 + random.below(3)

@@ -1,5 +1,5 @@
-//! The controller: its state and the eight calls, as document 01 has them, with the read of
-//! document 02's first wish, whose count the host supplies.
+//! The controller: its state and the eight calls, as document 01 has them, with document 02's first
+//! two wishes: the read whose count the host supplies, and the retry bit that hosts can trust.
 //!
 //! Refusal 1, a damaged state, is not here: the state's types and the calls keep it whole.
 
@@ -55,7 +55,7 @@ pub mod report {
 
 /// Bits of the primary status word, 0 the most significant, and its fields by their last bit.
 pub mod primary {
-    const fn bit(number: u32) -> u32 {
+    pub const fn bit(number: u32) -> u32 {
         1 << (31 - number)
     }
     pub const CHANGED: u32 = bit(0);
@@ -73,7 +73,7 @@ pub mod primary {
     pub const COUNT_SUPPLIED: u32 = bit(21);
     pub const COUNT_VALID: u32 = bit(22);
     pub const DENSITY: u32 = bit(23);
-    /// Bits 16-20: each of them asks a retry.
+    /// Bits 16-20: each of them asks a retry, but for late flag 1 in a skip.
     pub const TROUBLE: u32 = 0x0000_F800;
 }
 
@@ -113,6 +113,14 @@ pub enum Gap {
     Improper = 1,
     UnfinishedWrite = 2,
     Lost = 3,
+}
+
+/// What the table of answers says of a code that an operation's result reports.
+#[derive(Clone, Copy, Debug, PartialEq, Eq)]
+pub enum Entry {
+    Never = 0,
+    NoRetry = 1,
+    Retry = 2,
 }
 
 /// The twelve operations that await a result.
@@ -185,6 +193,21 @@ impl Operation {
             Operation::Rewind | Operation::FastForward => &[0x00, 0x06, 0x07],
             Operation::CheckBytes => &[0x00],
             Operation::SuppliedCount => &[0x00, 0x07, 0x08, 0x09, 0x0A, 0x13, 0x14, 0x17],
+        }
+    }
+
+    /// The entry of a code, listed or not. 15 and 16 have none, since no result reports them.
+    pub fn entry(self, code: u8) -> Entry {
+        match (self, code) {
+            _ if !self.listed().contains(&code) => Entry::Never,
+            (_, code::GOOD) => Entry::NoRetry,
+            // What is bad stands behind the record.
+            (Operation::Read | Operation::SkipForward | Operation::SearchForward, 0x10..=0x12) => {
+                Entry::NoRetry
+            }
+            // A record that is skipped need not be readable.
+            (Operation::SkipForward, 0x0C | 0x0D | 0x0F) => Entry::NoRetry,
+            _ => Entry::Retry,
         }
     }
 
@@ -501,12 +524,12 @@ fn check_reported(
         image,
         marks,
     } = *reported;
-    let listed = if wrong(Mutant::SuppliedCodesOfRead) {
-        Operation::Read.listed()
+    let row = if wrong(Mutant::SuppliedCodesOfRead) {
+        Operation::Read
     } else {
-        operation.listed()
+        operation
     };
-    if !listed.contains(&code) {
+    if row.entry(code) == Entry::Never {
         return Err(Refusal::CodeNotListed);
     }
     let good = code == code::GOOD;
@@ -745,6 +768,7 @@ impl Machine {
 
         // Errors of a GCR record replace the code.
         let mut verdict = Verdict::Clean;
+        let mut data_bad = false;
         let reads_record = job.operation.reads_record() || supplied.is_some();
         if reads_record && density == Density::Gcr {
             let keep = self.wrong(Mutant::CheckStoreKeptByMark) && mark
@@ -766,6 +790,7 @@ impl Machine {
                 self.tertiary = scan.tertiary;
                 self.quintary = scan.quintary;
                 verdict = scan.verdict;
+                data_bad = scan.data_bad;
             }
         }
         match verdict {
@@ -807,7 +832,8 @@ impl Machine {
         };
 
         // The rest of the outcome, and the gap.
-        if reported.late & 1 != 0 {
+        let untold = job.operation.is_skip() && self.wrong(Mutant::RetryLateOneUntold);
+        if reported.late & 1 != 0 && !untold {
             flags |= primary::LATE_1;
         }
         if reported.late & 2 != 0 {
@@ -832,7 +858,8 @@ impl Machine {
             flags |= primary::MARK;
         }
         self.outcome |= flags;
-        self.settle(code, job.operation.motion(code));
+        let retry = self.asks_retry(job.operation, reported.code, code, data_bad);
+        self.settle(code, job.operation.motion(code), retry);
         if let Some(gap) = job.operation.gap(code) {
             self.drive_mut().gap = gap;
         }
@@ -1072,15 +1099,40 @@ impl Machine {
     }
 
     fn no_go(&mut self, job: Job) -> Action {
-        self.settle(code::NO_GO, motion::NONE);
+        let retry = !self.wrong(Mutant::RetryNotByNoGo);
+        self.settle(code::NO_GO, motion::NONE, retry);
         self.end(job)
     }
 
-    /// Puts code and motion in the outcome, and the retry bit that follows from it.
-    fn settle(&mut self, code: u8, motion: u8) {
+    /// Whether a result asks a retry: by its final code, or by a bit of 16-20 that counts.
+    fn asks_retry(&self, operation: Operation, reported: u8, code: u8, data_bad: bool) -> bool {
+        let decides = match self.mutant {
+            Some(mutant) => mutant.deciding(reported, code),
+            None => code,
+        };
+        let mut by_code = match decides {
+            // Where check blockettes alone are bad, the record's own bytes are whole.
+            code::RECOVERABLE => data_bad,
+            code::UNRECOVERABLE => true,
+            _ => operation.entry(decides) == Entry::Retry,
+        };
+        let mut counted = primary::TROUBLE;
+        if operation.is_skip() {
+            counted &= !primary::LATE_1;
+        }
+        if let Some(mutant) = self.mutant {
+            by_code ^= mutant.turns_code(operation, code, data_bad);
+            by_code &= !mutant.excuses(operation, self.outcome);
+            counted = mutant.counted(operation, code, counted);
+        }
+        by_code || self.outcome & counted != 0
+    }
+
+    /// Puts code and motion in the outcome, and the retry bit.
+    fn settle(&mut self, code: u8, motion: u8, retry: bool) {
         self.outcome |= code as u32 * primary::CODE;
         self.outcome |= motion as u32 * primary::MOTION;
-        if code != code::GOOD || self.outcome & primary::TROUBLE != 0 {
+        if retry {
             self.outcome |= primary::RETRY;
         }
     }
@@ -1091,7 +1143,8 @@ impl Machine {
 
     /// A code found before anything started ends the store, without EOR.
     fn end_with(&mut self, code: u8, interrupt: bool) -> Action {
-        self.settle(code, motion::NONE);
+        let retry = !self.wrong(Mutant::RetryNotByStore);
+        self.settle(code, motion::NONE, retry);
         self.complete(interrupt)
     }
 

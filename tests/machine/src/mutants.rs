@@ -1,5 +1,7 @@
 //! Rules made wrong on purpose, one at a time, to show that the comparison notices each.
 
+use crate::machine::{code, primary, Entry, Operation, OPERATIONS};
+
 #[derive(Clone, Copy, Debug, PartialEq, Eq)]
 pub enum Mutant {
     FourthNoGivesUp,
@@ -73,10 +75,127 @@ pub enum Mutant {
     SuppliedChecksUnread,
     /// No EOR.
     SuppliedNoEor,
+    // The retry bit.
+    /// This entry of the table has its retry the other way round.
+    RetryEntry(Operation, u8),
+    /// This bit of primary counts where it must not, or does not count where it must.
+    RetryBit(Operation, u8),
+    /// 15 with check blockettes alone sets it.
+    RetryChecksAlone(Operation),
+    /// 15 with a data blockette leaves it clear.
+    RetryDataBad(Operation),
+    /// 16 leaves it clear.
+    RetryStopped(Operation),
+    /// An odd data blockette is taken for a check blockette.
+    RetryOddUnread,
+    /// An even one is.
+    RetryEvenUnread,
+    /// The first blockette of a record whose count is supplied is not data.
+    RetryTornUnread,
+    /// A bad check blockette beside a bad data blockette leaves it clear.
+    RetryCheckExcuses,
+    /// 7 in place of another code goes by the code that was reported.
+    RetryBeforeTapeGone,
+    /// 13 of a supplied 0 goes by the 0 that was reported.
+    RetryBeforeNoneFound,
+    /// A 10, 11 or 12 that the scan makes 15 goes by its own entry.
+    RetryBeforeRecoverable,
+    /// A 10, 11 or 12 that the scan makes 16 goes by its own entry.
+    RetryBeforeUnrecoverable,
+    /// Bits 16-20 count with code 0 only.
+    RetryBitsWithGood,
+    /// Late flag 1 of a skip leaves it clear whatever the code.
+    RetryLateOneExcuses,
+    /// Late flag 1 of a skip does not even set bit 19.
+    RetryLateOneUntold,
+    /// 01-04 have no entry, and leave it clear.
+    RetryNotByStore,
+    /// 05 has no entry, and leaves it clear.
+    RetryNotByNoGo,
+}
+
+impl Mutant {
+    /// The code by which a retry is judged.
+    pub fn deciding(self, reported: u8, code: u8) -> u8 {
+        match (self, code) {
+            (Mutant::RetryBeforeTapeGone, code::TAPE_GONE)
+            | (Mutant::RetryBeforeNoneFound, code::BLOCKETTE_NUMBER) => reported,
+            (Mutant::RetryBeforeRecoverable, code::RECOVERABLE)
+            | (Mutant::RetryBeforeUnrecoverable, code::UNRECOVERABLE)
+                if reported != code::GOOD =>
+            {
+                reported
+            }
+            _ => code,
+        }
+    }
+
+    /// Whether it turns round what the final code says of a retry.
+    pub fn turns_code(self, operation: Operation, code: u8, data_bad: bool) -> bool {
+        match self {
+            Mutant::RetryEntry(row, listed) => (row, listed) == (operation, code),
+            Mutant::RetryChecksAlone(row) => {
+                row == operation && code == code::RECOVERABLE && !data_bad
+            }
+            Mutant::RetryDataBad(row) => row == operation && code == code::RECOVERABLE && data_bad,
+            Mutant::RetryStopped(row) => row == operation && code == code::UNRECOVERABLE,
+            _ => false,
+        }
+    }
+
+    /// The bits of primary that count, where these are the right ones.
+    pub fn counted(self, operation: Operation, code: u8, right: u32) -> u32 {
+        match self {
+            Mutant::RetryBit(row, number) if row == operation => {
+                right ^ primary::bit(number as u32)
+            }
+            Mutant::RetryBitsWithGood if code != code::GOOD => 0,
+            _ => right,
+        }
+    }
+
+    /// Whether a bit of the outcome keeps the final code from asking a retry.
+    pub fn excuses(self, operation: Operation, outcome: u32) -> bool {
+        let late = outcome & primary::LATE_1 != 0;
+        self == Mutant::RetryLateOneExcuses && operation.is_skip() && late
+    }
+}
+
+/// All that decides about a retry, turned round one by one: each entry, what the scan's codes say,
+/// and each bit that a session can set.
+pub fn retry_turned_round() -> Vec<Mutant> {
+    let mut mutants = Vec::new();
+    for operation in OPERATIONS {
+        // With a supplied count every final code asks a retry, so that nothing else shows.
+        let supplied = operation == Operation::SuppliedCount;
+        for code in 0..32 {
+            let last = code != code::GOOD || !supplied;
+            if operation.entry(code) != Entry::Never && last {
+                mutants.push(Mutant::RetryEntry(operation, code));
+            }
+        }
+        if !supplied {
+            mutants.extend([19, 20].map(|bit| Mutant::RetryBit(operation, bit)));
+        }
+        if matches!(operation, Operation::Read | Operation::CheckBytes) {
+            mutants.push(Mutant::RetryBit(operation, 17));
+        }
+        if operation == Operation::Write {
+            mutants.push(Mutant::RetryBit(operation, 18));
+        }
+        if operation.reads_record() {
+            mutants.push(Mutant::RetryChecksAlone(operation));
+        }
+        if operation.reads_record() || supplied {
+            mutants.push(Mutant::RetryDataBad(operation));
+            mutants.push(Mutant::RetryStopped(operation));
+        }
+    }
+    mutants
 }
 
 /// `--mutant N` counts from 1 in this order.
-pub const MUTANTS: [Mutant; 44] = [
+pub const MUTANTS: [Mutant; 72] = [
     Mutant::FourthNoGivesUp,
     Mutant::ChangedClearedUnaccepted,
     Mutant::CountValidLeft,
@@ -121,4 +240,33 @@ pub const MUTANTS: [Mutant; 44] = [
     Mutant::SuppliedCorrectionKept,
     Mutant::SuppliedChecksUnread,
     Mutant::SuppliedNoEor,
+    Mutant::RetryEntry(Operation::SkipForward, 0x0C),
+    Mutant::RetryEntry(Operation::SkipForward, 0x0F),
+    Mutant::RetryEntry(Operation::SkipForward, 0x12),
+    Mutant::RetryEntry(Operation::Read, 0x10),
+    Mutant::RetryEntry(Operation::SearchForward, 0x11),
+    // The skip's row, or 001's rules, in place of its own.
+    Mutant::RetryEntry(Operation::Read, 0x0C),
+    Mutant::RetryEntry(Operation::SkipReverse, 0x0D),
+    Mutant::RetryEntry(Operation::SkipForward, 0x0A),
+    Mutant::RetryBit(Operation::SkipForward, 19),
+    Mutant::RetryBit(Operation::SkipReverse, 19),
+    Mutant::RetryBit(Operation::SkipForward, 20),
+    Mutant::RetryBit(Operation::SkipReverse, 20),
+    Mutant::RetryBit(Operation::SearchReverse, 19),
+    Mutant::RetryChecksAlone(Operation::SkipForward),
+    Mutant::RetryDataBad(Operation::SkipForward),
+    Mutant::RetryOddUnread,
+    Mutant::RetryEvenUnread,
+    Mutant::RetryTornUnread,
+    Mutant::RetryCheckExcuses,
+    Mutant::RetryBeforeTapeGone,
+    Mutant::RetryBeforeNoneFound,
+    Mutant::RetryBeforeRecoverable,
+    Mutant::RetryBeforeUnrecoverable,
+    Mutant::RetryBitsWithGood,
+    Mutant::RetryLateOneExcuses,
+    Mutant::RetryLateOneUntold,
+    Mutant::RetryNotByStore,
+    Mutant::RetryNotByNoGo,
 ];

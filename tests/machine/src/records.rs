@@ -119,6 +119,8 @@ pub enum Verdict {
 #[derive(Clone, Copy, Debug, PartialEq, Eq)]
 pub struct Scan {
     pub verdict: Verdict,
+    /// Whether a data blockette is among the bad ones that were found.
+    pub data_bad: bool,
     pub tertiary: u32,
     pub quintary: u32,
 }
@@ -131,6 +133,7 @@ pub fn scan(marks: &[u8], mutant: Option<Mutant>) -> Scan {
     let mut first_even = 0u32;
     let mut quintary = 0;
     let mut stop = None;
+    let mut data_bad = false;
     for (index, &mark) in marks.iter().enumerate() {
         if mark == GOOD {
             continue;
@@ -142,6 +145,14 @@ pub fn scan(marks: &[u8], mutant: Option<Mutant>) -> Scan {
         if mutant == Some(Mutant::CheckBlocketteNotCounted) && kind == Kind::Check {
             continue;
         }
+        data_bad = match (kind, mutant) {
+            (Kind::Data, Some(Mutant::RetryOddUnread)) if number % 2 == 1 => data_bad,
+            (Kind::Data, Some(Mutant::RetryEvenUnread)) if number % 2 == 0 => data_bad,
+            (Kind::Data, Some(Mutant::RetryTornUnread)) if mark == TORN => data_bad,
+            (Kind::Data, _) => true,
+            (Kind::Check, Some(Mutant::RetryCheckExcuses)) => false,
+            (Kind::Check, _) => data_bad,
+        };
         let error = (mark as u32) << 12 | (kind as u32) << 8 | number as u32;
         let first = if number % 2 == 1 {
             &mut first_odd
@@ -166,6 +177,7 @@ pub fn scan(marks: &[u8], mutant: Option<Mutant>) -> Scan {
     };
     Scan {
         verdict,
+        data_bad,
         tertiary,
         quintary,
     }

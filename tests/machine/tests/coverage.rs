@@ -2,11 +2,13 @@
 
 use machine::generator;
 use machine::lines::{self, Line, Session};
-use machine::machine::{link, primary, Action, Machine, Operation, Phase, Send, OPERATIONS};
-use machine::records::{self, Density};
+use machine::machine::{link, primary, Action, Entry, Machine};
+use machine::machine::{Operation, Phase, Send, OPERATIONS};
+use machine::records::{self, Density, GOOD};
 use std::collections::BTreeMap;
 
-const SESSIONS: u64 = 300;
+// As many, and as long, as tests/run compares.
+const SESSIONS: u64 = 400;
 const LINES: usize = 500;
 
 type Counts = BTreeMap<String, usize>;
@@ -101,6 +103,7 @@ fn count_session(seed: u64, counts: &mut Counts) {
                         count(format!("bit {bit} after {operation:?}"));
                     }
                 }
+                count_retry(operation, code, &marks, after, &mut count);
                 if let Some(supplied) = job.supplied() {
                     let blank = if supplied == 0 { "0" } else { "a count" };
                     count(format!("supplied {blank}: {code:02X} ends as {last:02X}"));
@@ -169,6 +172,61 @@ fn count_session(seed: u64, counts: &mut Counts) {
         }
     }
     assert_eq!(number, LINES, "seed {seed}");
+}
+
+/// The retry bit, with what decided about it.
+fn count_retry(
+    operation: Operation,
+    reported: u8,
+    marks: &[u8],
+    after: &Machine,
+    count: &mut impl FnMut(String),
+) {
+    let code = after.code();
+    let retry = retry_is(after.outcome & primary::RETRY != 0);
+    let bits = match after.outcome & primary::TROUBLE {
+        0 => "no bit",
+        primary::OVERFLOW => "bit 17",
+        primary::UNDERFLOW => "bit 18",
+        primary::LATE_1 => "bit 19",
+        primary::LATE_2 => "bit 20",
+        _ => "bits",
+    };
+    count(format!("{operation:?} {code:02X}, {bits}: {retry}"));
+    let by_code = bits == "no bit" || operation.is_skip() && bits == "bit 19";
+    if code != reported && by_code {
+        let was = match reported {
+            0x10..=0x12 => "10-12".to_string(),
+            _ => format!("{reported:02X}"),
+        };
+        count(format!("{operation:?} {was} made {code:02X}: {retry}"));
+    }
+    if code == 0x15 {
+        let (data, checks) = marks.split_at(marks.len() - 2);
+        let data = if data.iter().all(|&mark| mark == GOOD) {
+            "whole data"
+        } else {
+            "bad data"
+        };
+        let checks = match (checks[0] == GOOD, checks[1] == GOOD) {
+            (true, true) => "whole checks",
+            (false, true) => "odd check bad",
+            (true, false) => "even check bad",
+            (false, false) => "both checks bad",
+        };
+        count(format!("{operation:?} 15, {data}, {bits}: {retry}"));
+        if by_code {
+            count(format!("{operation:?} 15, {data}, {checks}: {retry}"));
+        }
+    }
+}
+
+fn retry_is(set: bool) -> &'static str {
+    if set {
+        "retry"
+    } else {
+        "no retry"
+    }
 }
 
 /// What was wrong with the lengths of a result for a supplied count.
@@ -295,6 +353,7 @@ fn sessions_reach_everything() {
         wanted.push(name.to_string());
     }
     wanted.extend(wanted_of_supplied());
+    wanted.extend(wanted_of_retry());
     let missing: Vec<&String> = wanted
         .iter()
         .filter(|name| !counts.contains_key(*name))
@@ -359,6 +418,67 @@ fn wanted_of_supplied() -> Vec<String> {
         wanted.push(format!("supplied {size}: {what}"));
     }
     wanted.extend([17, 19, 20, 21, 22].map(|bit| format!("bit {bit} after SuppliedCount")));
+    wanted
+}
+
+/// The retry bit, rule by rule.
+fn wanted_of_retry() -> Vec<String> {
+    let mut wanted = Vec::new();
+    for operation in OPERATIONS {
+        let supplied = operation == Operation::SuppliedCount;
+        for &code in operation
+            .listed()
+            .iter()
+            .filter(|&&code| !supplied || code != 0)
+        {
+            let asked = operation.entry(code) == Entry::Retry;
+            let skips = operation.is_skip();
+            let alone = retry_is(asked);
+            wanted.push(format!("{operation:?} {code:02X}, no bit: {alone}"));
+            if skips || !asked {
+                let late = retry_is(asked || !skips);
+                wanted.push(format!("{operation:?} {code:02X}, bit 19: {late}"));
+            }
+            if !asked {
+                wanted.push(format!("{operation:?} {code:02X}, bit 20: retry"));
+            }
+        }
+    }
+    for operation in ["Read", "SkipForward"] {
+        for reported in ["00", "10-12"] {
+            for code in ["07", "15", "16"] {
+                wanted.push(format!("{operation} {reported} made {code}: retry"));
+            }
+            wanted.push(format!("{operation} {reported} made 15: no retry"));
+        }
+        for checks in ["odd check bad", "even check bad", "both checks bad"] {
+            wanted.push(format!("{operation} 15, whole data, {checks}: no retry"));
+        }
+        for checks in ["whole checks", "odd check bad", "even check bad"] {
+            wanted.push(format!("{operation} 15, bad data, {checks}: retry"));
+        }
+        wanted.push(format!("{operation} 15, whole data, bit 20: retry"));
+        wanted.push(format!("{operation} 15, bad data, bit 19: retry"));
+    }
+    for reported in ["0C", "0D", "0F"] {
+        wanted.push(format!("SkipForward {reported} made 07: retry"));
+    }
+    for checks in ["whole checks", "odd check bad", "even check bad"] {
+        wanted.push(format!("SuppliedCount 15, whole data, {checks}: retry"));
+    }
+    for code in ["00", "10", "11", "12"] {
+        wanted.push(format!("Read {code}, bit 17: retry"));
+    }
+    for name in [
+        "Read 15, whole data, bit 17: retry",
+        "Read 15, whole data, bit 19: retry",
+        "SkipForward 15, whole data, bit 19: no retry",
+        "SuppliedCount 00 made 13: retry",
+        "CheckBytes 00, bit 17: retry",
+        "Write 00, bit 18: retry",
+    ] {
+        wanted.push(name.to_string());
+    }
     wanted
 }
 

@@ -1,7 +1,7 @@
 //! The comparison finds each wrong rule, a crash and a hang, and nothing where nothing is wrong.
 
-use machine::lines;
-use machine::mutants::MUTANTS;
+use machine::mutants::{retry_turned_round, MUTANTS};
+use machine::{generator, lines};
 use std::process::{Command, Output};
 
 fn compare(program: &str, options: &[&str]) -> (Output, String) {
@@ -45,6 +45,22 @@ fn each_mutant_is_found() {
             last + 1
         );
     }
+}
+
+/// Nothing that decides about a retry could be otherwise without a random session that shows it.
+#[test]
+fn each_retry_turned_round_is_found() {
+    let mut left = retry_turned_round();
+    for seed in 1..=400 {
+        let session = generator::session(seed, 500);
+        let right = lines::run(&session, None);
+        left.retain(|&mutant| lines::run(&session, Some(mutant)) == right);
+        if left.is_empty() {
+            println!("all found by seed {seed}");
+            return;
+        }
+    }
+    panic!("not found: {left:?}");
 }
 
 #[test]

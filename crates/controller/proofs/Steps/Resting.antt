@@ -9,7 +9,7 @@ use Rattle.common.proofs.PickLaws.{pick-by}
 use Rattle.status.specs.declared.drives.Drive.{Drive}
 use Rattle.status.specs.declared.words.Word.{Word}
 use Rattle.status.specs.Drives.{driveOf, copyReport}
-use Rattle.status.specs.Words.{withCode}
+use Rattle.operations.specs.After.{withCode}
 use Rattle.status.proofs.DriveLaws.{reviewed-drive}
 use Rattle.operations.specs.declared.operation.Operation.{Operation}
 use Rattle.operations.specs.Operation.{offersEnd}

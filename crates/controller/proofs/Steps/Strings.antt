@@ -14,7 +14,8 @@ use Rattle.status.specs.declared.drives.Drive.{Drive}
 use Rattle.status.specs.declared.words.Outcome.{Outcome}
 use Rattle.status.specs.declared.words.Word.{Word}
 use Rattle.status.specs.declared.strings.Six.{Six}
-use Rattle.status.specs.Words.{withCode, bitOf, primaryOf, secondaryWord}
+use Rattle.status.specs.Words.{bitOf, primaryOf, secondaryWord}
+use Rattle.operations.specs.After.{withCode}
 use Rattle.status.specs.Strings.{stringOf}
 use Rattle.operations.specs.declared.operation.Operation.{Operation}
 use Rattle.operations.specs.Operation.{offersEnd}

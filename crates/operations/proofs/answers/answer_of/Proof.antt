@@ -14,7 +14,7 @@ use Rattle.common.specs.Pick.{pick}
 use Rattle.operations.specs.declared.operation.Operation.{Operation}
 use Rattle.operations.specs.declared.operation.Operation.the-variants.{Read, CheckBytes, SuppliedCount, Write, Erase, Rewind, FastForward, SkipForward, SkipReverse, SearchForward, SearchReverse, WriteMark}
 use Rattle.operations.specs.Operation.{numberOf}
-use Rattle.operations.specs.Answers.{forwardCodes, reverseCodes, endCodes, suppliedCodes, listedCodes, isIn, answerOf}
+use Rattle.operations.specs.Answers.{forwardCodes, reverseCodes, endCodes, suppliedCodes, listedCodes, trailingCodes, clearCodes, isIn, answerOf}
 use Rattle.operations.proofs.Table.{both, both-left, both-right, every, at}
 use Rattle.operations.proofs.answers.answer_of.Statement.{statement}
 use Rattle.operations.proofs.answers.answer_of.Tie as tie
@@ -31,16 +31,16 @@ row n = digitsOf 32 n []
 
 table : List (List ℕ)
 table =
-    row 0x10000002222022222222000200000000 ∷
+    row 0x10000002222022221112000200000000 ∷
     row 0x10000000000000000000000000000000 ∷
     row 0x10000002222000000002200200000000 ∷
     row 0x10000002220222222222200200000000 ∷
     row 0x10000022200000000000000200000000 ∷
     row 0x10000022000000000000000000000000 ∷
     row 0x10000022000000000000000000000000 ∷
-    row 0x10000002222022222222000200000000 ∷
+    row 0x10000002222011211112000200000000 ∷
     row 0x10000002020022200000000020000000 ∷
-    row 0x10000002222022222222000200000000 ∷
+    row 0x10000002222022221112000200000000 ∷
     row 0x10000002020022200000000020000000 ∷
     row 0x10000002220222000000000200000000 ∷
     []
@@ -62,10 +62,10 @@ digit operation code x = eqb x (48 + answerOf operation code)
 ruled : Operation → Bool
 ruled operation =
     both (leb (numberOf operation) 11)
-    (both (allBelow (listedCodes operation)) (both (eqb (length (rowFor operation)) 32) (every (digit operation) 0 (rowFor operation))))
+    (both (allBelow (listedCodes operation)) (both (allBelow (clearCodes operation)) (both (eqb (length (rowFor operation)) 32) (every (digit operation) 0 (rowFor operation)))))
 
 every-row : (operation : Operation) → T (ruled operation)
-unfolding ruled digit table pick answerOf isIn listedCodes forwardCodes reverseCodes endCodes suppliedCodes
+unfolding ruled digit table pick answerOf isIn listedCodes forwardCodes reverseCodes endCodes suppliedCodes trailingCodes clearCodes
 every-row Read = tt
 every-row CheckBytes = tt
 every-row SuppliedCount = tt
@@ -87,13 +87,23 @@ not-in code (x ∷ rest) below above =
     simp (ne-eqb code x (λ e. omega arith), not-in code rest (both-right (leb x 31) (allBelow rest) below) above)
 
 module _ (operation : Operation) where
+  abbrev below : Bool
+  below = leb (numberOf operation) 11
+
+  abbrev digits : Bool
+  digits = both (eqb (length (rowFor operation)) 32) (every (digit operation) 0 (rowFor operation))
+
   few : numberOf operation ≤ 11
   unfolding ruled
-  few = leb→le (numberOf operation) 11 (both-left (leb (numberOf operation) 11) _ (every-row operation))
+  few = leb→le (numberOf operation) 11 (both-left below _ (every-row operation))
 
   listed-below : T (allBelow (listedCodes operation))
   unfolding ruled
-  listed-below = both-left (allBelow (listedCodes operation)) _ (both-right (leb (numberOf operation) 11) _ (every-row operation))
+  listed-below = both-left (allBelow (listedCodes operation)) _ (both-right below _ (every-row operation))
+
+  clear-below : T (allBelow (clearCodes operation))
+  unfolding ruled
+  clear-below = both-left (allBelow (clearCodes operation)) digits (both-right (allBelow (listedCodes operation)) _ (both-right below _ (every-row operation)))
 
   -- what stands in its row at a code
   module _ (n code : ℕ) (e : n ≡ numberOf operation) (h : code ≤ 31) where
@@ -101,7 +111,7 @@ module _ (operation : Operation) where
     unfolding ruled digit
     entry =
         let this = rowFor operation in
-        let here = both-right (allBelow (listedCodes operation)) _ (both-right (leb (numberOf operation) 11) _ (every-row operation)) in
+        let here = both-right (allBelow (clearCodes operation)) digits (both-right (allBelow (listedCodes operation)) _ (both-right below _ (every-row operation))) in
         let long : length this ≡ 32 = eqb→eq (length this) 32 (both-left (eqb (length this) 32) (every (digit operation) 0 this) here) in
         let there = at (digit operation) 0 this (both-right (eqb (length this) 32) (every (digit operation) 0 this) here) code (omega arith) in
         rw e (eqb→eq (getD this code 0) (48 + answerOf operation code) there)
@@ -117,7 +127,11 @@ unfolding answerOf pick
 returns c =
     let code = c .before .args .code in
     let operation = c .before .args .operation in
-    simp (ne-eqb code 0 (λ e. omega arith), not-in code (listedCodes operation) (listed-below operation) (c .if1 .taken))
+    simp (
+      ne-eqb code 0 (λ e. omega arith),
+      not-in code (clearCodes operation) (clear-below operation) (c .if1 .taken),
+      not-in code (listedCodes operation) (listed-below operation) (c .if1 .taken),
+    )
 
 number-of-requires : tie.Need-number-of-requires
 number-of-requires c κs = search needs
