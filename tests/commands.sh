@@ -393,8 +393,8 @@ cut_by_signal() { # SIGNAL STATUS
     fresh
     rm -f proving inner tmp/*
     touch hangs
-    # a shell's background processes ignore INT
-    env --default-signal=INT PATH="$folder/stand_in:$PATH" TMPDIR="$folder/tmp" bash tree/.ci/run >said 2>errors </dev/null &
+    # a shell's background processes ignore INT, and those of nohup HUP
+    env --default-signal=INT,HUP PATH="$folder/stand_in:$PATH" TMPDIR="$folder/tmp" bash tree/.ci/run >said 2>errors </dev/null &
     proof_begins
     kill -s "$1" $!
     wait $!
