@@ -78,7 +78,7 @@ static const char *refusal_in_words(uint32_t refusal)
 {
     switch (refusal) {
     case CTC_REFUSED_LENGTH:
-        return "wrong length, or a count above the limit";
+        return "wrong length";
     case CTC_REFUSED_MARK:
         return "a mark that is neither 1-9 nor 15";
     case CTC_REFUSED_SPACE:
@@ -298,12 +298,7 @@ static bool lengths_fit(const struct input *image, const struct input *marks, ui
         fprintf(stderr, ": an image has at least 2 bytes\n");
         return false;
     }
-    if (count > CTC_COUNT_LIMIT) {
-        say_refusal(image->path, CTC_REFUSED_LENGTH);
-        fprintf(stderr, ": its count is %zu, the limit %d\n", count, CTC_COUNT_LIMIT);
-        return false;
-    }
-    if (image->length != image_length) {
+    if (image->length != image_length) { /* no image says a count above CTC_COUNT_LIMIT */
         say_refusal(image->path, CTC_REFUSED_LENGTH);
         fprintf(stderr, ": its count %zu asks for an image of %zu bytes in %s, and it has %s%zu\n",
                 count, image_length, density_name(density),

@@ -49,17 +49,17 @@
 /* The version of this header and of the library, as the file VERSION has it. */
 #define CTC_VERSION "1.0.0"
 
-/* The most bytes that a record may have. */
-#define CTC_COUNT_LIMIT 16384
+/* The most bytes that a record may have: all that its 16-bit count can say. */
+#define CTC_COUNT_LIMIT 65535
 
 /* Bytes in a blockette. */
 #define CTC_BLOCKETTE_LENGTH 256
 
-/* The most marks that a record has: 66. */
+/* The most marks that a record has: 258, 256 of them for data blockettes. */
 #define CTC_MARKS_MOST \
     ((CTC_COUNT_LIMIT + CTC_BLOCKETTE_LENGTH - 1) / CTC_BLOCKETTE_LENGTH + 2)
 
-/* The length of the longest image: 16,898 bytes. */
+/* The length of the longest image: 66,050 bytes. */
 #define CTC_IMAGE_MOST (2 + CTC_BLOCKETTE_LENGTH * CTC_MARKS_MOST)
 
 /* What ctc_image_count gives for an image that is too short to have a count. */
@@ -76,7 +76,7 @@
 
 /* What ctc_build, ctc_restore and ctc_scan return. */
 #define CTC_DONE 0u
-#define CTC_REFUSED_LENGTH 9u         /* count above the limit, or a wrong length */
+#define CTC_REFUSED_LENGTH 9u         /* more bytes than the limit, or a wrong length */
 #define CTC_REFUSED_MARK 10u          /* a mark that is neither 1-9 nor 15 */
 #define CTC_REFUSED_SPACE 11u         /* the space to be written is too short */
 #define CTC_REFUSED_UNRESTORABLE 12u  /* two bad blockettes of one parity */
@@ -124,9 +124,9 @@ uint32_t ctc_build(const uint8_t *bytes, size_t bytes_len, uint8_t density,
  * Returns, c being the image's count,
  *   CTC_DONE (0)              the first c bytes of out are the record, the others
  *                             unchanged
- *   CTC_REFUSED_LENGTH (9)    image_len is below 2, or c is above CTC_COUNT_LIMIT,
- *                             or image_len is not ctc_image_length(c, GCR), or
- *                             marks_len is not ctc_mark_count(c, GCR)
+ *   CTC_REFUSED_LENGTH (9)    image_len is below 2, or is not
+ *                             ctc_image_length(c, GCR), or marks_len is not
+ *                             ctc_mark_count(c, GCR)
  *   CTC_REFUSED_MARK (10)     a mark is neither 1-9 nor 15
  *   CTC_REFUSED_SPACE (11)    out_len is less than c
  *   CTC_REFUSED_UNRESTORABLE (12)  two blockettes of one parity are bad
@@ -150,9 +150,9 @@ size_t ctc_image_length(size_t count, uint8_t density);
 size_t ctc_mark_count(size_t count, uint8_t density);
 
 /*
- * The count that the first two bytes of an image say, from 0 to 65,535. It may be
- * above CTC_COUNT_LIMIT, and the length of the image is not held to it.
- * CTC_NO_COUNT (65,536) where image_len is below 2.
+ * The count that the first two bytes of an image say, from 0 to CTC_COUNT_LIMIT.
+ * The length of the image is not held to it. CTC_NO_COUNT (65,536) where image_len
+ * is below 2.
  */
 size_t ctc_image_count(const uint8_t *image, size_t image_len);
 
@@ -170,8 +170,9 @@ size_t ctc_image_count(const uint8_t *image, size_t image_len);
  *
  * The report has three entries, at CTC_REPORT_ODD, CTC_REPORT_EVEN and
  * CTC_REPORT_STOP. Each is three bytes: the mark, the kind (CTC_KIND_DATA or
- * CTC_KIND_CHECK) and the number of the blockette modulo 256, or 0 0 0 where
- * there is none. The kind tells an entry from none, since a mark of 0 is an
+ * CTC_KIND_CHECK) and the number of the blockette, or 0 0 0 where there is none.
+ * Numbers go to 255 in a record; with more than CTC_MARKS_MOST marks they are
+ * taken modulo 256. The kind tells an entry from none, since a mark of 0 is an
  * error here.
  *
  * Returns

@@ -91,8 +91,9 @@ unprivileged=(open_folder/tool)
 
 make_bytes 600 >record
 chmod a+r record
-make_bytes 16384 >limit
-make_bytes 16385 >above
+make_bytes 65535 >limit
+make_bytes 65536 >above
+make_bytes 16385 >long # the first length that needs 65 blockettes
 : >empty
 printf 'old contents' >kept
 
@@ -161,11 +162,22 @@ check "build no bytes in MFM" empty_built mfm
 check "build no bytes in GCR" empty_built gcr
 
 run "$tool" build gcr limit image.limit
-limit_built() { ended 0 && [ "$(wc -c <image.limit)" -eq 16898 ]; }
+limit_built() {
+    ended 0 && [ "$(wc -c <image.limit)" -eq 66050 ] && [ "$(head -c 2 image.limit | od -An -tx1 | tr -d ' ')" = ffff ] &&
+        head -c 65537 image.limit | tail -c +3 | cmp -s - limit
+}
 check "build the longest record" limit_built
+run "$tool" build mfm limit image.limit.mfm
+limit_built_mfm() {
+    ended 0 && [ "$(wc -c <image.limit.mfm)" -eq 65537 ] && tail -c +3 image.limit.mfm | cmp -s - limit
+}
+check "build the longest record in MFM" limit_built_mfm
+run "$tool" build gcr long image.long
+long_built() { ended 0 && [ "$(wc -c <image.long)" -eq 17154 ]; }
+check "build a record of 16,385 bytes" long_built
 
 run "$tool" build gcr above unwanted
-above_refused() { ended 1 'above: refusal 9' 16384 && absent unwanted; }
+above_refused() { ended 1 'above: refusal 9' 'at most 65535 bytes' && absent unwanted; }
 check "build a record above the limit" above_refused
 run "$tool" build mfm /dev/zero unwanted
 endless_refused() { ended 1 '/dev/zero: refusal 9' && absent unwanted; }
@@ -188,6 +200,8 @@ run "$tool" restore image good out
 check "restore with all good" restored record out
 run "$tool" restore image.limit good out.limit
 check "restore the longest record" restored limit out.limit
+run "$tool" restore image.long good out.long
+check "restore a record of 16,385 bytes" restored long out.long
 run "$tool" restore image.empty good out.empty
 check "restore no bytes" restored empty out.empty
 run "$tool" restore image.empty empty out.empty
@@ -225,9 +239,9 @@ check "restore with every odd and every even blockette spoiled" spoiled_round_tr
 spoiled_limit() {
     cp image.limit spoiled
     spoil spoiled 0
-    spoil spoiled 63
-    { printf '\001'; head -c 62 /dev/zero | tr '\0' '\017'; printf '\011\017\017'; } >marks
-    run "$tool" restore spoiled marks out.spoiled
+    spoil spoiled 255
+    { printf '\001'; head -c 254 /dev/zero | tr '\0' '\017'; printf '\011\017\017'; } >marks.limit
+    run "$tool" restore spoiled marks.limit out.spoiled
     restored limit out.spoiled
 }
 check "restore the longest record from a spoiled image" spoiled_limit
@@ -251,7 +265,7 @@ marks_short() {
 }
 check "a mark missing" marks_short
 run "$tool" restore image /dev/zero unwanted
-marks_endless() { ended 1 '/dev/zero: refusal 9' 'more than 66' && absent unwanted; }
+marks_endless() { ended 1 '/dev/zero: refusal 9' 'more than 258' && absent unwanted; }
 check "marks without end" marks_endless
 
 head -c 1281 image >image.short
@@ -262,12 +276,12 @@ run "$tool" restore one good unwanted
 image_without_count() { ended 1 'one: refusal 9' 'at least 2 bytes' && absent unwanted; }
 check "an image of one byte" image_without_count
 run "$tool" restore /dev/zero good unwanted
-image_endless() { ended 1 '/dev/zero: refusal 9' 'more than 16898' && absent unwanted; }
+image_endless() { ended 1 '/dev/zero: refusal 9' 'more than 66050' && absent unwanted; }
 check "an image without end" image_endless
-{ printf '\240\000'; tail -c +3 image.limit; } >image.count # says 16,385
+{ printf '\177\200'; tail -c +3 image.limit; } >image.count # says 65,280: a blockette less
 run "$tool" restore image.count good unwanted
-count_above() { ended 1 'image.count: refusal 9' '16385' && absent unwanted; }
-check "a count above the limit" count_above
+count_wrong() { ended 1 'image.count: refusal 9' 'count 65280 asks for an image of 65794 bytes' 'has 66050' && absent unwanted; }
+check "a count of another image" count_wrong
 run "$tool" restore image.mfm good unwanted
 mfm_refused() { ended 1 'image.mfm: refusal 9' 'is a whole MFM image' 'ctc-record bytes mfm' && absent unwanted; }
 check "an MFM image is told as one" mfm_refused
@@ -283,6 +297,8 @@ run "$tool" bytes mfm image.mfm out.mfm
 check "the bytes of an MFM image" restored record out.mfm
 run "$tool" bytes gcr image out.gcr
 check "the bytes of a GCR image" restored record out.gcr
+run "$tool" bytes mfm image.limit.mfm out.mfm
+check "the bytes of the longest MFM image" restored limit out.mfm
 run "$tool" bytes mfm image.empty out.empty
 check "the bytes of an empty MFM record" restored empty out.empty
 run "$tool" bytes mfm image unwanted
@@ -316,6 +332,13 @@ shown_stop() {
         grep -q 'data blockette 0, mark 4$' said && grep -q '^restorable  *no$' said
 }
 check "show errors that cannot be restored" shown_stop
+run "$tool" show image.limit gcr marks.limit
+shown_limit() {
+    ended 0 && grep -q '^count  *65535$' said && grep -q '^blockettes  *256 data, 2 check$' said &&
+        grep -q '^odd error  *data blockette 255, mark 1$' said &&
+        grep -q '^even error  *data blockette 0, mark 9$' said && grep -q '^restorable  *yes$' said
+}
+check "show the longest record" shown_limit
 run "$tool" show image.mfm mfm
 shown_mfm() { ended 0 && grep -q '^count  *600$' said && grep -q '^blockettes  *none$' said; }
 check "show an MFM image" shown_mfm

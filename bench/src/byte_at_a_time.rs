@@ -6,7 +6,7 @@
 // loops by index are what is to be measured here
 #![allow(clippy::needless_range_loop, clippy::manual_memcpy)]
 
-const LIMIT: usize = 16_384;
+const LIMIT: usize = 65_535;
 
 /// What a builder has to know before it writes: whether there are check blockettes, how many data
 /// blockettes, and the refusal or 0.

@@ -1,13 +1,13 @@
-//! Times the library on records of 16,384 bytes beside two programs that fold one byte at a time.
+//! Times the library on records of 65,535 bytes beside two programs that fold one byte at a time.
 
 use crate::byte_at_a_time::{by_index, by_iterator};
 use crate::library;
 use std::hint::black_box;
 use std::time::Instant;
 
-pub const COUNT: usize = 16_384;
-pub const PLACES: usize = COUNT / 256 + 2;
-pub const IMAGE: usize = 2 + 256 * PLACES;
+const COUNT: usize = 65_535;
+const PLACES: usize = COUNT.div_ceil(256) + 2;
+const IMAGE: usize = 2 + 256 * PLACES;
 const ROUNDS: usize = 3000;
 /// Calls in one timing: long enough for the clock, short enough to fall between two interruptions.
 const CALLS: usize = 20;
@@ -170,7 +170,7 @@ pub fn print_table() {
         }
     }
     println!(
-        "| 16,384-byte records | by index : library | by iterator : library | library, ns \
+        "| 65,535-byte records | by index : library | by iterator : library | library, ns \
          | by index, ns | by iterator, ns |"
     );
     println!("|---|---:|---:|---:|---:|---:|");

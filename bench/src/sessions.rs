@@ -1,8 +1,9 @@
 //! Times the session program beside the independent Rust machine on the same lines.
 
 use crate::library;
-use crate::records::{random_bytes, COUNT, IMAGE, PLACES};
+use crate::records::random_bytes;
 use machine::generator;
+use machine::lines::{HOST_LIMIT, IMAGE_LIMIT, MARKS_LIMIT};
 use std::fs::{self, File};
 use std::io;
 use std::path::Path;
@@ -13,7 +14,7 @@ const RUNS: usize = 20;
 
 /// Drive 0 has a tape, and GCR is chosen.
 const GCR_DRIVE: &str = "S,0,22\nB,64\nB,38\nB,00\nB,00\nB,00\nB,0D\nB,00\nB,51\nT\n";
-/// A store that writes 16,384 bytes, up to its GO.
+/// A store that writes 16,384 bytes, the most that a line has, up to its GO.
 const WRITE: &str = "B,64\nB,58\nB,00\nB,00\nB,40\nB,00\nB,00\nB,7C\nT\nB,06\n";
 /// A store that reads.
 const READ: &str = "B,64\nB,48\nB,00\nB,00\nB,00\nB,00\nB,00\nB,2C\nT\n";
@@ -28,17 +29,17 @@ fn data_line(count: usize) -> String {
 }
 
 fn writes() -> String {
-    let one = format!("{WRITE}{}R,00,0,0,,,0\nB,06\n", data_line(COUNT));
+    let one = format!("{WRITE}{}R,00,0,0,,,0\nB,06\n", data_line(HOST_LIMIT));
     format!("{GCR_DRIVE}{}", one.repeat(1000))
 }
 
 fn reads() -> String {
-    let mut image = vec![0; IMAGE];
-    assert_eq!(library::build(&random_bytes(COUNT), 1, &mut image), 0);
+    let mut image = vec![0; IMAGE_LIMIT];
+    assert_eq!(library::build(&random_bytes(HOST_LIMIT), 1, &mut image), 0);
     let result = format!(
-        "R,00,0,0,{},{},{COUNT}\n",
+        "R,00,0,0,{},{},{HOST_LIMIT}\n",
         hexadecimal(&image),
-        hexadecimal(&[15; PLACES])
+        hexadecimal(&[15; MARKS_LIMIT])
     );
     format!("{GCR_DRIVE}{}", format!("{READ}{result}B,06\n").repeat(800))
 }

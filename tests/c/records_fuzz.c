@@ -1,6 +1,6 @@
 /*
- * The functions of ctc_records.h beside a second implementation of document 01's
- * rules. Calls are made from bytes: those that a coverage-guided fuzzer chooses
+ * The functions of ctc_records.h beside a second implementation of documents 01 and
+ * 02. Calls are made from bytes: those that a coverage-guided fuzzer chooses
  * (tests/fuzz), or, with FIXED_RUN defined, random ones, the same in every run.
  *
  * The archive has no instrumentation, the rules below have: so it is their cases
@@ -8,8 +8,8 @@
  * exact size, where the sanitizer sees what the archive does by memcpy and the
  * like, and directly before and behind a fence, a page that nobody may touch.
  *
- * 21 wrong rules were put in on trial, one at a time: both runs found each, the
- * fuzzer within two seconds.
+ * 49 wrong rules were put in on trial, one at a time, 28 of them about the limit,
+ * long counts and high numbers: both runs found each, the fuzzer within seven seconds.
  */
 #define _DEFAULT_SOURCE /* for MAP_ANONYMOUS */
 
@@ -23,9 +23,11 @@
 #include <sys/mman.h>
 #include <unistd.h>
 
-/* ---- the rules of document 01 ---- */
+/* ---- the rules of documents 01 and 02 ---- */
 
-enum { LIMIT = 16384, BLOCKETTE = 256, GOOD = 15, REPORT = 9, NO_COUNT = 65536 };
+enum { LIMIT = 65535, BLOCKETTE = 256, GOOD = 15, REPORT = 9, NO_COUNT = 65536 };
+/* The longest record has 256 blockettes, the last one short of a byte, and two check blockettes. */
+enum { IMAGE_MOST = 2 + BLOCKETTE * (256 + 2) };
 enum { DONE = 0, WRONG_LENGTH = 9, WRONG_MARK = 10, SHORT_SPACE = 11, UNRESTORABLE = 12 };
 
 static size_t data_blockettes(size_t count)
@@ -189,7 +191,7 @@ static uint32_t rule_restore(const uint8_t *image, size_t length, const uint8_t 
     if (scanned(marks, mark_count, report)) {
         return UNRESTORABLE;
     }
-    static uint8_t mended[2 + LIMIT + 2 * BLOCKETTE];
+    static uint8_t mended[IMAGE_MOST];
     memcpy(mended, image, length);
     mend(mended, marks, data_blockettes(count), 0);
     mend(mended, marks, data_blockettes(count), 1);
@@ -222,7 +224,7 @@ struct call {
 };
 
 /* The contents of the buffers, with some bytes more than the longest that fits. */
-enum { MOST = 2 + LIMIT + 2 * BLOCKETTE + 510 };
+enum { MOST = IMAGE_MOST + 510 };
 static uint8_t contents[ARGUMENTS][MOST];
 
 static size_t ask_library(const struct call *call, const struct buffer *lent)
@@ -396,7 +398,7 @@ static size_t next_count(struct source *source)
         return LIMIT - 1 + number % 4;
     case 2:
     case 3:
-        return BLOCKETTE * (1 + number % (LIMIT / BLOCKETTE)) + kind / 8 % 3 - 1;
+        return BLOCKETTE * (1 + number % 256) + kind / 8 % 3 - 1;
     case 4:
         return number % (LIMIT + 1);
     default:
@@ -434,12 +436,28 @@ static size_t next_length(struct source *source, size_t right)
     return length < MOST ? length : MOST;
 }
 
+/* A place among so many: often the first or one of the last three, which are easily missed else. */
+static size_t next_place(struct source *source, size_t count)
+{
+    size_t number = next_number(source);
+    size_t last = count < 3 ? count : 3;
+    switch (number % 8) {
+    case 0:
+        return 0;
+    case 1:
+    case 2:
+        return count - 1 - number / 8 % last;
+    default:
+        return number / 8 % count;
+    }
+}
+
 /* Good marks, but for three at the most: an error, a value at the edge of those, or any. */
 static void next_marks(struct source *source, uint8_t *marks, size_t count)
 {
     memset(marks, GOOD, count);
     for (uint8_t errors = next_byte(source) % 4; errors > 0 && count > 0; errors--) {
-        size_t place = next_byte(source) % count;
+        size_t place = next_place(source, count);
         uint8_t kind = next_byte(source);
         marks[place] = kind % 8 == 0   ? next_byte(source)
                        : kind % 8 == 1 ? kind / 8 % 18
@@ -469,7 +487,7 @@ static void right_lengths(const struct call *call, size_t *right)
         right[FIRST] = call->count;
         right[SPACE] = rule_image_length(call->count, call->density);
     } else if (call->function == SCAN) {
-        right[FIRST] = call->count % 600;
+        right[FIRST] = call->density == 0 ? call->count % 600 : all_blockettes(call->count);
         right[SPACE] = REPORT;
     } else if (call->function == RESTORE || call->function == IMAGE_COUNT) {
         right[FIRST] = 2 + BLOCKETTE * all_blockettes(call->count);

@@ -83,8 +83,10 @@ static size_t between(size_t low, size_t high)
 
 static void fill_random(uint8_t *bytes, size_t length)
 {
-    for (size_t place = 0; place < length; place++) {
-        bytes[place] = (uint8_t)(random_word() >> 32);
+    for (size_t place = 0, step; place < length; place += step) {
+        uint64_t word = random_word();
+        step = length - place < sizeof word ? length - place : sizeof word;
+        memcpy(bytes + place, &word, step);
     }
 }
 
@@ -122,6 +124,23 @@ static uint8_t guard_byte(size_t place)
     return (uint8_t)(place * 29 + 165);
 }
 
+/* Goes to the next place around a lent space that can be read; SIZE_MAX is before the first. */
+static bool next_guard(const struct lent *lent, size_t *place)
+{
+    size_t from = 0, to = lent->memory_length;
+    size_t start = (size_t)(lent->bytes - lent->memory);
+    if (lent->lay == FENCE_BEFORE) {
+        from = lent->page;
+    } else if (lent->lay == FENCE_BEHIND) {
+        to -= lent->page;
+    }
+    *place = *place == SIZE_MAX ? from : *place + 1;
+    if (*place == start) {
+        *place += lent->length;
+    }
+    return lent->lay != EXACT && *place < to;
+}
+
 static struct lent lend(enum lay lay, const uint8_t *content, size_t length)
 {
     struct lent lent = {.lay = lay, .length = length, .page = (size_t)sysconf(_SC_PAGESIZE)};
@@ -144,10 +163,8 @@ static struct lent lend(enum lay lay, const uint8_t *content, size_t length)
                                          : lent.memory + lent.memory_length - lent.page - length;
         break;
     }
-    if (lay != EXACT) {
-        for (size_t place = 0; place < lent.memory_length; place++) {
-            lent.memory[place] = guard_byte(place);
-        }
+    for (size_t place = SIZE_MAX; next_guard(&lent, &place);) {
+        lent.memory[place] = guard_byte(place);
     }
     if (length > 0) {
         memcpy(lent.bytes, content, length);
@@ -165,20 +182,10 @@ static struct lent lend(enum lay lay, const uint8_t *content, size_t length)
 /* Frees a lent space; nothing around it may have changed. */
 static void take_back(struct lent *lent, const char *name)
 {
-    size_t from = 0, to = lent->memory_length; /* what can be read */
-    if (lent->lay == FENCE_BEFORE) {
-        from = lent->page;
-    } else if (lent->lay == FENCE_BEHIND) {
-        to -= lent->page;
-    }
-    if (lent->lay != EXACT) {
-        for (size_t place = from; place < to; place++) {
-            const uint8_t *byte = lent->memory + place;
-            bool outside = byte < lent->bytes || byte >= lent->bytes + lent->length;
-            expect(!outside || *byte == guard_byte(place),
-                   "%s of %zu bytes: wrote at its place %td", name, lent->length,
-                   byte - lent->bytes);
-        }
+    for (size_t place = SIZE_MAX; next_guard(lent, &place);) {
+        const uint8_t *byte = lent->memory + place;
+        expect(*byte == guard_byte(place), "%s of %zu bytes: wrote at its place %td", name,
+               lent->length, byte - lent->bytes);
     }
     if (lent->lay == EXACT || lent->lay == GUARDED) {
         free(lent->memory);
@@ -334,11 +341,20 @@ static uint8_t expected[CTC_IMAGE_MOST + 1024];
 static uint8_t out[CTC_IMAGE_MOST + 1024];
 static uint8_t marks[1024];
 
-static const size_t edge_counts[] = {0,   1,   2,    3,    5,    254,  255,   256,   257,  511,
-                                     512, 513, 600,  767,  768,  769,  1023,  1024,  1025, 8191,
-                                     8192, 8193, 16127, 16128, 16129, CTC_COUNT_LIMIT - 1,
-                                     CTC_COUNT_LIMIT};
-enum { EDGES = sizeof edge_counts / sizeof edge_counts[0] };
+/* Some counts, then those at the edges of every blockette: 256k - 1, 256k and 256k + 1. */
+enum { FEW = 7, MOST_BLOCKETTES = CTC_MARKS_MOST - 2, EDGES = FEW + 3 * MOST_BLOCKETTES - 2 };
+
+static size_t edge_count(size_t i)
+{
+    static const size_t few[FEW] = {0, 1, 2, 3, 5, 600, CTC_COUNT_LIMIT - 1};
+    return i < FEW ? few[i] : 256 * (1 + (i - FEW) / 3) + (i - FEW) % 3 - 1;
+}
+
+/* The counts for which everything is tried; for those between, what differs from count to count. */
+static bool at_an_end(size_t count)
+{
+    return count < 1030 || count > CTC_COUNT_LIMIT - 256;
+}
 
 /* The space `now` must be `before` with `given_len` bytes of `given` at its start. */
 static bool only_start_written(const uint8_t *now, size_t length, const uint8_t *given,
@@ -350,9 +366,10 @@ static bool only_start_written(const uint8_t *now, size_t length, const uint8_t 
 
 static void constants(void)
 {
-    expect(CTC_COUNT_LIMIT == 16384, "limit");
-    expect(CTC_IMAGE_MOST == 16898, "longest image");
-    expect(CTC_MARKS_MOST == 66, "most marks");
+    expect(CTC_COUNT_LIMIT == 65535, "limit");
+    expect(CTC_IMAGE_MOST == 66050, "longest image");
+    expect(CTC_MARKS_MOST == 258, "most marks");
+    expect(edge_count(EDGES - 1) == CTC_COUNT_LIMIT, "the last edge");
     expect(CTC_NO_COUNT == 65536, "no count");
     expect(CTC_DENSITY_MFM == 0 && CTC_DENSITY_GCR == 1, "densities");
     expect(CTC_MARK_GOOD == 15, "good mark");
@@ -377,7 +394,8 @@ static void lengths(void)
         expect(ctc_mark_count(count, CTC_DENSITY_GCR) == in_marks, "GCR marks of %zu", count);
         expect(ctc_mark_count(count, 2) == in_marks, "GCR marks of %zu", count);
     }
-    const size_t large[] = {65535, 65536, SIZE_MAX / 2, SIZE_MAX - 255, SIZE_MAX - 1, SIZE_MAX};
+    const size_t large[] = {CTC_NO_COUNT, 131071, 131072, SIZE_MAX / 2, SIZE_MAX - 255,
+                            SIZE_MAX - 1, SIZE_MAX};
     for (size_t i = 0; i < sizeof large / sizeof large[0]; i++) {
         for (unsigned density = 0; density < 3; density++) {
             expect(ctc_image_length(large[i], (uint8_t)density) == 0, "length of %zu", large[i]);
@@ -389,7 +407,8 @@ static void lengths(void)
 static void counts_of_images(void)
 {
     uint8_t few[5];
-    for (size_t count = 0; count <= 65535; count += 13) {
+    for (size_t i = 0; i < EDGES + 1000; i++) {
+        size_t count = i < EDGES ? edge_count(i) : 65 * (i - EDGES);
         fill_random(few, sizeof few);
         size_t rotated = count / 2 + count % 2 * 32768;
         few[0] = (uint8_t)(rotated / 256);
@@ -534,11 +553,12 @@ static void worked_one_byte(void)
 static void builds_edges(void)
 {
     for (size_t i = 0; i < EDGES; i++) {
-        size_t count = edge_counts[i];
+        size_t count = edge_count(i);
+        bool all = at_an_end(count);
         fill_random(bytes, count);
-        for (unsigned density = 0; density < 3; density++) {
+        for (unsigned density = 0; density < (all ? 3 : 2); density++) {
             size_t length = expected_image(bytes, count, (uint8_t)density, expected);
-            for (size_t more = 0; more <= 600; more += 300) {
+            for (size_t more = 0; more <= (all ? 600 : 0); more += 300) {
                 fill_random(before, length + more);
                 memcpy(image, before, length + more);
                 expect(build(bytes, count, (uint8_t)density, image, length + more) == CTC_DONE,
@@ -567,15 +587,17 @@ static void builder_refuses(void)
             expect(alike(image, before, room), "nothing written");
         }
         for (size_t i = 0; i < EDGES; i++) {
-            size_t needed = ctc_image_length(edge_counts[i], (uint8_t)density);
-            const size_t rooms[] = {0, 1, needed / 2, needed > 256 ? needed - 256 : 1, needed - 2,
-                                    needed - 1};
-            for (size_t r = 0; r < sizeof rooms / sizeof rooms[0]; r++) {
+            size_t count = edge_count(i);
+            size_t needed = expected_image(bytes, count, (uint8_t)density, expected);
+            const size_t rooms[] = {needed - 1, 0, 1, needed / 2, needed - 2,
+                                    needed > 256 ? needed - 256 : 1};
+            size_t tried = at_an_end(count) ? sizeof rooms / sizeof rooms[0] : 1;
+            for (size_t r = 0; r < tried; r++) {
                 fill_random(before, rooms[r]);
-                memcpy(image, before, sizeof image);
-                expect(build(bytes, edge_counts[i], (uint8_t)density, image, rooms[r]) ==
+                memcpy(image, before, rooms[r]);
+                expect(build(bytes, count, (uint8_t)density, image, rooms[r]) ==
                            CTC_REFUSED_SPACE,
-                       "%zu bytes, space of %zu", edge_counts[i], rooms[r]);
+                       "%zu bytes, space of %zu", count, rooms[r]);
                 expect(alike(image, before, rooms[r]), "nothing written");
             }
         }
@@ -643,7 +665,7 @@ static void restorer_refuses_every_mark(void)
 static void restorer_refuses_lengths(void)
 {
     for (size_t i = 0; i < EDGES; i++) {
-        size_t count = edge_counts[i];
+        size_t count = edge_count(i);
         fill_random(bytes, count);
         memset(image, 0, sizeof image);
         memset(marks, CTC_MARK_GOOD, sizeof marks);
@@ -651,16 +673,23 @@ static void restorer_refuses_lengths(void)
         size_t mark_count = ctc_mark_count(count, CTC_DENSITY_GCR);
         fill_random(before, count);
         memcpy(out, before, count);
-        const size_t lengths_wrong[] = {0, 1, length - 1, length + 1, length + 256, length + 512};
-        for (size_t w = 0; w < sizeof lengths_wrong / sizeof lengths_wrong[0]; w++) {
+        const size_t lengths_wrong[] = {length - 1, length + 1, 0, 1, length + 256, length + 512};
+        size_t tried = at_an_end(count) ? sizeof lengths_wrong / sizeof lengths_wrong[0] : 2;
+        for (size_t w = 0; w < tried; w++) {
             expect(restore(image, lengths_wrong[w], marks, mark_count, out, count) ==
                        CTC_REFUSED_LENGTH,
                    "count %zu, image of %zu", count, lengths_wrong[w]);
         }
-        for (size_t wrong = 0; wrong <= 70; wrong++) {
-            if (wrong != mark_count) {
-                expect(restore(image, length, marks, wrong, out, count) == CTC_REFUSED_LENGTH,
-                       "count %zu, %zu marks", count, wrong);
+        const size_t marks_wrong[] = {mark_count - 1, mark_count + 1, mark_count - 2, mark_count + 2,
+                                      mark_count - 256, mark_count + 256, 0, 1, 2, 66,
+                                      CTC_MARKS_MOST - 1, CTC_MARKS_MOST, CTC_MARKS_MOST + 1};
+        tried = at_an_end(count) ? sizeof marks_wrong / sizeof marks_wrong[0] : 2;
+        for (size_t w = 0; w < tried; w++) {
+            /* less than none is nothing to be tried */
+            if (marks_wrong[w] != mark_count && marks_wrong[w] <= sizeof marks) {
+                expect(restore(image, length, marks, marks_wrong[w], out, count) ==
+                           CTC_REFUSED_LENGTH,
+                       "count %zu, %zu marks", count, marks_wrong[w]);
             }
         }
         expect(alike(out, before, count), "nothing written, count %zu", count);
@@ -671,10 +700,9 @@ static void restorer_refuses_lengths(void)
 static void good_blockettes_as_they_are(void)
 {
     for (size_t i = 0; i < EDGES; i++) {
-        size_t count = edge_counts[i], room = count + 100;
-        size_t length = ctc_image_length(count, CTC_DENSITY_GCR);
-        expected_image(bytes, count, CTC_DENSITY_GCR, image); /* for its count bytes */
-        fill_random(image + 2, length - 2);
+        size_t count = edge_count(i), room = count + 100;
+        size_t length = expected_image(bytes, count, CTC_DENSITY_GCR, image);
+        fill_random(image + 2, length - 2); /* the count bytes stay */
         memset(marks, CTC_MARK_GOOD, sizeof marks);
         fill_random(before, room);
         memcpy(out, before, room);
@@ -685,11 +713,11 @@ static void good_blockettes_as_they_are(void)
     }
 }
 
-/* A few hundred records: built, spoiled in one odd and one even blockette, restored. */
+/* Records built, spoiled in one odd and one even blockette, restored. */
 static void round_trips(void)
 {
-    for (int turn = 0; turn < 400; turn++) {
-        size_t count = turn < EDGES ? edge_counts[turn]
+    for (size_t turn = 0; turn < EDGES + 400; turn++) {
+        size_t count = turn < EDGES ? edge_count(turn)
                                     : between(1, turn % 4 == 0 ? CTC_COUNT_LIMIT : 1500);
         size_t length = ctc_image_length(count, CTC_DENSITY_GCR);
         size_t mark_count = ctc_mark_count(count, CTC_DENSITY_GCR);
@@ -717,6 +745,54 @@ static void round_trips(void)
         uint8_t report[CTC_REPORT_LENGTH];
         expect(scan(marks, mark_count, report, sizeof report) == CTC_DONE, "scanned");
         expect(report[CTC_REPORT_STOP + 1] == 0, "nothing stops the scan of %zu", count);
+    }
+}
+
+/* The entry of the report for an error at a place of the longest record: 255 down to 0, check 1, 0. */
+static void put_entry(uint8_t *report, bool stop, size_t place)
+{
+    bool check = place >= 256;
+    size_t number = check ? 257 - place : 255 - place;
+    uint8_t *entry = report + (stop              ? CTC_REPORT_STOP
+                               : number % 2 == 1 ? CTC_REPORT_ODD
+                                                 : CTC_REPORT_EVEN);
+    entry[0] = marks[place];
+    entry[1] = check ? CTC_KIND_CHECK : CTC_KIND_DATA;
+    entry[2] = (uint8_t)number;
+}
+
+/* Each blockette of the longest record: told by its number, restored, and counted where two are bad. */
+static void every_number(void)
+{
+    size_t count = CTC_COUNT_LIMIT, most = CTC_MARKS_MOST;
+    fill_random(bytes, count);
+    expect(expected_image(bytes, count, CTC_DENSITY_GCR, expected) == CTC_IMAGE_MOST, "length");
+    expect(expected[0] == 0xFF && expected[1] == 0xFF, "its count bytes");
+    for (size_t place = 0; place < most; place++) {
+        uint8_t report[CTC_REPORT_LENGTH], wanted[CTC_REPORT_LENGTH] = {0};
+        memcpy(image, expected, CTC_IMAGE_MOST);
+        memset(image + 2 + 256 * place, 0x55, 256);
+        memset(marks, CTC_MARK_GOOD, most);
+        marks[place] = random_error();
+        put_entry(wanted, false, place);
+        expect(scan(marks, most, report, sizeof report) == CTC_DONE, "scanned");
+        expect(alike(report, wanted, sizeof wanted), "report of place %zu", place);
+        expect(restore(image, CTC_IMAGE_MOST, marks, most, out, count) == CTC_DONE,
+               "restored, place %zu", place);
+        expect(alike(out, bytes, count), "the record, place %zu", place);
+
+        if (place + 2 < most) {
+            marks[place + 2] = random_error();
+            put_entry(wanted, true, place + 2);
+            expect(scan(marks, most, report, sizeof report) == CTC_DONE, "scanned");
+            expect(alike(report, wanted, sizeof wanted), "stop at place %zu", place + 2);
+            expect(restore(image, CTC_IMAGE_MOST, marks, most, out, count) ==
+                       CTC_REFUSED_UNRESTORABLE,
+                   "places %zu and %zu", place, place + 2);
+        }
+        marks[place] = CTC_MARK_ERROR_MOST + 1;
+        expect(restore(image, CTC_IMAGE_MOST, marks, most, out, count) == CTC_REFUSED_MARK,
+               "mark at place %zu", place);
     }
 }
 
@@ -810,6 +886,7 @@ int main(void)
     run("restorer refuses lengths", restorer_refuses_lengths);
     run("good blockettes as they are", good_blockettes_as_they_are);
     run("round trips", round_trips);
+    run("every number of a blockette", every_number);
     run("two bad of one parity", unrestorable);
     run("report spaces", report_spaces);
     run("unusual marks", unusual_marks);

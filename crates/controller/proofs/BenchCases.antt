@@ -101,9 +101,10 @@ pub record BenchCases : Type 0 where
   pub marked : primaryNow (left (readOn 0x22 [] true)) ≡ record { b0 = 0x81; b1 = 0xA0; b2 = 0x00; b3 = 0x22 }
   -- "Track 3, then 4: code 03."
   pub track-4 : left (store 0x38 0x00 0x00 0x00 0x03 0x5F ++ store 0x38 0x00 0x00 0x00 0x04 0x58) .outcome .code ≡ 0x03
-  -- "Count 16,384 offers GO, 16,385 is 02."
-  pub longest : played (report 1 0x22 ∷ store 0x59 0x00 0x00 0x40 0x00 0x7D) .reply .action ≡ Byte 0x47
-  pub too-long : left (report 1 0x22 ∷ store 0x59 0x00 0x00 0x40 0x01 0x7C) .outcome .code ≡ 0x02
+  -- "Count 16,384 offers GO"; "The bench case of 16,385 now offers GO." (document 02, Wish 3), and so does 65,535
+  pub longest-before : played (report 1 0x22 ∷ store 0x59 0x00 0x00 0x40 0x00 0x7D) .reply .action ≡ Byte 0x47
+  pub longer : played (report 1 0x22 ∷ store 0x59 0x00 0x00 0x40 0x01 0x7C) .reply .action ≡ Byte 0x47
+  pub longest : played (report 1 0x22 ∷ store 0x59 0x00 0x00 0xFF 0xFF 0x3D) .reply .action ≡ Byte 0x47
   -- "Drive 7: 01."
   pub drive-7 : left (store 0x4F 0x00 0x00 0x00 0x00 0x2B) .outcome .code ≡ 0x01
   -- "Read with report #A2: 04."
@@ -151,8 +152,9 @@ bench-cases =
       counted = refl;
       marked = refl;
       track-4 = refl;
+      longest-before = refl;
+      longer = refl;
       longest = refl;
-      too-long = refl;
       drive-7 = refl;
       at-end = refl;
       one-of-each = refl;

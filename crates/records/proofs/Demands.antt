@@ -1,20 +1,25 @@
 -- The theorems of the records, of the C functions themselves. 1: `calls-meet-their-contracts` and `refused-calls-change-nothing`. 2:
 -- `calls-restore-what-was-built`: what `ctc_build` leaves, spoiled as demand 2 says, `ctc_restore` gives back; and that this speaks of something:
--- `every-record-can-be-spoiled-and-restored`.
+-- `every-record-can-be-spoiled-and-restored`. And of records within the limit of before: `earlier-tapes-read-the-same`.
 -- Assumes nothing.
 pub mod Contracts
-use mathlib.Core.Path.{_≡_, sym, subst, _∙_}
+use mathlib.Core.Path.{_≡_, sym, ap, subst, _∙_}
 use mathlib.Core.List.{List}
 use Prim.Native.Nat.{ℕ, _≤_, _<_}
-use lib.Dec.{ltb}
+use native.Mathlib.Omega.{arith}
+use lib.Dec.{ltb, eqb}
+use borrow.Author.Tests.{le-ltb}
 use lib.ListN.{length, take}
 use Rattle.common.specs.Pick.{pick}
 use Rattle.common.specs.Given.{given}
-use Rattle.common.proofs.PickLaws.{by-test, where-refused}
-use Rattle.records.specs.Count.{limit}
-use Rattle.records.specs.Image.{imageLength}
-use Rattle.records.specs.Build.{buildInto}
-use Rattle.records.specs.Restore.{restoreInto}
+use Rattle.common.proofs.PickLaws.{by-test, pick-no, where-refused}
+use Rattle.marks.specs.Scan.{scanMarks}
+use Rattle.records.specs.Count.{limit, countOf}
+use Rattle.records.specs.Image.{imageOf, imageLength}
+use Rattle.records.specs.Build.{buildRefusal, buildInto}
+use Rattle.records.specs.Whole.{wholeRefusal}
+use Rattle.records.specs.Restore.{restoreRefusal, restoredBytes, restoreInto}
+use Rattle.records.specs.Earlier.{earlierLimit, earlierBuildRefusal, earlierBuildInto, earlierWholeRefusal, earlierRestoreRefusal, earlierRestoreInto}
 use Rattle.records.specs.Spoiled.{Spoiled}
 use Rattle.records.specs.Interface.{scanRefusal, scanInto}
 use Rattle.records.proofs.BuiltRecordsAreRestored.{built-records-are-restored}
@@ -95,4 +100,39 @@ every-record-can-be-spoiled-and-restored bytes density space out mark₁ mark₂
       builds = made;
       spoiled = subst (λ (l : List ℕ). ReallySpoiled l image marks) (sym (built-image bytes density space built gcr made)) (found .1);
       restores = subst (λ (r : ℕ). RestoreAllows image marks out r (restoreInto image marks out)) answer (restores-are-allowed image marks out);
+    }
+
+-- ---- tapes written before the limit was raised
+
+-- a count that was within the limit is within it now, so that neither test refuses it
+within-both : (c rest : ℕ) → c ≤ earlierLimit → pick (ltb limit c) 9 rest ≡ pick (ltb earlierLimit c) 9 rest
+unfolding limit
+within-both c rest h = pick-no 9 rest (le-ltb limit c (omega arith)) ∙ sym (pick-no 9 rest (le-ltb earlierLimit c h))
+
+whole-as-before : (image marks : List ℕ) → countOf image ≤ earlierLimit → wholeRefusal image marks 1 ≡ earlierWholeRefusal image marks
+unfolding wholeRefusal
+whole-as-before image marks h = ap (λ (n : ℕ). pick (ltb (length image) 2) 9 n) (within-both (countOf image) _ h)
+
+-- Of a record of at most 16,384 bytes, and of an image that says such a count, builder and restorer answer and leave what they did before.
+pub record EarlierTapesReadTheSame : Type 0 where
+  pub build : (bytes : List ℕ) (density : ℕ) (space : List ℕ) (refusal : ℕ) (after : List ℕ)
+      → BuildAllows bytes density space refusal after → length bytes ≤ earlierLimit
+      → (refusal ≡ earlierBuildRefusal (length bytes) density (length space)) × (after ≡ earlierBuildInto bytes density space)
+  pub restore : (image marks space : List ℕ) (refusal : ℕ) (after : List ℕ)
+      → RestoreAllows image marks space refusal after → countOf image ≤ earlierLimit
+      → (refusal ≡ earlierRestoreRefusal image marks (length space)) × (after ≡ earlierRestoreInto image marks space)
+
+pub earlier-tapes-read-the-same : EarlierTapesReadTheSame
+unfolding buildRefusal buildInto restoreRefusal restoreInto
+earlier-tapes-read-the-same =
+    record {
+      build = λ bytes density space refusal after allowed few.
+          let promised = builds-are-defined bytes density space refusal after allowed in
+          let same = within-both (length bytes) (pick (ltb (length space) (imageLength (length bytes) density)) 11 0) few in
+          (promised .0 ∙ same, promised .1 ∙ ap (λ (n : ℕ). pick (eqb n 0) (given (imageOf bytes density) space) space) same);
+      restore = λ image marks space refusal after allowed few.
+          let promised = restores-are-defined image marks space refusal after allowed in
+          let same = ap (λ (n : ℕ). pick (eqb n 0) (pick (ltb (length space) (countOf image)) 11 (pick (ltb (scanMarks marks .stop) (length marks)) 12 0)) n)
+          (whole-as-before image marks few) in
+          (promised .0 ∙ same, promised .1 ∙ ap (λ (n : ℕ). pick (eqb n 0) (given (restoredBytes image marks) space) space) same);
     }

@@ -49,9 +49,14 @@ pub record RecordCases : Type 0 where
   pub two-bytes : 256 * scanMarks twoEven .stop ≡ 512
   -- "c = 1, byte 5A: the 257th check byte is 5A": behind the count, one blockette and check blockette 1
   pub check-257 : getD (imageOf (0x5A ∷ []) 1) (2 + 256 + 256) 0 ≡ 0x5A
-  -- "Count 16,384 offers GO, 16,385 is 02": of the builder, within the limit and 9
-  pub longest : buildRefusal 16384 1 16898 ≡ 0
-  pub too-long : buildRefusal 16385 1 16898 ≡ 9
+  -- "The bench case of 16,385 now offers GO." (document 02, Wish 3): of the builder, within the limit, with a blockette more; 65,536 is 9
+  pub longest-before : buildRefusal 16384 1 16898 ≡ 0
+  pub longer : buildRefusal 16385 1 17154 ≡ 0
+  pub longest : buildRefusal 65535 1 66050 ≡ 0
+  pub too-long : buildRefusal 65536 1 66050 ≡ 9
+  -- 65,535 bytes are 256 blockettes, numbered in one byte, with 258 marks
+  pub most-blockettes : blocketteCount 65535 ≡ 256
+  pub most-marks : markCount 65535 1 ≡ 258
 
 pub record-cases : RecordCases
 unfolding pick filled _⊕_ xorAll blocketteAt numbered ofParity foldParity checkOf isError scanFrom scanMarks kindOf numberOf defectAt
@@ -72,6 +77,10 @@ record-cases =
       two-stop = refl;
       two-bytes = refl;
       check-257 = refl;
+      longest-before = refl;
+      longer = refl;
       longest = refl;
       too-long = refl;
+      most-blockettes = refl;
+      most-marks = refl;
     }

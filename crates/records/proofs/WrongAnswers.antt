@@ -36,7 +36,7 @@ use Rattle.records.proofs.interface.ctc_scan.Reads as scan-reads
 
 module _ (κs : Lfts 2) (bytes image : RefT (List ℕ)) (density r : ℕ) (after : List ℕ)
     (allowed : build-reads.Post κs (bytes, (density, (image, tt))) r (bytes, (density, (at-last image after, tt)))) where
-  -- more than 16,384 bytes are taken
+  -- more than 65,535 bytes are taken
   pub build-takes-too-many-bytes : limit < length (now bytes) → r ≡ 0 → ⊥
   unfolding buildRefusal
   build-takes-too-many-bytes many done =

@@ -4,9 +4,10 @@ use Prim.Native.Nat.{ℕ, _+_, _*_, _/_, _%_}
 use mathlib.Core.List.{List, [], _∷_}
 use lib.ListN.{getD}
 
--- The most bytes of a record ("count above 16,384"). A request raises it to 65,535, the most that 16 bits hold.
+-- The most bytes of a record: "Raise the limit to 65,535, for write stores, supplied counts, a held count, images, the builder and the restorer
+-- alike." (document 02, Wish 3). It is the most that 16 bits hold; where document 01 says 16,384 of a record, it is this.
 unfoldable pub limit : ℕ
-limit = 16384
+limit = 65535
 
 -- "count c rotated right one bit as 16 bits"
 unfoldable pub rotated : ℕ → ℕ

@@ -5,3 +5,4 @@ pub mod Build
 pub mod Restore
 pub mod Spoiled
 pub mod Interface
+pub mod Earlier

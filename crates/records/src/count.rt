@@ -4,8 +4,8 @@ ghost use Prim.Native.Nat.{_≤_};
 ghost use lib.ListN.{length};
 ghost use Rattle.records.specs.Count.{limit, countBytes, countOf};
 
-// The most bytes of a record.
-pub const LIMIT: usize = 16384;
+// The most bytes of a record: as many as 16 bits count.
+pub const LIMIT: usize = 65535;
 
 // Writes a count.
 pub fn put_count_bytes(count: usize, space: &mut [u8])

@@ -1,10 +1,8 @@
 //! Random sessions that go deep: the generator runs the machine, so it knows what is awaited.
 
-use crate::lines::{write_hex, Session, HOST_LIMIT};
+use crate::lines::{write_hex, Session, HOST_LIMIT, IMAGE_LIMIT, MARKS_LIMIT};
 use crate::machine::{code, link, report, Entry, Job, Operation, Phase, OPERATIONS};
-use crate::records::{
-    self, Density, BLOCKETTE, GOOD, IMAGE_LIMIT, MARKS_LIMIT, RECORD_LIMIT, TORN,
-};
+use crate::records::{self, Density, BLOCKETTE, GOOD, RECORD_LIMIT, TORN};
 use std::collections::VecDeque;
 
 /// Xorshift with a multiplied output; the seed is stirred so that near seeds differ at once.
@@ -187,6 +185,8 @@ impl Generator {
             },
             Phase::DataAwaited(job) => match self.random.below(20) {
                 0 => self.stray(),
+                // No data will do: only a reset goes on.
+                1..=9 if !self.image_fits(job) => self.reset_and_look(),
                 _ => {
                     let length = self.host_length(job);
                     self.data_line(length)
@@ -214,6 +214,27 @@ impl Generator {
                 _ => byte_line(link::ACK),
             },
         }
+    }
+
+    /// Whether the image of a write has room in the program's image space.
+    fn image_fits(&self, job: Job) -> bool {
+        let machine = &self.session.machine;
+        let density = machine.drives[machine.selected].density;
+        records::image_length(job.count(), density) <= IMAGE_LIMIT
+    }
+
+    /// A reset and a look at the check bytes, which it keeps.
+    fn reset_and_look(&mut self) -> Vec<u8> {
+        if self.random.chance(60) {
+            self.plan_check_bytes();
+            self.planned.push_back(b"T".to_vec());
+        }
+        b"Z".to_vec()
+    }
+
+    fn plan_check_bytes(&mut self) {
+        let drive = self.random.below(8) as u8;
+        self.plan_string(vec![link::STORE, 0x40 | drive, 0x40, 0, 0, 0, 0]);
     }
 
     /// The tape goes while a result is awaited.
@@ -258,7 +279,7 @@ impl Generator {
             self.look_at_primary = false;
             self.plan_string(vec![link::LOAD, 0x10 | drive, 0]);
         } else if self.random.chance(15) {
-            self.plan_string(vec![link::STORE, 0x40 | drive, 0x40, 0, 0, 0, 0]);
+            self.plan_check_bytes();
         } else {
             let operation: u8 = self.random.pick(&[1, 1, 2, 3, 5]);
             self.plan_string(vec![link::LOAD, operation << 4 | drive, 0]);
@@ -425,16 +446,16 @@ impl Generator {
             14 => control(&mut operand, random.byte()),
             15 => random.pick(&[1, 2, 7]),
             16 => 4,
-            17 | 18 => {
-                operand[2..]
-                    .copy_from_slice(&random.pick(&[0x4001u16, 0x4100, 0xFFFF]).to_be_bytes());
+            17..=19 => {
+                started = Some(Operation::Write);
+                operand[2..].copy_from_slice(&long_count(random).to_be_bytes());
                 5
             }
-            19 if random.chance(30) => 0,
+            20 if random.chance(30) => 0,
             other => {
                 let operation = match other {
-                    20..=38 => Operation::Read,
-                    39..=48 => Operation::Write,
+                    20..=39 => Operation::Read,
+                    40..=48 => Operation::Write,
                     49..=61 => Operation::SkipForward,
                     62..=66 => Operation::SkipReverse,
                     67 => Operation::CheckBytes,
@@ -526,7 +547,7 @@ impl Generator {
         let second = random.pick(&[0, 0, 0x80, second]);
         let count = match random.below(20) {
             0..=2 => 0,
-            3 => random.pick(&[0x4001, 0x4100, 0x8000, 0xFFFF]),
+            3 | 10 => long_count(random),
             // Enough blockettes for a scan to stop among them.
             4..=9 => 600 + random.below(2000) as u16,
             _ => record_length(random) as u16,
@@ -640,6 +661,10 @@ impl Generator {
     /// Host bytes: what the write needs, or near it, or any length.
     fn host_length(&mut self, job: Job) -> usize {
         let needed = job.thrown_away() + job.count();
+        // No line has all that it needs, so a short one mostly does.
+        if job.count() > HOST_LIMIT && self.random.chance(90) {
+            return self.random.below(300);
+        }
         let length = match self.random.below(12) {
             0..=4 => needed,
             5 => needed.saturating_sub(1),
@@ -692,6 +717,11 @@ impl Generator {
             let count = match density {
                 // Enough blockettes for a scan to stop among them.
                 Density::Gcr if random.chance(40) => 600 + random.below(2000),
+                // More than the host has space for, up to the longest that a line brings.
+                Density::Mfm if random.chance(6) => {
+                    let any = HOST_LIMIT + 1 + random.below(IMAGE_LIMIT - 2 - HOST_LIMIT);
+                    random.pick(&[HOST_LIMIT + 1, IMAGE_LIMIT - 2, any])
+                }
                 _ => record_length(random),
             };
             line.image = self.image(count, density);
@@ -703,17 +733,23 @@ impl Generator {
             && code == 0
             && !mark
         {
-            line.image = records::count_bytes(record_length(random) as u16).to_vec();
+            let count = match random.below(2) {
+                0 => long_count(random),
+                _ => record_length(random) as u16,
+            };
+            line.image = records::count_bytes(count).to_vec();
         }
         line.space = space(&mut self.random, wanted);
         line
     }
 
-    /// A result of a read with a supplied count, whose own count may be anything.
+    /// A result of a read with a supplied count, whose own count may be anything. No line brings
+    /// the image of a long one, so code 0 is refused there.
     fn supplied_result(&mut self, count: usize) -> ResultLine {
         let random = &mut self.random;
+        let long = count > HOST_LIMIT;
         let mut line = ResultLine {
-            code: if random.chance(65) {
+            code: if random.chance(if long { 25 } else { 65 }) {
                 code::GOOD
             } else {
                 random.pick(Operation::SuppliedCount.listed())
@@ -725,7 +761,15 @@ impl Generator {
             space: 0,
         };
         let mut wanted = 0;
-        if line.code == code::GOOD && count > 0 {
+        if line.code == code::GOOD && long {
+            // Nothing, or a shorter record that says the count.
+            let brought = self.random.pick(&[0, 1, count % HOST_LIMIT, 600]);
+            if self.random.chance(50) {
+                line.image = self.image(brought, Density::Gcr);
+                line.marks = self.marks(records::marks_length(brought, Density::Gcr));
+                line.image[..2].copy_from_slice(&records::count_bytes(count as u16));
+            }
+        } else if line.code == code::GOOD && count > 0 {
             line.image = self.image(count, Density::Gcr);
             line.marks = self.marks(records::marks_length(count, Density::Gcr));
             let random = &mut self.random;
@@ -831,7 +875,7 @@ impl Generator {
                     let length = 1 + random.below(4);
                     line.image = random.bytes(length);
                 }
-                // A count above the limit, or another than the length was made for.
+                // Another count than the length was made for.
                 9 if line.image.len() >= 2 => {
                     let near = records::count_of(&line.image).unwrap_or(0);
                     let any = random.below(65_536);
@@ -872,8 +916,8 @@ impl Generator {
             3 | 4 => {
                 let any = record_length(&mut self.random);
                 let less = count.saturating_sub(BLOCKETTE);
-                let more = (count + BLOCKETTE).min(RECORD_LIMIT);
-                let other = self.random.pick(&[any, less, more, 0]);
+                let more = count + BLOCKETTE;
+                let other = self.random.pick(&[any, less, more, 0]).min(HOST_LIMIT);
                 line.code = code::GOOD;
                 line.image = self.image(other, Density::Gcr);
                 line.marks = self.marks(records::marks_length(other, Density::Gcr));
@@ -979,7 +1023,7 @@ fn report_line(drive: usize, report: u8) -> Vec<u8> {
 fn late(random: &mut Random, operation: Operation) -> usize {
     if operation.is_skip() {
         random.pick(&[0, 0, 1, 1, 2, 2, 3])
-    } else if random.chance(75) {
+    } else if random.chance(65) {
         0
     } else {
         1 + random.below(3)
@@ -1000,7 +1044,7 @@ fn space(random: &mut Random, wanted: usize) -> usize {
     space.min(HOST_LIMIT)
 }
 
-/// Lengths around the edges of blockettes, with long ones seldom.
+/// Lengths around the edges of blockettes, with long ones seldom: a line brings their images.
 fn record_length(random: &mut Random) -> usize {
     match random.below(40) {
         0..=2 => 0,
@@ -1010,9 +1054,27 @@ fn record_length(random: &mut Random) -> usize {
         19..=21 => random.below(1000),
         22..=29 => 600 + random.below(1400),
         30 | 31 => 1024 + random.below(4000),
-        32 if random.chance(25) => RECORD_LIMIT - random.below(2),
+        32 if random.chance(25) => HOST_LIMIT - random.below(2),
         _ => random.below(40),
     }
+}
+
+/// Counts above those: around the longest MFM record that fits the program's image space, around the
+/// edges of blockettes and of 15 and 16 bits, or any.
+fn long_count(random: &mut Random) -> u16 {
+    let first = HOST_LIMIT + 1;
+    let fits = IMAGE_LIMIT - 2;
+    let count = match random.below(12) {
+        0 | 1 => first,
+        2 => first + random.below(fits - first),
+        3 => fits,
+        4 => fits + 1,
+        5 => 0x7FFF + random.below(2),
+        6 | 7 => RECORD_LIMIT - random.below(2),
+        8 | 9 => BLOCKETTE * (65 + random.below(192)) - 1 + random.below(3),
+        _ => first + random.below(RECORD_LIMIT - HOST_LIMIT),
+    };
+    count.min(RECORD_LIMIT) as u16
 }
 
 /// A session of so many lines. The last #0A is left out in every second session.

@@ -1,4 +1,4 @@
-//! The cartridge controller of document 01, with document 02's first two wishes, written from those
+//! The cartridge controller of document 01, with document 02's first three wishes, written from those
 //! documents, READING.md and READING-02.md alone, with a generator of sessions and a comparison of
 //! another program with it.
 //!

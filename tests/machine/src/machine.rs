@@ -1,9 +1,10 @@
 //! The controller: its state and the eight calls, as document 01 has them, with document 02's first
-//! two wishes: the read whose count the host supplies, and the retry bit that hosts can trust.
+//! three wishes: the read whose count the host supplies, the retry bit that hosts can trust, and
+//! records of 65,535 bytes.
 //!
 //! Refusal 1, a damaged state, is not here: the state's types and the calls keep it whole.
 
-use crate::mutants::Mutant;
+use crate::mutants::{Limited, Mutant};
 use crate::records::{self, Density, Verdict, BLOCKETTE};
 
 // ---------------------------------------------------------------------------------------------
@@ -487,11 +488,19 @@ fn decode(operation: u8, operand: [u8; 4], density: Density, mutant: Option<Muta
             }
             _ => Decoded::Code(code::NO_SUCH_OPERATION),
         },
-        5 if count_of_operand(operand) <= records::RECORD_LIMIT => {
+        5 if count_of_operand(operand) <= limit(Limited::Write, mutant) => {
             Decoded::Operation(Operation::Write)
         }
         6 => Decoded::Operation(Operation::Erase),
         _ => Decoded::Code(code::NO_SUCH_OPERATION),
+    }
+}
+
+/// The most that a count may be. No 16 bits say more, unless a mutant lowers it.
+fn limit(place: Limited, mutant: Option<Mutant>) -> usize {
+    match mutant {
+        Some(Mutant::LowLimit(lowered, limit)) if lowered == place => limit,
+        _ => records::RECORD_LIMIT,
     }
 }
 
@@ -504,8 +513,7 @@ fn asks_supplied_count(operand: [u8; 4], density: Density, mutant: Option<Mutant
         _ => false,
     };
     let gcr = density == Density::Gcr || wrong(Mutant::SuppliedInMfm);
-    let short = count_of_operand(operand) <= records::RECORD_LIMIT;
-    named && gcr && (short || wrong(Mutant::SuppliedAboveLimit))
+    named && gcr && count_of_operand(operand) <= limit(Limited::Supplied, mutant)
 }
 
 /// Refusals 7 to 10, which look at the result as it was handed in, tape or no tape.
@@ -555,7 +563,7 @@ fn check_reported(
 }
 
 /// The lengths of image and marks that a result has to bring. None if they hang on the image's
-/// own count, and that is missing or above the limit.
+/// own count, and that is missing.
 fn wanted_lengths(
     job: Job,
     density: Density,
@@ -566,7 +574,7 @@ fn wanted_lengths(
         code, mark, image, ..
     } = *reported;
     let good = code == code::GOOD && !mark;
-    let own_count = records::count_of(image).filter(|&count| count <= records::RECORD_LIMIT);
+    let own_count = |place| records::count_of(image).filter(|&count| count <= limit(place, mutant));
     let of_record = |count| {
         (
             records::image_length(count, density),
@@ -577,15 +585,18 @@ fn wanted_lengths(
         // The image's own count is not looked at; a record of no bytes brings not even that.
         return match count {
             _ if !good => Some((0, 0)),
-            _ if mutant == Some(Mutant::SuppliedOwnCount) => own_count.map(of_record),
+            _ if mutant == Some(Mutant::SuppliedOwnCount) => {
+                own_count(Limited::Image).map(of_record)
+            }
             0 if mutant != Some(Mutant::SuppliedNoneAsRecord) => Some((0, 0)),
+            16_385.. if mutant == Some(Mutant::LongSuppliedEmpty) => Some((0, 0)),
             _ => Some(of_record(count)),
         };
     }
     if job.operation.reads_record() && matches!(code, 0x00 | 0x10 | 0x11 | 0x12) && !mark {
-        own_count.map(of_record)
+        own_count(Limited::Image).map(of_record)
     } else if job.operation == Operation::SkipReverse && density == Density::Gcr && good {
-        own_count.map(|_| (2, 0))
+        own_count(Limited::ReverseSkip).map(|_| (2, 0))
     } else {
         Some((0, 0))
     }
@@ -698,8 +709,12 @@ impl Machine {
             return Err(Refusal::CheckStore);
         }
         let density = self.drive().density;
-        if image.len() < records::image_length(job.count(), density) {
-            return Err(Refusal::ImageSpace);
+        let needs = match self.mutant {
+            Some(Mutant::LongMfmAsGcr) => records::image_length(job.count(), Density::Gcr),
+            _ => records::image_length(job.count(), density),
+        };
+        if image.len() < needs {
+            return Err(self.short_of_space(density, check_store));
         }
 
         let needed = job.thrown_away() + job.count();
@@ -720,6 +735,18 @@ impl Machine {
         }
         self.phase = Phase::ResultAwaited(job);
         Ok((Action::Order(self.order(job)), length))
+    }
+
+    /// The refusal of a data call whose image does not fit: nothing changes, and the data are still
+    /// awaited.
+    fn short_of_space(&mut self, density: Density, check_store: &mut [u8]) -> Refusal {
+        match self.mutant {
+            Some(Mutant::LongWriteDropped) => self.phase = IDLE,
+            Some(Mutant::LongWriteClears) if density == Density::Gcr => check_store.fill(0),
+            Some(Mutant::LongWriteIsLength) => return Refusal::Length,
+            _ => {}
+        }
+        Refusal::ImageSpace
     }
 
     /// What became of the operation under way.
@@ -849,7 +876,10 @@ impl Machine {
         };
         if let Some(count) = told {
             flags |= primary::COUNT_VALID;
-            self.secondary = count as u16;
+            self.secondary = match self.mutant {
+                Some(Mutant::LongCountCut) => count as u16 & 0x7FFF,
+                _ => count as u16,
+            };
             if supplied.is_some() && !self.wrong(Mutant::SuppliedBitMissing) {
                 flags |= primary::COUNT_SUPPLIED;
             }
@@ -999,14 +1029,10 @@ impl Machine {
             self.drive().density
         };
         let decoded = decode(address::operation(address), operand, density, self.mutant);
-        let tested_first = match (address::operation(address), operand[0]) {
-            (5, _) if self.wrong(Mutant::TestBeforeDecode) => Some(Operation::Write),
-            (4, 0x80) if self.wrong(Mutant::SuppliedTestBeforeDecode) => {
-                Some(Operation::SuppliedCount)
-            }
-            _ => None,
-        };
-        if tested_first.is_some_and(|operation| !operation.may_start(self.drive())) {
+        let tested_first = address::operation(address) == 4
+            && operand[0] == 0x80
+            && self.wrong(Mutant::SuppliedTestBeforeDecode);
+        if tested_first && !Operation::SuppliedCount.may_start(self.drive()) {
             return self.end_with(code::NOT_READY, interrupt);
         }
         match decoded {

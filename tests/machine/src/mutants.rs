@@ -19,7 +19,6 @@ pub enum Mutant {
     OverflowAgainstCount,
     SecondaryKeptByReverseSkip,
     CheckStoreKeptByMark,
-    TestBeforeDecode,
     ReviewAtEorOffer,
     ReviewBeforePrimary,
     // Reading with a supplied count.
@@ -31,8 +30,6 @@ pub enum Mutant {
     SuppliedInMfm,
     /// The density is that of the drive selected before.
     SuppliedDensityOfLastDrive,
-    /// It starts with a count above the limit.
-    SuppliedAboveLimit,
     /// 04 before 02.
     SuppliedTestBeforeDecode,
     /// Tested as a rewind: the end of tape and the position do not count.
@@ -112,6 +109,30 @@ pub enum Mutant {
     RetryNotByStore,
     /// 05 has no entry, and leaves it clear.
     RetryNotByNoGo,
+    // Records of 65,535 bytes.
+    /// Here a count may not be above this one.
+    LowLimit(Limited, usize),
+    /// A supplied count above 16,384 takes an empty image with code 0.
+    LongSuppliedEmpty,
+    /// Secondary has the low fifteen bits of the count.
+    LongCountCut,
+    /// The image of an MFM record needs the space of a GCR record.
+    LongMfmAsGcr,
+    /// A write whose image does not fit is given up.
+    LongWriteDropped,
+    /// It zeroes the check store before it is refused.
+    LongWriteClears,
+    /// It is refused with 9.
+    LongWriteIsLength,
+}
+
+/// What bears a count: a store, the image of a read or forward skip, that of a reverse skip.
+#[derive(Clone, Copy, Debug, PartialEq, Eq)]
+pub enum Limited {
+    Write,
+    Supplied,
+    Image,
+    ReverseSkip,
 }
 
 impl Mutant {
@@ -194,8 +215,23 @@ pub fn retry_turned_round() -> Vec<Mutant> {
     mutants
 }
 
+/// Every place where a count may be long, with the limit that was, one bit less, and one byte less;
+/// a line brings no whole image above 16,896 bytes.
+pub fn limits_lowered() -> Vec<Mutant> {
+    let mut mutants = vec![
+        Mutant::LowLimit(Limited::Image, 16_384),
+        Mutant::LowLimit(Limited::Image, 16_895),
+    ];
+    for place in [Limited::Write, Limited::Supplied, Limited::ReverseSkip] {
+        for limit in [16_384, 32_767, 65_534] {
+            mutants.push(Mutant::LowLimit(place, limit));
+        }
+    }
+    mutants
+}
+
 /// `--mutant N` counts from 1 in this order.
-pub const MUTANTS: [Mutant; 72] = [
+pub const MUTANTS: [Mutant; 78] = [
     Mutant::FourthNoGivesUp,
     Mutant::ChangedClearedUnaccepted,
     Mutant::CountValidLeft,
@@ -211,14 +247,12 @@ pub const MUTANTS: [Mutant; 72] = [
     Mutant::OverflowAgainstCount,
     Mutant::SecondaryKeptByReverseSkip,
     Mutant::CheckStoreKeptByMark,
-    Mutant::TestBeforeDecode,
     Mutant::ReviewAtEorOffer,
     Mutant::ReviewBeforePrimary,
     Mutant::SuppliedNotKnown,
     Mutant::SuppliedByOneBit,
     Mutant::SuppliedInMfm,
     Mutant::SuppliedDensityOfLastDrive,
-    Mutant::SuppliedAboveLimit,
     Mutant::SuppliedTestBeforeDecode,
     Mutant::SuppliedTestOfWind,
     Mutant::SuppliedSecondaryKept,
@@ -269,4 +303,12 @@ pub const MUTANTS: [Mutant; 72] = [
     Mutant::RetryLateOneUntold,
     Mutant::RetryNotByStore,
     Mutant::RetryNotByNoGo,
+    Mutant::LowLimit(Limited::Write, 16_384),
+    Mutant::LowLimit(Limited::Image, 16_384),
+    Mutant::LongSuppliedEmpty,
+    Mutant::LongCountCut,
+    Mutant::LongMfmAsGcr,
+    Mutant::LongWriteDropped,
+    Mutant::LongWriteClears,
+    Mutant::LongWriteIsLength,
 ];

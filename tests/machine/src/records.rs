@@ -2,16 +2,12 @@
 
 use crate::mutants::Mutant;
 
-/// The most data bytes that a record may have.
-pub const RECORD_LIMIT: usize = 16_384;
+/// The most data bytes that a record may have: all that its 16 bits can count.
+pub const RECORD_LIMIT: usize = 65_535;
 /// Data bytes in a GCR blockette.
 pub const BLOCKETTE: usize = 256;
 /// Both check blockettes, 1 first.
 pub const CHECK_BYTES: usize = 2 * BLOCKETTE;
-/// The longest image: a GCR record of 16,384 bytes.
-pub const IMAGE_LIMIT: usize = 2 + RECORD_LIMIT + CHECK_BYTES;
-/// The most marks: 64 data blockettes and two check blockettes.
-pub const MARKS_LIMIT: usize = RECORD_LIMIT / BLOCKETTE + 2;
 
 /// For the first blockette of a record whose count is supplied; it never comes as a mark.
 pub const TORN: u8 = 0;

@@ -122,11 +122,12 @@ fn tracks() {
 #[test]
 fn longest_write() {
     let mut bench = Bench::ready();
-    assert_eq!(bench.store(0x50, 16_384), "0,A,47,");
-    bench.says("X", "0,A,45,");
-    bench.says("B,06", "0,-,,");
-    assert_eq!(bench.store(0x50, 16_385), "0,-,,");
-    assert_eq!(bench.code(), 0x02);
+    for count in [16_384, 16_385, 65_535] {
+        assert_eq!(bench.store(0x50, count), "0,A,47,", "{count}");
+        bench.says("X", "0,A,45,");
+        bench.says("B,06", "0,-,,");
+        assert_eq!(bench.code(), 0x05, "{count}");
+    }
 }
 
 #[test]

@@ -8,7 +8,7 @@ use machine::records::{self, Density, GOOD};
 use std::collections::BTreeMap;
 
 // As many, and as long, as tests/run compares.
-const SESSIONS: u64 = 400;
+const SESSIONS: u64 = 600;
 const LINES: usize = 500;
 
 type Counts = BTreeMap<String, usize>;
@@ -42,6 +42,11 @@ fn count_session(seed: u64, counts: &mut Counts) {
         let refusal = String::from_utf8_lossy(out.split(|&byte| byte == b',').next().unwrap());
         count(format!("phase {}", phase_name(&after.phase)));
         count(format!("refusal {refusal}"));
+        if let (Phase::DataAwaited(job), Some(Line::Data(_))) = (before.phase, lines::read(line)) {
+            if let Some(size) = long(job.count()) {
+                count(format!("data {density:?}, {size}: refusal {refusal}"));
+            }
+        }
         if let (Phase::ResultAwaited(job), Some(Line::Result { image, marks, .. })) =
             (before.phase, lines::read(line))
         {
@@ -56,6 +61,9 @@ fn count_session(seed: u64, counts: &mut Counts) {
                 }
                 if refusal == "10" && !records::is_mark(marks[0]) {
                     count("supplied: first mark not legal".to_string());
+                }
+                if let Some(size) = long(supplied) {
+                    count(format!("supplied {size}: result, refusal {refusal}"));
                 }
             }
         }
@@ -104,6 +112,13 @@ fn count_session(seed: u64, counts: &mut Counts) {
                     }
                 }
                 count_retry(operation, code, &marks, after, &mut count);
+                let told = after.outcome & primary::COUNT_VALID != 0;
+                if let (true, Some(size)) = (told, long(after.secondary as usize)) {
+                    count(format!("{operation:?} {density:?} tells {size}"));
+                    if job.supplied().is_some() {
+                        count(format!("supplied long: {code:02X} ends as {last:02X}"));
+                    }
+                }
                 if let Some(supplied) = job.supplied() {
                     let blank = if supplied == 0 { "0" } else { "a count" };
                     count(format!("supplied {blank}: {code:02X} ends as {last:02X}"));
@@ -144,6 +159,10 @@ fn count_session(seed: u64, counts: &mut Counts) {
                     if operation == 4 && string[2] == 0x80 {
                         count_supplied_store(&string, &before, after, &mut count);
                     }
+                    let size = long(u16::from_be_bytes([string[4], string[5]]) as usize);
+                    if let (5, Some(size)) = (operation, size) {
+                        count(format!("write {size}: code {:02X}", after.code()));
+                    }
                     if operation != 0 && after.code() != 0 {
                         count(format!("store ends with code {:02X}", after.code()));
                     }
@@ -152,9 +171,16 @@ fn count_session(seed: u64, counts: &mut Counts) {
             (Phase::DataAwaited(_), Some(Line::Data(_))) => {
                 count(format!("data {density:?}"));
             }
-            (Phase::GoOffered(_), Some(Line::Byte(_) | Line::Broken)) => {
+            (Phase::GoOffered(job), Some(Line::Byte(_) | Line::Broken)) => {
                 let yes = matches!(after.phase, Phase::DataAwaited(_));
-                count(format!("GO {}", if yes { "yes" } else { "no" }));
+                let go = if yes { "GO yes" } else { "GO no" };
+                count(go.to_string());
+                if long(job.count()).is_some() {
+                    count(format!("{go} to a long write"));
+                }
+            }
+            (Phase::DataAwaited(job), Some(Line::Reset)) if long(job.count()).is_some() => {
+                count("reset of a long write".to_string());
             }
             (Phase::Sending { send, .. }, Some(Line::Byte(byte))) => {
                 let ended = !matches!(after.phase, Phase::Sending { .. });
@@ -241,6 +267,22 @@ fn image_kind(image: &[u8], supplied: usize) -> &'static str {
     }
 }
 
+/// A count above 16,384, by the sizes where something may change: the longest MFM image that fits
+/// the program's space, 15 and 16 bits.
+fn long(count: usize) -> Option<&'static str> {
+    Some(match count {
+        0..=16_384 => return None,
+        16_385 => "16385",
+        16_386..=16_895 => "below 16896",
+        16_896 => "16896",
+        16_897 => "16897",
+        16_898..=32_767 => "15 bits",
+        32_768..=65_533 => "16 bits",
+        65_534 => "65534",
+        _ => "65535",
+    })
+}
+
 fn count_supplied_store(
     string: &[u8; 8],
     before: &Machine,
@@ -258,7 +300,7 @@ fn count_supplied_store(
     let size = match u16::from_be_bytes([string[4], string[5]]) {
         0 => "0",
         1..=16_384 => "a count",
-        _ => "too much",
+        _ => "a long count",
     };
     let ready = if Operation::SuppliedCount.may_start(&drive) {
         "ready"
@@ -280,7 +322,7 @@ fn sessions_reach_everything() {
     for (name, count) in &counts {
         println!("{count:7} {name}");
     }
-    let mut wanted: Vec<String> = (2..=10)
+    let mut wanted: Vec<String> = (2..=11)
         .filter(|number| *number != 6)
         .map(|number| format!("refusal {number}"))
         .collect();
@@ -354,13 +396,14 @@ fn sessions_reach_everything() {
     }
     wanted.extend(wanted_of_supplied());
     wanted.extend(wanted_of_retry());
+    wanted.extend(wanted_of_long());
     let missing: Vec<&String> = wanted
         .iter()
         .filter(|name| !counts.contains_key(*name))
         .collect();
     assert!(missing.is_empty(), "not reached: {missing:?}");
-    // The program's check store has always 512 bytes, so no session shows refusal 6 (nor 11).
-    assert!(!counts.contains_key("refusal 6") && !counts.contains_key("refusal 11"));
+    // The program's check store has always 512 bytes, so no session shows refusal 6.
+    assert!(!counts.contains_key("refusal 6"));
 }
 
 /// Reading with a supplied count, rule by rule.
@@ -411,8 +454,9 @@ fn wanted_of_supplied() -> Vec<String> {
         ("a count", "store, MFM, not ready: 02"),
         ("0", "store, GCR, ready: 00"),
         ("0", "store, MFM, ready: 02"),
-        ("too much", "store, GCR, ready: 02"),
-        ("too much", "store, GCR, not ready: 02"),
+        ("a long count", "store, GCR, ready: 00"),
+        ("a long count", "store, GCR, not ready: 04"),
+        ("a long count", "store, MFM, ready: 02"),
         ("a count", "store, no such drive, ready: 01"),
     ] {
         wanted.push(format!("supplied {size}: {what}"));
@@ -476,6 +520,39 @@ fn wanted_of_retry() -> Vec<String> {
         "SuppliedCount 00 made 13: retry",
         "CheckBytes 00, bit 17: retry",
         "Write 00, bit 18: retry",
+    ] {
+        wanted.push(name.to_string());
+    }
+    wanted
+}
+
+/// Counts above 16,384, wherever one may be, and what the program's limits make of them.
+fn wanted_of_long() -> Vec<String> {
+    let fitting = ["16385", "below 16896", "16896"];
+    let others = ["16897", "15 bits", "16 bits", "65534", "65535"];
+    let mut wanted = vec!["write 65535: code 04".to_string()];
+    for size in fitting.into_iter().chain(others) {
+        wanted.push(format!("write {size}: code 00"));
+        wanted.push(format!("data Gcr, {size}: refusal 11"));
+        wanted.push(format!("supplied {size}: result, refusal 0"));
+        wanted.push(format!("supplied {size}: result, refusal 9"));
+        wanted.push(format!("SkipReverse Gcr tells {size}"));
+    }
+    for size in fitting {
+        wanted.push(format!("data Mfm, {size}: refusal 0"));
+        for operation in ["Write", "Read", "SkipForward"] {
+            wanted.push(format!("{operation} Mfm tells {size}"));
+        }
+    }
+    wanted.extend(others.map(|size| format!("data Mfm, {size}: refusal 11")));
+    for code in &Operation::SuppliedCount.listed()[1..] {
+        wanted.push(format!("supplied long: {code:02X} ends as {code:02X}"));
+    }
+    for name in [
+        "GO yes to a long write",
+        "GO no to a long write",
+        "reset of a long write",
+        "supplied long: 14 ends as 07",
     ] {
         wanted.push(name.to_string());
     }

@@ -1,6 +1,6 @@
 //! The comparison finds each wrong rule, a crash and a hang, and nothing where nothing is wrong.
 
-use machine::mutants::{retry_turned_round, MUTANTS};
+use machine::mutants::{limits_lowered, retry_turned_round, Mutant, MUTANTS};
 use machine::{generator, lines};
 use std::process::{Command, Output};
 
@@ -20,7 +20,7 @@ const MACHINE: &str = env!("CARGO_BIN_EXE_machine");
 fn each_mutant_is_found() {
     for (index, mutant) in MUTANTS.iter().enumerate() {
         let number = (index + 1).to_string();
-        let options = ["--sessions", "400", "--", "--mutant", &number];
+        let options = ["--sessions", "600", "--", "--mutant", &number];
         let (output, text) = compare(MACHINE, &options);
         assert_eq!(output.status.code(), Some(1), "{mutant:?}: {text}");
         assert!(text.starts_with("seed "), "{mutant:?}: {text}");
@@ -50,8 +50,16 @@ fn each_mutant_is_found() {
 /// Nothing that decides about a retry could be otherwise without a random session that shows it.
 #[test]
 fn each_retry_turned_round_is_found() {
-    let mut left = retry_turned_round();
-    for seed in 1..=400 {
+    all_found(retry_turned_round());
+}
+
+#[test]
+fn each_limit_lowered_is_found() {
+    all_found(limits_lowered());
+}
+
+fn all_found(mut left: Vec<Mutant>) {
+    for seed in 1..=600 {
         let session = generator::session(seed, 500);
         let right = lines::run(&session, None);
         left.retain(|&mutant| lines::run(&session, Some(mutant)) == right);

@@ -57,8 +57,9 @@ fn point_3_lowest_refusal_first() {
     bench.says(&format!("R,00,0,3,{image},0F0F00,0"), "10,-,,");
     bench.says(&format!("R,00,0,3,{image},0A0F0F,0"), "10,-,,");
     bench.says(&format!("R,00,0,3,{image},0F100F,0"), "10,-,,");
-    // A000 is 16,385 rotated.
+    // A000 is 16,385 rotated, FFFF 65,535: two bytes are not their images.
     bench.says("R,00,0,0,A000,,0", "9,-,,");
+    bench.says("R,00,0,0,FFFF,,0", "9,-,,");
     bench.says("R,20,0,0,,,0", "7,-,,");
     bench.says("R,00,0,0,,,0", "9,-,,");
     bench.says("R,00,1,0,,,0", "0,A,45,");
@@ -152,8 +153,6 @@ fn sent(lead: u8, word: u32) -> String {
 fn point_14_decode_before_test() {
     let mut bench = Bench::new();
     for (address, operand, code) in [
-        (0x50, 16_385, 2),
-        (0x50, 16_384, 4),
         (0x40, 0x8000_0000, 2),
         (0x30, 0x07, 3),
         (0x30, 0x0A, 2),
@@ -162,6 +161,9 @@ fn point_14_decode_before_test() {
         (0x20, 0, 2),
         (0x70, 0, 2),
         (0x60, 0, 4),
+        // A count of any size is a write.
+        (0x50, 16_384, 4),
+        (0x50, 65_535, 4),
     ] {
         assert_eq!(bench.store(address, operand), "0,-,,");
         assert_eq!(bench.code(), code, "{address:02X} {operand:08X}");
@@ -494,7 +496,6 @@ fn point_35_reverse_skips() {
     assert_eq!(bench.store(0x30, 0x21), "0,M,210000010021,");
     bench.says("R,00,0,0,,,0", "9,-,,");
     bench.says("R,00,0,0,800200,,0", "9,-,,");
-    bench.says("R,00,0,0,A000,,0", "9,-,,");
     bench.says("R,00,0,0,8002,0F,0", "9,-,,");
     bench.says("R,00,0,0,2000,,0", "0,-,,");
     assert_eq!(bench.load(2), "00004000");
@@ -562,8 +563,9 @@ fn point_38_to_42_lines() {
     assert!(reads(longest));
 }
 
+/// The longest that a line brings in GCR.
 #[test]
-fn the_longest_record() {
+fn a_record_of_16384_bytes() {
     let mut bench = gcr();
     let data = record(16_384);
     let marks = "0F".repeat(66);

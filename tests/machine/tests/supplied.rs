@@ -88,12 +88,12 @@ fn point_1_1_codes_before_the_order() {
     for (report, density, address, count, code) in [
         ("22", 0x0C, 0x40, 5, 0x02),
         ("22", 0x0C, 0x40, 0, 0x02),
-        ("22", 0x0D, 0x40, 16_385, 0x02),
-        ("22", 0x0D, 0x40, 65_535, 0x02),
+        ("22", 0x0C, 0x40, 65_535, 0x02),
         // 02 before 04.
         ("04", 0x0C, 0x40, 5, 0x02),
-        ("A2", 0x0D, 0x40, 16_385, 0x02),
+        ("A2", 0x0C, 0x40, 16_385, 0x02),
         ("04", 0x0D, 0x40, 16_384, 0x04),
+        ("A2", 0x0D, 0x40, 65_535, 0x04),
         ("04", 0x0D, 0x40, 0, 0x04),
         // 01 before 02.
         ("22", 0x0D, 0x4C, 5, 0x01),
@@ -110,8 +110,10 @@ fn point_1_1_codes_before_the_order() {
         assert_eq!(primary & 0x20FF_FE00, 0x2000_0000 | code << 16, "{shown}");
         bench.says("K", "0,-,,");
     }
-    let mut bench = gcr();
-    supply(&mut bench, 16_384);
+    // No count is too large.
+    for count in [16_384, 16_385, 32_768, 65_535] {
+        supply(&mut gcr(), count);
+    }
 }
 
 #[test]
@@ -408,7 +410,7 @@ fn point_1_5_correction_is_cleared_and_kept() {
     // What ends before the order, and what is refused, clears nothing.
     bench.says("S,0,22", "0,-,,");
     fill(&mut bench);
-    assert_eq!(bench.store(0x40, 0x8000_4001), "0,-,,");
+    assert_eq!(bench.store(0x40, 0x8100_0005), "0,-,,");
     assert_eq!(bench.load(3), "91010102");
     check_bytes(&mut bench, &checks(&data));
     supply(&mut bench, 600);
@@ -490,7 +492,7 @@ fn point_1_7_the_count_is_told_whatever_the_code() {
     // 04, 02 and 01 leave it, without its bits.
     for (address, operand, primary) in [
         (0x40, 0x8000_0007, "A0040104"),
-        (0x40, 0x8000_4001, "A0020104"),
+        (0x40, 0x8100_0007, "A0020104"),
         (0x4F, 0x8000_0007, "A0010104"),
     ] {
         assert_eq!(bench.store(address, operand), "0,-,,");
@@ -629,7 +631,7 @@ fn point_1_8_completion_as_for_a_read() {
     bench.says("X", "0,-,,");
     // A code before the order: no EOR, primary alone.
     let primary = hex(&machine::machine::sent_string(0x69, 0x2002_0122));
-    assert_eq!(bench.store(0xC8, 0x8000_4001), format!("0,P,{primary},"));
+    assert_eq!(bench.store(0xC8, 0x8100_0005), format!("0,P,{primary},"));
 }
 
 #[test]

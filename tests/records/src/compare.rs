@@ -47,7 +47,7 @@ pub fn restore(image: &[u8], marks: &[u8], space: &[u8]) -> (u32, Vec<u8>) {
 }
 
 pub fn scan(marks: &[u8], space: &[u8]) -> (u32, Vec<u8>) {
-    let what = if marks.len() <= 66 {
+    let what = if marks.len() <= plain::mark_count(plain::LIMIT, 1) {
         format!("scan of {marks:?}, space of {}", space.len())
     } else {
         format!("scan of {} marks, space of {}", marks.len(), space.len())

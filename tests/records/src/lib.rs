@@ -21,15 +21,14 @@ pub fn parity(place: usize, marks: usize) -> usize {
     (marks - 1 - place) % 2
 }
 
-/// Counts at the edges of every blockette up to the limit: 256k - 1, 256k and 256k + 1.
+/// Counts at the edges of every blockette up to the limit: 256k - 1, 256k and 256k + 1; and the one
+/// below the limit.
 pub fn edges() -> Vec<usize> {
     let mut counts = Vec::new();
-    for k in 1..=plain::LIMIT / 256 {
-        for count in [256 * k - 1, 256 * k, 256 * k + 1] {
-            if count <= plain::LIMIT {
-                counts.push(count);
-            }
-        }
+    for k in 1..=plain::blockettes(plain::LIMIT) {
+        counts.extend([256 * k - 1, 256 * k, 256 * k + 1]);
     }
+    counts.retain(|&count| count <= plain::LIMIT);
+    counts.push(plain::LIMIT - 1);
     counts
 }

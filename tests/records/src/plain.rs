@@ -1,5 +1,6 @@
-//! Builder, scan and restorer written from document 01, section Records, in the plainest way: with
-//! blockettes held by their numbers and nothing folded in place. It knows nothing of the library.
+//! Builder, scan and restorer written from document 01, section Records, with the limit of document
+//! 02, in the plainest way: with blockettes held by their numbers and nothing folded in place. It
+//! knows nothing of the library.
 //!
 //! Each function that writes gets the lent space as it is before the call and gives the whole of it
 //! as it must be after the call, so that a comparison covers the bytes that keep their value.
@@ -7,7 +8,8 @@
 // blockettes go by number here, as they do in the document
 #![allow(clippy::needless_range_loop)]
 
-pub const LIMIT: usize = 16_384;
+/// "Raise the limit to 65,535"
+pub const LIMIT: usize = 65_535;
 pub const NO_COUNT: usize = 65_536;
 pub const GOOD: u8 = 15;
 

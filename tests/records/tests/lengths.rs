@@ -7,7 +7,6 @@ use records_tests::{library, plain};
 /// Counts above the limit, up to the largest number there is.
 fn counts_above() -> Vec<usize> {
     let mut counts: Vec<usize> = (LIMIT + 1..=LIMIT + 1000).collect();
-    counts.extend([65_534, 65_535, 65_536, 65_537]);
     for shift in 17..usize::BITS {
         counts.extend([(1 << shift) - 1, 1 << shift, (1 << shift) + LIMIT]);
     }
@@ -66,11 +65,21 @@ fn known_lengths() {
     assert_eq!(library::image_length(1, 0), 3);
     assert_eq!(library::image_length(1, 1), 770);
     assert_eq!(library::image_length(600, 1), 1282);
-    assert_eq!(library::image_length(LIMIT, 0), 16_386);
-    assert_eq!(library::image_length(LIMIT, 1), 16_898);
     assert_eq!(library::mark_count(1, 1), 3);
     assert_eq!(library::mark_count(600, 1), 5);
-    assert_eq!(library::mark_count(LIMIT, 1), 66);
+    for (count, mfm, gcr, marks) in [
+        (16_384, 16_386, 16_898, 66),
+        (16_385, 16_387, 17_154, 67),
+        (65_280, 65_282, 65_794, 257),
+        (65_281, 65_283, 66_050, 258),
+        (65_535, 65_537, 66_050, 258),
+        (65_536, 0, 0, 0),
+    ] {
+        assert_eq!(library::image_length(count, 0), mfm, "{count}");
+        assert_eq!(library::image_length(count, 1), gcr, "{count}");
+        assert_eq!(library::mark_count(count, 0), 0, "{count}");
+        assert_eq!(library::mark_count(count, 1), marks, "{count}");
+    }
 }
 
 #[test]

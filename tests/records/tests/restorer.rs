@@ -114,8 +114,13 @@ fn two_bad_of_one_parity() {
     for count in [1, 256, 257, 512, 600, 900, 1100, LIMIT - 1, LIMIT] {
         let image = plain::image(&random.bytes(count), 1);
         let places = plain::mark_count(count, 1);
+        // of many places, every tenth with all; the others with those near and the check blockettes
         for first in 0..places {
             for second in first + 1..places {
+                let near = second - first < 4 || second + 3 > places;
+                if places > 20 && !near && first % 10 > 0 {
+                    continue;
+                }
                 let mut marks = good_marks(count);
                 marks[first] = random.error();
                 marks[second] = random.error();
@@ -181,7 +186,7 @@ fn wrong_lengths_of_the_image() {
     for count in [0, 1, 255, 256, 257, 600, 1100, LIMIT] {
         let image = plain::image(&random.bytes(count), 1);
         let marks = good_marks(count);
-        let mut lengths = vec![0, 1, 2, 3, 258, 514, 515, count + 2, 16_898, 20_000];
+        let mut lengths = vec![0, 1, 2, 3, 258, 514, 515, count + 2, 16_898, 66_050, 70_000];
         lengths.extend(image.len().saturating_sub(258)..image.len() + 258);
         for length in lengths {
             let mut damaged = image.clone();
@@ -226,10 +231,8 @@ fn damaged_counts() {
         let built = plain::image(&random.bytes(count), 1);
         let marks = good_marks(count);
         let space = random.bytes(LIMIT);
-        for said in (0..=65_535)
-            .step_by(7)
-            .chain(count.saturating_sub(300)..count + 300)
-        {
+        let near = count.saturating_sub(300)..65_536.min(count + 300);
+        for said in (0..=65_535).step_by(97).chain(edges()).chain(near) {
             let mut image = built.clone();
             image[..2].copy_from_slice(&plain::count_bytes(said));
             let (refusal, after) = compare::restore(&image, &marks, &space);
@@ -246,17 +249,16 @@ fn damaged_counts() {
 }
 
 #[test]
-fn counts_above_the_limit() {
-    // lengths that would fit, were the limit higher
+fn images_that_no_count_fits() {
     let mut random = Random::of_test(40);
-    for count in [LIMIT + 1, LIMIT + 256, 32_768, 65_535] {
-        let n = plain::blockettes(count);
+    // 65,536 bytes would have 256 blockettes, and their 16 bits say 0; no count asks for 257
+    for (n, said) in [(256, 0), (256, 65_280), (257, 0), (257, 1), (257, 65_535)] {
         let mut image = random.bytes(2 + 256 * (n + 2));
-        image[..2].copy_from_slice(&plain::count_bytes(count));
-        let space = random.bytes(count);
-        for marks in [vec![15; n + 2], vec![], vec![15; 66], vec![0; n + 2]] {
+        image[..2].copy_from_slice(&plain::count_bytes(said));
+        let space = random.bytes(65_536);
+        for marks in [vec![15; n + 2], vec![15; 258], vec![15; 3], vec![]] {
             let (refusal, after) = compare::restore(&image, &marks, &space);
-            assert_eq!(refusal, 9, "count {count}");
+            assert_eq!(refusal, 9, "{n} blockettes, says {said}");
             assert!(after == space);
         }
     }

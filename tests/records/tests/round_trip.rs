@@ -78,14 +78,12 @@ fn every_edge_of_a_blockette() {
 #[test]
 fn the_limit_and_every_choice() {
     let mut random = Random::of_test(52);
-    for count in [LIMIT - 1, LIMIT] {
-        let bytes = random.bytes(count);
-        let image = built(&bytes);
-        let choices = choices(library::mark_count(count, 1));
-        assert_eq!(choices.len(), 34 * 34);
-        for bad in choices {
-            restores(&bytes, &image, &bad, &mut random);
-        }
+    let bytes = random.bytes(LIMIT);
+    let image = built(&bytes);
+    let choices = choices(library::mark_count(LIMIT, 1));
+    assert_eq!(choices.len(), 130 * 130);
+    for bad in choices {
+        restores(&bytes, &image, &bad, &mut random);
     }
 }
 

@@ -37,7 +37,7 @@ fn no_error() {
 
 #[test]
 fn one_error_at_every_place() {
-    for length in 1..=66 {
+    for length in 1..=258 {
         for place in 0..length {
             let mut marks = vec![15; length];
             marks[place] = 7;
@@ -113,7 +113,7 @@ fn numbers_are_taken_modulo_256() {
 fn random_marks() {
     let mut random = Random::of_test(20);
     for case in 0..6000 {
-        let length = random.between(0, if case % 10 == 0 { 1000 } else { 70 });
+        let length = random.between(0, if case % 10 == 0 { 1000 } else { 258 });
         let one_in = [2, 10, 40, 300][case % 4];
         let mut marks = vec![15; length];
         for mark in &mut marks {
@@ -147,7 +147,7 @@ fn spaces_of_every_length() {
         &[15],
         &[6, 15, 4, 15, 15],
         &[15, 9, 15, 15, 3],
-        &[1; 66],
+        &[1; 258],
     ] {
         for room in 0..=64 {
             let space = random.bytes(room);

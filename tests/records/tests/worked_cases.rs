@@ -90,6 +90,53 @@ fn blockettes_are_numbered_downward() {
 }
 
 #[test]
+fn the_longest_record_has_blockettes_255_to_0() {
+    // each blockette holds its number; the last, number 0, holds 1 and lacks a byte
+    let mut bytes: Vec<u8> = (0..65_535).map(|place| (255 - place / 256) as u8).collect();
+    bytes[65_280..].fill(1);
+    let image = image(&bytes, 1);
+    assert_eq!(image.len(), 66_050);
+    assert_eq!(image[..2], [0xFF, 0xFF]);
+    assert_eq!(image[2..2 + 65_535], bytes);
+    assert_eq!(image[2 + 65_535], 0);
+    // 1, 3, ... 255 cancel each other, and so do 2, 4, ... 254
+    assert_eq!(image[2 + 65_536..2 + 65_792], [0; 256]);
+    assert_eq!(image[2 + 65_792..2 + 66_047], [1; 255]);
+    assert_eq!(image[2 + 66_047], 0);
+
+    // mark 9 on blockette 255, 3 on blockette 128; then 2 on 255 and 7 on check 1
+    let mut marks = [15; 258];
+    (marks[0], marks[127]) = (9, 3);
+    assert_eq!(
+        status(&marks),
+        ([0x91, 0xFF, 0x31, 0x80], [0x00, 0x00, 0x00, 0x00])
+    );
+    let mut spoiled = image.clone();
+    spoiled[2..2 + 256].fill(0x55);
+    spoiled[2 + 256 * 127..2 + 256 * 128].fill(0x55);
+    let (refusal, out) = library::restore(&spoiled, &marks, &[0; 65_535]);
+    assert_eq!(refusal, 0);
+    assert!(out == bytes);
+    let mut marks = [15; 258];
+    (marks[0], marks[256]) = (2, 7);
+    assert_eq!(
+        status(&marks),
+        ([0x21, 0xFF, 0x00, 0x00], [0x00, 0x00, 0x72, 0x01])
+    );
+    assert_eq!(library::restore(&image, &marks, &[0; 65_535]).0, 12);
+}
+
+#[test]
+fn one_byte_more_than_the_longest_record() {
+    let bytes = vec![0x5A; 65_536];
+    for density in [0, 1] {
+        let (refusal, space) = library::build(&bytes, density, &[0xEE; 70_000]);
+        assert_eq!(refusal, 9);
+        assert!(space == [0xEE; 70_000]);
+    }
+}
+
+#[test]
 fn a_record_of_no_bytes_is_two_bytes() {
     for density in [0, 1, 255] {
         assert_eq!(image(&[], density), [0, 0]);

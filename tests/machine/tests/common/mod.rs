@@ -87,8 +87,13 @@ impl Bench {
     }
 }
 
-/// A GCR image in hexadecimal, made without the machine's own builder.
+/// A GCR image in hexadecimal.
 pub fn gcr_image(record: &[u8]) -> String {
+    hex(&gcr_bytes(record))
+}
+
+/// A GCR image, made without the machine's own builder.
+pub fn gcr_bytes(record: &[u8]) -> Vec<u8> {
     let count = record.len() as u16;
     let mut image = count.rotate_right(1).to_be_bytes().to_vec();
     let n = record.len().div_ceil(256);
@@ -103,7 +108,7 @@ pub fn gcr_image(record: &[u8]) -> String {
     if n > 0 {
         image.extend_from_slice(&checks);
     }
-    hex(&image)
+    image
 }
 
 pub fn hex(bytes: &[u8]) -> String {
