@@ -35,13 +35,17 @@ pairRefusal first second =
     pick (not (eqb (countOf (first .image)) (countOf (second .image)))) countsDiffer
     (pick (clashes (drop 2 (first .image)) (first .marks) (drop 2 (second .image)) (second .marks)) blockettesUnlike done)
 
--- "9, 10, 13, 14, then 11, in that order", each over both passes before the next; 11 for either space
+-- 11 for either space: the merged image and its marks are as long as those of a pass
+abbrev pub roomRefusal : Pass → ℕ → ℕ → ℕ
+roomRefusal first imageSpace marksSpace =
+    pick (ltb imageSpace (length (first .image)) || ltb marksSpace (length (first .marks))) spaceShort done
+
+-- "9, 10, 13, 14, then 11, in that order", each over both passes before the next
 unfoldable pub mergeRefusal : Pass → Pass → ℕ → ℕ → ℕ
 mergeRefusal first second imageSpace marksSpace =
     pick (eitherRefused first second wrongLength) wrongLength
     (pick (eitherRefused first second markValue) markValue
-    (pick (not (eqb (pairRefusal first second) done)) (pairRefusal first second)
-    (pick (ltb imageSpace (length (first .image)) || ltb marksSpace (length (first .marks))) spaceShort done)))
+    (pick (not (eqb (pairRefusal first second) done)) (pairRefusal first second) (roomRefusal first imageSpace marksSpace)))
 
 -- the merged image: the count that both say, and the merged blockettes
 unfoldable pub mergedImage : Pass → Pass → List ℕ

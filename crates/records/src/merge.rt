@@ -15,7 +15,7 @@ ghost use Prim.Native.Nat.{_+_, _*_};
 ghost use lib.ListN.{length};
 ghost use Rattle.blockettes.specs.Blockettes.{blocketteLength};
 ghost use Rattle.passes.specs.Passes.{mergedMarks};
-ghost use Rattle.records.specs.Merge.{passOf, passRefusal, pairRefusal, mergeRefusal, mergedImage, mergeImageInto, mergeMarksInto};
+ghost use Rattle.records.specs.Merge.{passOf, passRefusal, pairRefusal, roomRefusal, mergeRefusal, mergedImage, mergeImageInto, mergeMarksInto};
 
 // Of two passes that are whole: 13, 14 or 0.
 fn pair_refusal(first: &[u8], first_marks: &[u8], second: &[u8], second_marks: &[u8]) -> u32
@@ -28,6 +28,16 @@ fn pair_refusal(first: &[u8], first_marks: &[u8], second: &[u8], second_marks: &
     }
     if clashes(&first[2..], first_marks, &second[2..], second_marks) {
         return BLOCKETTES_UNLIKE;
+    }
+    DONE
+}
+
+// 11 or 0.
+fn room_refusal(first: &[u8], first_marks: &[u8], image: usize, marks: usize) -> u32
+    ensures { λ r. ⌜ r ≡ roomRefusal (passOf (now (first .entry)) (now («first_marks» .entry))) image marks ⌝ }
+{
+    if (image < first.len()) | (marks < first_marks.len()) {
+        return SPACE_SHORT;
     }
     DONE
 }
@@ -52,13 +62,11 @@ fn merge_refusal(
         return MARK_VALUE;
     }
     let pair = pair_refusal(first, first_marks, second, second_marks);
+    let room = room_refusal(first, first_marks, image, marks);
     if pair != DONE {
         return pair;
     }
-    if (image < first.len()) | (marks < first_marks.len()) {
-        return SPACE_SHORT;
-    }
-    DONE
+    room
 }
 
 // The merged image and its marks, which fill their spaces.

@@ -35,25 +35,22 @@ pair-refusal-requires c κs =
       pass-numbers _ (λ e. eqb-false _ _ not-9' (other ∙ e)) (λ e. eqb-false _ _ not-10' (other ∙ e)),
     )
 
+room-refusal-requires : tie.Need-room-refusal-requires
+room-refusal-requires c κs = search needs
+
 returns-3 : tie.Need-returns-3
 unfolding mergeRefusal eitherRefused pick
 returns-3 c =
-    let t = c .before .before in
-    simp (← t .before .before .before .whole-refusal .ensures, ← t .before .before .whole-refusal2 .ensures, t .before .if1 .left, t .if2 .left, ← c .before .pair-refusal .ensures, ne-eqb _ _ (c .if3 .taken))
+    let p = c .before .before in
+    let t = p .before in
+    simp (← t .before .before .before .whole-refusal .ensures, ← t .before .before .whole-refusal2 .ensures, t .before .if1 .left, t .if2 .left, ← p .pair-refusal .ensures, ne-eqb _ _ (c .if3 .taken))
 
 returns-4 : tie.Need-returns-4
 unfolding mergeRefusal eitherRefused pick
 returns-4 c =
     let p = c .before .before in
     let t = p .before in
-    simp (← t .before .before .before .whole-refusal .ensures, ← t .before .before .whole-refusal2 .ensures, t .before .if1 .left, t .if2 .left, ← p .pair-refusal .ensures, eq-eqb _ _ (c .before .if3 .left), c .if4 .taken)
-
-returns-5 : tie.Need-returns-5
-unfolding mergeRefusal eitherRefused pick
-returns-5 c =
-    let p = c .before .before in
-    let t = p .before in
-    simp (← t .before .before .before .whole-refusal .ensures, ← t .before .before .whole-refusal2 .ensures, t .before .if1 .left, t .if2 .left, ← p .pair-refusal .ensures, eq-eqb _ _ (c .before .if3 .left), c .if4 .left)
+    simp (← t .before .before .before .whole-refusal .ensures, ← t .before .before .whole-refusal2 .ensures, t .before .if1 .left, t .if2 .left, ← p .pair-refusal .ensures, ← c .before .room-refusal .ensures, eq-eqb _ _ (c .if3 .left))
 
 pub merge-refusal-spec : {M : Type 1} → statement M
 merge-refusal-spec =
@@ -64,6 +61,6 @@ merge-refusal-spec =
     returns
     returns-2
     pair-refusal-requires
+    room-refusal-requires
     returns-3
-    returns-4
-    returns-5)
+    returns-4)
