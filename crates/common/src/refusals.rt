@@ -36,3 +36,5 @@ pub const UNRESTORABLE: u32 = 12;
 pub const COUNTS_DIFFER: u32 = 13;
 // "a blockette is good in both and unlike"
 pub const BLOCKETTES_UNLIKE: u32 = 14;
+// "a place that is neither in the host bytes nor the value for none"
+pub const NO_SUCH_PLACE: u32 = 15;
