@@ -152,14 +152,7 @@ impl Controller {
             return refused_transfer(TRANSFER_NOT_AWAITED, self);
         };
         let written = drive_of(self.body.drives, self.body.selected);
-        let refusal = data_refusal(
-            written,
-            store,
-            host.len(),
-            place,
-            space.len(),
-            check.len(),
-        );
+        let refusal = data_refusal(written, store, host.len(), place, space.len(), check.len());
         if refusal != 0 {
             return refused_transfer(refusal, self);
         }
