@@ -8,20 +8,19 @@ ghost use lib.ListN.{length};
 ghost use Rattle.blockettes.specs.Blockettes.{blocketteLength};
 ghost use Rattle.passes.specs.Passes.{sameBytes, clashAt, clashes, takesSecond, mergedMark, mergedAt, mergedMarks, mergedBlockettes};
 
-// Whether two strings of one length have the same bytes.
+// Whether two strings of one length have the same bytes. All are looked at, since a loop without a way out takes many in a step.
 fn same_bytes(a: &[u8], b: &[u8]) -> bool
     requires { ⌜ length (now b) ≡ length (now a) ⌝ }
     ensures { λ r. ⌜ r ≡ sameBytes (now (a .entry)) (now (b .entry)) ⌝ }
 {
     let n = a.len();
+    let mut same = true;
     let mut at = 0;
     while at < n {
-        if a[at] != b[at] {
-            return false;
-        }
+        same = same & (a[at] == b[at]);
         at += 1;
     }
-    true
+    same
 }
 
 // Whether a blockette comes from the second pass: it is bad in the first and good in the second.
