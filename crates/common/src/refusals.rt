@@ -1,4 +1,5 @@
-// The refusals of the calls: document 01's numbers and words ("Turned back"). Where more than one holds, the lowest is given.
+// The refusals of the calls: the papers' numbers and words (document 01, "Turned back"; document 02). Where more than one of document 01's holds, the
+// lowest is given; where those of document 02 stand, their wishes say.
 
 // Not refused.
 pub const DONE: u32 = 0;
