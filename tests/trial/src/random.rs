@@ -4,7 +4,7 @@ use crate::{Call, Lent, TOLD};
 use machine::generator::Random;
 use machine::records::{image_length, Density, CHECK_BYTES, NO_PLACE, RECORD_LIMIT};
 
-/// Places that are none in fewer bits.
+/// Places that would do in 16 or 32 bits, and the highest.
 const FAR: [usize; 5] = [
     1 << 16,
     (1 << 16) + NO_PLACE,
