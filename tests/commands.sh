@@ -70,7 +70,8 @@ stands_on session >session.crates
 
 # in place of all tests, so that .ci/run of the copy comes to an end
 printf '#!/bin/sh\necho 3 passed, 0 failed\n' >tree/tests/run
-chmod +x tree/tests/run
+printf '#!/bin/sh\necho 1 passed, 0 failed\n' >tree/tests/edits
+chmod +x tree/tests/run tree/tests/edits
 
 # As rt does it: a line for each crate that a program stands on, and, of a library, for each but the library itself. `rt ci` waits
 # where the file hangs is there, as in a long proof, one process in a group of its own.
@@ -108,7 +109,7 @@ ci)
     proved \$all
     for crate in \$all; do echo "rt: must-fail \$crate/wrong: refused, as it must be (1 s)"; done
     made '$program' target/bin/session
-    echo "22 passed, 0 failed"
+    echo "$((2 * crates)) passed, 0 failed"
     ;;
 *) exit 2 ;;
 esac
@@ -337,8 +338,8 @@ ci_ends() { # REDIRECTION
     fi
     status=$?
     ended 0 || return
-    # the layout, all crates and edits, and the stand-in's three tests
-    [ "$(tail -n 1 said)" = "26 passed, 0 failed" ] || no "its last line: $(tail -n 1 said)" || return
+    # the layout, what the edits edit, all crates and edits, and the stand-in's three tests
+    [ "$(tail -n 1 said)" = "$((2 * crates + 5)) passed, 0 failed" ] || no "its last line: $(tail -n 1 said)" || return
     progress_whole said "$crates" || return
     grep -qF "must-fail edit $crates of $crates" said || no "not all edits" || return
     grep -qxF "kit: kit one" said || no "no kit" || return
@@ -352,7 +353,7 @@ ci_fails() {
     with_rt bash tree/.ci/run
     printf '#!/bin/sh\necho 3 passed, 0 failed\n' >tree/tests/run
     [ "$status" -eq 1 ] || no "status $status" || return
-    [ "$(tail -n 1 said)" = "25 passed, 1 failed" ] || no "its last line: $(tail -n 1 said)"
+    [ "$(tail -n 1 said)" = "$((2 * crates + 4)) passed, 1 failed" ] || no "its last line: $(tail -n 1 said)"
 }
 check ".ci/run hands a failure on" ci_fails
 

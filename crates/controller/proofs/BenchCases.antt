@@ -27,6 +27,7 @@ use Rattle.status.specs.Strings.{stringOf, orderOf}
 use Rattle.link.specs.declared.state.Body.{Body}
 use Rattle.controller.specs.declared.controller.Controller.{Controller}
 use Rattle.link.specs.declared.state.Action.the-variants.{Nothing, Byte}
+use Rattle.link.specs.declared.state.Handed.the-variants.{NoneHanded}
 use Rattle.link.specs.State.{storeOf, startBody, resetState, review, idle}
 use Rattle.link.specs.Completion.{primaryNow, sendWord, sendInterrupt, complete}
 use Rattle.operations.specs.Store.{asksInterrupt, namesDrive, namedDrive, namesUnknown, selectedBy, askedFor, thrownAway, heldCount, suppliedCount}
@@ -36,7 +37,7 @@ use Rattle.link.specs.Loads.{loadWord, carryOutLoad}
 use Rattle.controller.specs.Controller.{fresh}
 use Rattle.controller.specs.Stores.{endWith, settle, endOperation, motionOrder, pastTest, orderMove, begin, follow, clearOutcome, carryOutOn, carryOut}
 use Rattle.transfers.specs.Data.{checkBytes, recordBytes, runsShort, dataRefusal, dataWords, settleData}
-use Rattle.transfers.specs.Results.{markAgainst, resultRefusal, isGone, marksRead, codeReported, finalCode, readsGcr, recordCount, usedCount, verdictOf, readCount, readBytes, deliveredBytes, tornBytes, bytesRead, fitting, resultCheck, resultTertiary, resultQuintary, wroteWell, resultSecondary, resultBits, withRetry, resultWords, resultGap, settleResult}
+use Rattle.transfers.specs.Results.{markAgainst, resultRefusal, isGone, marksRead, codeReported, finalCode, readsGcr, recordCount, usedCount, verdictOf, readCount, readBytes, deliveredBytes, tornBytes, bytesRead, fitting, resultCheck, resultTertiary, resultQuintary, wroteWell, resultCount, resultBits, withRetry, resultWords, resultGap, settleResult}
 use Rattle.controller.specs.Records.{Answer, dataDone, resultDone}
 use Rattle.link.specs.Damaged.{soundDrive, soundDrives, soundBody, soundLead, soundPart, soundString, soundCount, soundHeld, soundPhase, isSound}
 use Rattle.controller.specs.Machine.{byteIn, brokenIn, tickIn, byteCall, brokenCall, tickCall, carryOutString, takenIn, takenCall, reportNoted, reportCall, resetCall, dataFor, resultFor, dataIn, dataCall, resultIn, resultCall, Call, step}
@@ -48,7 +49,7 @@ after c [] answer = answer
 after c (call ∷ calls) answer = after (step c call .reply .controller) calls (step c call)
 
 abbrev played : List Call → Answer
-played calls = after fresh calls (record { reply = record { controller = fresh; action = Nothing; refusal = 0 }; bytes = 0; space = []; check = [] })
+played calls = after fresh calls (record { reply = record { controller = fresh; action = Nothing; refusal = 0; handed = NoneHanded }; bytes = 0; space = []; check = [] })
 
 abbrev left : List Call → Body
 left calls = played calls .reply .controller .body
@@ -100,35 +101,35 @@ pub record BenchCases : Type 0 where
   pub counted : primaryNow (left (readOn 0x22 (0x80 ∷ 0x02 ∷ 1 ∷ 2 ∷ 3 ∷ 4 ∷ 5 ∷ []) false)) ≡ record { b0 = 0x81; b1 = 0x20; b2 = 0x02; b3 = 0x22 }
   pub marked : primaryNow (left (readOn 0x22 [] true)) ≡ record { b0 = 0x81; b1 = 0xA0; b2 = 0x00; b3 = 0x22 }
   -- "Track 3, then 4: code 03."
-  pub track-4 : left (store 0x38 0x00 0x00 0x00 0x03 0x5F ++ store 0x38 0x00 0x00 0x00 0x04 0x58) .outcome .code ≡ 0x03
+  pub track-4 : left (store 0x38 0x00 0x00 0x00 0x03 0x5F ++ store 0x38 0x00 0x00 0x00 0x04 0x58) .outcome .result .code ≡ 0x03
   -- "Count 16,384 offers GO"; "The bench case of 16,385 now offers GO." (document 02, Wish 3), and so does 65,535
   pub longest-before : played (report 1 0x22 ∷ store 0x59 0x00 0x00 0x40 0x00 0x7D) .reply .action ≡ Byte 0x47
   pub longer : played (report 1 0x22 ∷ store 0x59 0x00 0x00 0x40 0x01 0x7C) .reply .action ≡ Byte 0x47
   pub longest : played (report 1 0x22 ∷ store 0x59 0x00 0x00 0xFF 0xFF 0x3D) .reply .action ≡ Byte 0x47
   -- "Drive 7: 01."
-  pub drive-7 : left (store 0x4F 0x00 0x00 0x00 0x00 0x2B) .outcome .code ≡ 0x01
+  pub drive-7 : left (store 0x4F 0x00 0x00 0x00 0x00 0x2B) .outcome .result .code ≡ 0x01
   -- "Read with report #A2: 04."
-  pub at-end : left (report 1 0xA2 ∷ store 0x49 0x00 0x00 0x00 0x00 0x2D) .outcome .code ≡ 0x04
+  pub at-end : left (report 1 0xA2 ∷ store 0x49 0x00 0x00 0x00 0x00 0x2D) .outcome .result .code ≡ 0x04
   -- "c = 600, mark 9 on blockette 1, 3 on check 0: 91013200, code 15."
   pub one-of-each : left (gcrRead (imageOf (replicate 600 7) 1) (15 ∷ 9 ∷ 15 ∷ 15 ∷ 3 ∷ [])) .tertiary ≡ record { b0 = 0x91; b1 = 0x01; b2 = 0x32; b3 = 0x00 }
-  pub code-15 : left (gcrRead (imageOf (replicate 600 7) 1) (15 ∷ 9 ∷ 15 ∷ 15 ∷ 3 ∷ [])) .outcome .code ≡ 0x15
+  pub code-15 : left (gcrRead (imageOf (replicate 600 7) 1) (15 ∷ 9 ∷ 15 ∷ 15 ∷ 3 ∷ [])) .outcome .result .code ≡ 0x15
   -- "6 on 2, 4 on 0: 00006102, quintary 00004100, code 16, 512 bytes."
   pub two-even : left (gcrRead (imageOf (replicate 600 7) 1) (6 ∷ 15 ∷ 4 ∷ 15 ∷ 15 ∷ [])) .tertiary ≡ record { b0 = 0x00; b1 = 0x00; b2 = 0x61; b3 = 0x02 }
   pub stopped : left (gcrRead (imageOf (replicate 600 7) 1) (6 ∷ 15 ∷ 4 ∷ 15 ∷ 15 ∷ [])) .quintary ≡ record { b0 = 0x00; b1 = 0x00; b2 = 0x41; b3 = 0x00 }
-  pub code-16 : left (gcrRead (imageOf (replicate 600 7) 1) (6 ∷ 15 ∷ 4 ∷ 15 ∷ 15 ∷ [])) .outcome .code ≡ 0x16
+  pub code-16 : left (gcrRead (imageOf (replicate 600 7) 1) (6 ∷ 15 ∷ 4 ∷ 15 ∷ 15 ∷ [])) .outcome .result .code ≡ 0x16
   pub bytes-512 : played (gcrRead (imageOf (replicate 600 7) 1) (6 ∷ 15 ∷ 4 ∷ 15 ∷ 15 ∷ [])) .space ≡ replicate 512 7 ++ replicate 88 0
   -- "c = 1, byte 5A: the 257th check byte is 5A."
   pub check-257 : getD (played (gcrWrite 0x5A) .check) 256 0 ≡ 0x5A
   -- "The first blockette counts as a data error with mark 0 .., and its bytes are delivered as zeros."; "A result sets bits 21 and 22"
   pub torn-tertiary : left tornRead .tertiary ≡ record { b0 = 0x00; b1 = 0x00; b2 = 0x01; b3 = 0x02 }
-  pub torn-code : left tornRead .outcome .code ≡ 0x15
+  pub torn-code : left tornRead .outcome .result .code ≡ 0x15
   pub torn-bytes : played tornRead .space ≡ replicate 256 0 ++ replicate 256 2 ++ replicate 88 3
-  pub torn-count : left tornRead .secondary ≡ 600
+  pub torn-count : left tornRead .outcome .result .count ≡ 600
   pub torn-primary : primaryNow (left tornRead) ≡ record { b0 = 0xA1; b1 = 0x35; b2 = 0x07; b3 = 0x22 }
   -- and the check blockettes from which the host restores it: the odd one is blockette 1, the even one blockettes 2 and 0
   pub torn-check : played tornRead .check ≡ replicate 256 2 ++ replicate 88 2 ++ replicate 168 1
   -- "It needs GCR, otherwise code 02"
-  pub supplied-in-mfm : left (report 1 0x22 ∷ store 0x49 0x80 0x00 0x02 0x58 0xF7) .outcome .code ≡ 0x02
+  pub supplied-in-mfm : left (report 1 0x22 ∷ store 0x49 0x80 0x00 0x02 0x58 0xF7) .outcome .result .code ≡ 0x02
 
 pub bench-cases : BenchCases
 unfolding pick given filled _⊕_ xorAll blocketteAt numbered ofParity foldParity checkOf legalMark legalMarks isError tornMarks scanFrom scanMarks kindOf
@@ -141,7 +142,7 @@ unfolding pick given filled _⊕_ xorAll blocketteAt numbered ofParity foldParit
     askedFor endWith settle withTrack motionOrder pastTest orderMove begin clearOutcome namesUnknown selectedBy testOf courseOf follow
     carryOutOn carryOut checkBytes thrownAway heldCount suppliedCount recordBytes runsShort dataRefusal dataDone dataFor resultFor takesMark isSkip isSearch markAgainst
     wholeCode expectedWhole expectedSupplied expectedOf resultRefusal movesTape isGone marksRead codeReported finalCode readsGcr resultTertiary resultQuintary resultCheck readBytes fitting
-    wroteWell resultSecondary resultBits withRetry endOperation resultDone isFound findingsOf checksAlone dataWords settleData recordCount usedCount verdictOf readCount
+    wroteWell resultCount resultBits withRetry endOperation resultDone isFound findingsOf checksAlone dataWords settleData recordCount usedCount verdictOf readCount
     deliveredBytes tornBytes bytesRead resultWords resultGap settleResult soundDrive soundDrives soundBody soundLead soundPart soundString soundCount soundHeld soundPhase
     isSound byteIn brokenIn tickIn byteCall brokenCall tickCall carryOutString takenIn takenCall reportCall resetCall dataIn dataCall resultIn
     resultCall step

@@ -34,7 +34,7 @@ use Rattle.link.specs.State.{storeOf, offered, startBody, withFlags, withCurren
 use Rattle.link.specs.Link.{yesToGo}
 use Rattle.transfers.specs.declared.verdict.Verdict.{Verdict}
 use Rattle.transfers.specs.Data.{dataWords, settleData}
-use Rattle.transfers.specs.Results.{Result, resultRefusal, isGone, findingsRead, codeReported, recordCount, usedCount, verdictOf, wroteWell, resultSecondary, resultBits, withRetry, resultWords, settleResult}
+use Rattle.transfers.specs.Results.{Result, resultRefusal, isGone, findingsRead, codeReported, recordCount, usedCount, verdictOf, wroteWell, resultCount, resultBits, withRetry, resultWords, settleResult}
 use Rattle.transfers.proofs.ResultLaws.{supplied-none, final-zero, reported-zero}
 use Rattle.controller.specs.declared.controller.Controller.{Controller}
 use Rattle.controller.specs.Controller.{fresh, carried}
@@ -73,12 +73,12 @@ free-hand last counted = by-free (InHand last counted) (λ s. tt) (λ s. tt) (λ
 
 record Kept (last : Store) (own : OwnRecord) (b : Body) (phase : Phase) : Type 0 where
   pub hand : InHand last (b .outcome .counted) phase
-  pub valid : b .outcome .counted ≡ true → own ≡ recordOf (b .secondary)
-  pub holds : HeldUpToDate (b .outcome .counted) (b .secondary) phase
+  pub valid : b .outcome .counted ≡ true → own ≡ recordOf (b .outcome .result .count)
+  pub holds : HeldUpToDate (b .outcome .counted) (b .outcome .result .count) phase
 
 record Goes (last : Store) (own : OwnRecord) (t : Turn) : Type 0 where
   pub kept : Kept last own (t .body) (t .phase)
-  pub says : SentUpToDate (t .body .outcome .counted) (t .body .secondary) (t .action)
+  pub says : SentUpToDate (t .body .outcome .counted) (t .body .outcome .result .count) (t .action)
 
 -- what is claimed of a call
 abbrev Keeps : Controller → Exchange → Type 0
@@ -91,7 +91,7 @@ rests-keep :
     (last : Store) (own : OwnRecord) (b : Body) (t : Turn)
     → Rests b t
     → StringsUpToDate t
-    → (b .outcome .counted ≡ true → own ≡ recordOf (b .secondary))
+    → (b .outcome .counted ≡ true → own ≡ recordOf (b .outcome .result .count))
     → Goes last own t
 rests-keep last own b t rests strings valid =
     record {
@@ -127,17 +127,17 @@ refusals-case c call number space check some at-space at-check last own before =
 
 link-case : OfLink Keeps
 unfolding LinkCall lastStore carriesOut isTaken notRefused holdsStore ownRecord recordAfter pick
-link-case c (byte value) t free rests strings last own before = rests-keep last own (c .body) t rests (strings (before .holds)) (before .valid)
-link-case c broken t free rests strings last own before = rests-keep last own (c .body) t rests (strings (before .holds)) (before .valid)
-link-case c tick t free rests strings last own before = rests-keep last own (c .body) t rests (strings (before .holds)) (before .valid)
-link-case c taken t (free, load) rests strings last own before =
+link-case c (byte value) t free rests strings none last own before = rests-keep last own (c .body) t rests (strings (before .holds)) (before .valid)
+link-case c broken t free rests strings none last own before = rests-keep last own (c .body) t rests (strings (before .holds)) (before .valid)
+link-case c tick t free rests strings none last own before = rests-keep last own (c .body) t rests (strings (before .holds)) (before .valid)
+link-case c taken t (free, load) rests strings none last own before =
     let none = ap not load in
     as-before c (exchanged taken (plain (carried t))) last own t none (pick-no noRecord own none)
     (rests-keep last own (c .body) t rests (strings (before .holds)) (before .valid))
-link-case c (report drive r) t links rests strings last own before = absurd links
-link-case c (hostData host space check) t links rests strings last own before = absurd links
-link-case c (result r space check) t links rests strings last own before = absurd links
-link-case c reset t links rests strings last own before = absurd links
+link-case c (report drive r) t links rests strings none last own before = absurd links
+link-case c (hostData host space check) t links rests strings none last own before = absurd links
+link-case c (result r space check) t links rests strings none last own before = absurd links
+link-case c reset t links rests strings none last own before = absurd links
 
 no-case : OfNo Keeps
 unfolding SaysNo lastStore carriesOut isTaken notRefused ownRecord recordAfter pick
@@ -230,7 +230,7 @@ module _ (drive : Drive) (operation : Operation) (last store : Store) (r : Resul
   verdict = verdictOf drive operation store r
 
   abbrev told : Type 0
-  told = passedBy last r ≡ recordOf (resultSecondary verdict operation store before)
+  told = passedBy last r ≡ recordOf (resultCount verdict operation store before)
 
   -- the last store asks for the operation that ends
   asks-is : (this : Operation) → asksFor this (askedFor last) ≡ sameOperation operation this
@@ -239,7 +239,7 @@ module _ (drive : Drive) (operation : Operation) (last store : Store) (r : Resul
 
   -- a supplied count is the store's own
   supplied-told : verdict .supplied ≡ true → told
-  unfolding passedBy suppliedBy resultSecondary verdictOf suppliedCount
+  unfolding passedBy suppliedBy resultCount verdictOf suppliedCount
   supplied-told set =
       by-test (suppliesCount operation)
       (λ supplies.
@@ -254,7 +254,7 @@ module _ (drive : Drive) (operation : Operation) (last store : Store) (r : Resul
   module _ (unset : verdict .supplied ≡ false) where
     -- an image that counts is the result's own
     image-told : suppliesCount operation ≡ false → verdict .used ≡ true → told
-    unfolding passedBy resultSecondary verdictOf usedCount recordCount
+    unfolding passedBy resultCount verdictOf usedCount recordCount
     image-told own uses =
         let (there, some) = both-hold (not (isGone drive operation)) (not (eqb (length (r .image)) 0)) uses in
         pick-no _ _ (asks-is SuppliedCount ∙ own)
@@ -263,7 +263,7 @@ module _ (drive : Drive) (operation : Operation) (last store : Store) (r : Resul
 
     -- a write well done is the store's own
     write-told : suppliesCount operation ≡ false → verdict .used ≡ false → wroteWell operation (verdict .code) ≡ true → told
-    unfolding passedBy resultSecondary verdictOf wroteWell
+    unfolding passedBy resultCount verdictOf wroteWell
     write-told own unused well =
         let (writes, zero) = both-hold (sameOperation operation Write) (eqb (verdict .code) 0) well in
         let (there, reported) = final-zero (isGone drive operation) (codeReported operation store (r .code)) (findingsRead operation (r .marks)) (eqb-true (verdict .code) 0 zero) in
@@ -308,7 +308,7 @@ ended b operation held drive r space check good last own before =
     let verdict = verdictOf drive operation held r in
     let body = withAfter b (settleResult (wordsOf b) drive operation held r (length space) check) in
     rests-keep last (passedBy last r) body _ (ending-rests body operation held) (ending-strings body operation held)
-    (λ set. either-told drive operation last held r (b .secondary) (length check) (mine .same) (mine .asks) good
+    (λ set. either-told drive operation last held r (b .outcome .result .count) (length check) (mine .same) (mine .asks) good
     (sym (ap (λ (t : Bool). t || (verdict .supplied || (verdict .used || wroteWell operation (verdict .code)))) (mine .none)) ∙ set))
 
 results-case : OfResults Keeps

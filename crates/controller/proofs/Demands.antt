@@ -1,7 +1,7 @@
 -- The three demands, of the calls themselves. 1: `calls-meet-their-contracts` and `refused-calls-change-nothing`. 2: `calls-run-the-machine`: a list of exchanges from a fresh
 -- controller in which every answer is one that the contract of its call's own function allows is the machine's run. 3:
 -- `calls-keep-drives-separate`: the drives are separate in any two such lists. And of every such list: `calls-count-their-own-record`, and
--- `calls-order-what-was-asked`; of any result: `calls-ask-trusted-retries`.
+-- `calls-order-what-was-asked` and `calls-hand-back-each-record`; of any result: `calls-ask-trusted-retries`.
 -- Assumes nothing.
 pub mod Contracts
 use mathlib.Core.Path.{_≡_, refl, sym, ap, ap₂, subst, subst₂, _∙_}
@@ -18,11 +18,13 @@ use Rattle.controller.specs.Separation.{Separate}
 use Rattle.controller.specs.Counts.{CountsAreOwn}
 use Rattle.controller.specs.Orders.{OrdersAreAsked}
 use Rattle.controller.specs.Retry.{RetryTrusted}
+use Rattle.controller.specs.Handed.{RecordsAreHanded}
 use Rattle.controller.proofs.RefusedCalls.{steps-refused-unchanged}
 use Rattle.controller.proofs.DrivesAreSeparate.{drives-are-separate}
 use Rattle.controller.proofs.CountsAreOwn.{counts-are-own}
 use Rattle.controller.proofs.OrdersAreAsked.{orders-are-asked}
 use Rattle.controller.proofs.RetriesAreTrusted.{retries-are-trusted}
+use Rattle.controller.proofs.RecordsAreHanded.{records-are-handed}
 use Rattle.controller.proofs.controller.fresh_controller.Reads as fresh-reads
 use Rattle.controller.proofs.Demands.Contracts.{Allows, Meet, all-met, answers-are-steps, steps-are-allowed}
 
@@ -94,6 +96,11 @@ calls-count-their-own-record xs made = subst CountsAreOwn (sym (calls-run-the-ma
 -- Every motion order is the one that its store asked for, of the drive that it selected; none goes out unasked, and no store gives two.
 pub calls-order-what-was-asked : (xs : List Exchange) → FromFresh xs → OrdersAreAsked xs
 calls-order-what-was-asked xs made = subst OrdersAreAsked (sym (calls-run-the-machine xs made)) (orders-are-asked (callsOf xs))
+
+-- The record of code, motion and count is handed back once for each store that ended, and is what primary and secondary then show; nothing else
+-- hands one back, and none is lost.
+pub calls-hand-back-each-record : (xs : List Exchange) → FromFresh xs → RecordsAreHanded xs
+calls-hand-back-each-record xs made = subst RecordsAreHanded (sym (calls-run-the-machine xs made)) (records-are-handed (callsOf xs))
 
 -- ---- the retry bit
 

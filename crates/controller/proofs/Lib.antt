@@ -7,5 +7,6 @@ pub mod DrivesAreSeparate
 pub mod CountsAreOwn
 pub mod OrdersAreAsked
 pub mod RetriesAreTrusted
+pub mod RecordsAreHanded
 pub mod Demands
 pub mod WrongAnswers

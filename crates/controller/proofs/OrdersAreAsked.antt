@@ -65,16 +65,16 @@ refusals-case c call number space check some at-space at-check a before =
 
 link-case : OfLink Complying
 unfolding LinkCall noted notRefused callNoted holdsStore pick
-link-case c (byte value) t free rests strings a before = rests-comply a (c .body) t rests (before .agrees)
-link-case c broken t free rests strings a before = rests-comply a (c .body) t rests (before .agrees)
-link-case c tick t free rests strings a before = rests-comply a (c .body) t rests (before .agrees)
-link-case c taken t (free, load) rests strings a before =
+link-case c (byte value) t free rests strings none a before = rests-comply a (c .body) t rests (before .agrees)
+link-case c broken t free rests strings none a before = rests-comply a (c .body) t rests (before .agrees)
+link-case c tick t free rests strings none a before = rests-comply a (c .body) t rests (before .agrees)
+link-case c taken t (free, load) rests strings none a before =
     as-before c (exchanged taken (plain (carried t))) a t (pick-no (storeNoted a (heldStore c)) a (ap not load))
     (rests-comply a (c .body) t rests (before .agrees))
-link-case c (report drive r) t links rests strings a before = absurd links
-link-case c (hostData host space check) t links rests strings a before = absurd links
-link-case c (result r space check) t links rests strings a before = absurd links
-link-case c reset t links rests strings a before = absurd links
+link-case c (report drive r) t links rests strings none a before = absurd links
+link-case c (hostData host space check) t links rests strings none a before = absurd links
+link-case c (result r space check) t links rests strings none a before = absurd links
+link-case c reset t links rests strings none a before = absurd links
 
 no-case : OfNo Complying
 unfolding SaysNo noted notRefused callNoted pick

@@ -12,7 +12,7 @@ Unmoved c x = RefusedUnchanged c (x .call) (x .answer)
 
 refusals-case : OfRefusals Unmoved
 refusals-case c call number space check some at-space at-check refused =
-    record { state = refl; action = refl; bytes = refl; space = at-space; check = at-check }
+    record { state = refl; action = refl; handed = refl; bytes = refl; space = at-space; check = at-check }
 
 writes-case : OfData Unmoved
 unfolding dataIn dataDone
@@ -26,7 +26,7 @@ unmoved : Kinds Unmoved
 unmoved =
     record {
       refusals = refusals-case;
-      link = λ c call t links rests strings refused. absurd (refused refl);
+      link = λ c call t links rests strings none refused. absurd (refused refl);
       stores = λ b s lead refused. absurd (refused refl);
       reports = λ c n r within refused. absurd (refused refl);
       yes = λ b held value accepts refused. absurd (refused refl);

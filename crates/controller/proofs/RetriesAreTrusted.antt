@@ -32,7 +32,7 @@ use Rattle.link.specs.Completion.{primaryNow, sendWord, sendInterrupt, complete
 use Rattle.link.specs.Damaged.{isSound}
 use Rattle.transfers.specs.Results.{Result, resultRefusal, findingsRead, verdictOf, resultBits, withRetry, resultWords, settleResult}
 use Rattle.controller.specs.declared.controller.Controller.{Controller}
-use Rattle.controller.specs.Stores.{endOperation}
+use Rattle.controller.specs.Stores.{settle, endOperation}
 use Rattle.controller.specs.Records.{Answer, wordsOf, withAfter, resultDone}
 use Rattle.controller.specs.Machine.{resultFor, resultIn, resultCall}
 use Rattle.controller.specs.Retry.{bit2, wentWell, anotherBit, TrustedRetry, TrustedIn, RetryTrusted}
@@ -119,30 +119,30 @@ lost-code operation code alone =
 
 -- ---- an outcome whose bit 2 is by the rule
 
-module _ (operation : Operation) (found : Findings) (o : Outcome) (is : o .retry ≡ retryOf operation (o .code) (checksAlone found) (anyBit o (not (isSkip operation)))) where
-  clear-told : operation ≡ SkipForward → wentWell (o .code) found ≡ true → anotherBit o ≡ false → o .retry ≡ false
+module _ (operation : Operation) (found : Findings) (o : Outcome) (is : o .retry ≡ retryOf operation (o .result .code) (checksAlone found) (anyBit o (not (isSkip operation)))) where
+  clear-told : operation ≡ SkipForward → wentWell (o .result .code) found ≡ true → anotherBit o ≡ false → o .retry ≡ false
   unfolding retryOf anyBit anotherBit isSkip
   clear-told skips well none =
       is
-      ∙ ap (λ (x : Operation). codeRetry x (o .code) (checksAlone found) || anyBit o (not (isSkip x))) skips
-      ∙ ap₂ (λ (t u : Bool). t || (o .parity || (o .overflow || (o .underflow || (u || o .rdl))))) (well-clear (o .code) found well) (and-false (o .wdl))
+      ∙ ap (λ (x : Operation). codeRetry x (o .result .code) (checksAlone found) || anyBit o (not (isSkip x))) skips
+      ∙ ap₂ (λ (t u : Bool). t || (o .parity || (o .overflow || (o .underflow || (u || o .rdl))))) (well-clear (o .result .code) found well) (and-false (o .wdl))
       ∙ none
 
-  set-told : (losesTape (o .code) || eqb (o .code) unrecoverable) ≡ true → o .retry ≡ true
+  set-told : (losesTape (o .result .code) || eqb (o .result .code) unrecoverable) ≡ true → o .retry ≡ true
   unfolding retryOf
-  set-told lost = is ∙ ap (λ (t : Bool). t || anyBit o (not (isSkip operation))) (lost-code operation (o .code) (checksAlone found) lost)
+  set-told lost = is ∙ ap (λ (t : Bool). t || anyBit o (not (isSkip operation))) (lost-code operation (o .result .code) (checksAlone found) lost)
 
 -- ---- a result
 
 -- its end leaves the outcome
-completed-outcome : (b : Body) (asked : Bool) → complete b asked .body .outcome ≡ b .outcome
+pub completed-outcome : (b : Body) (asked : Bool) → complete b asked .body .outcome ≡ b .outcome
 unfolding complete sendInterrupt sendWord idle review
 completed-outcome b asked =
     pick-by (λ (t : Turn). t .body .outcome ≡ b .outcome) asked (λ asks. pick-by (λ (t : Turn). t .body .outcome ≡ b .outcome) (b .outcome .counted) (λ counted. refl) (λ none. refl))
     (λ none. refl)
 
-ended-outcome : (b : Body) (operation : Operation) (store : Store) → endOperation b operation store .body .outcome ≡ b .outcome
-unfolding endOperation
+pub ended-outcome : (b : Body) (operation : Operation) (store : Store) → endOperation b operation store .body .outcome ≡ b .outcome
+unfolding endOperation settle
 ended-outcome b operation store =
     pick-by (λ (t : Turn). t .body .outcome ≡ b .outcome) (offersEnd operation) (λ offers. refl) (λ none. completed-outcome b (asksInterrupt store))
 
@@ -156,14 +156,14 @@ ended b drive operation store r space check =
     let found = findingsRead operation (r .marks) in
     let after = endOperation body operation store .body in
     let kept = ended-outcome body operation store in
-    let is = subst (λ (o : Outcome). o .retry ≡ retryOf operation (o .code) (checksAlone found) (anyBit o (not (isSkip operation)))) (sym kept) (by-rule (resultBits (verdictOf drive operation store r) (b .outcome) operation (r .mark) (r .late) _ (length space))) in
+    let is = subst (λ (o : Outcome). o .retry ≡ retryOf operation (o .result .code) (checksAlone found) (anyBit o (not (isSkip operation)))) (sym kept) (by-rule (resultBits (verdictOf drive operation store r) (b .outcome) operation store (r .mark) (r .late) _ (length space))) in
     record {
       clear = λ skips well none. bit-is after ∙ clear-told operation found (after .outcome) is skips well none;
       set = λ lost. bit-is after ∙ set-told operation found (after .outcome) is lost;
     }
   where
     -- the rule does not look at the bit itself
-    by-rule : (o : Outcome) → withRetry o operation (findingsRead operation (r .marks)) .retry ≡ retryOf operation (o .code) (checksAlone (findingsRead operation (r .marks))) (anyBit o (not (isSkip operation)))
+    by-rule : (o : Outcome) → withRetry o operation (findingsRead operation (r .marks)) .retry ≡ retryOf operation (o .result .code) (checksAlone (findingsRead operation (r .marks))) (anyBit o (not (isSkip operation)))
     by-rule o = refl
 
 in-phase :

@@ -2,6 +2,7 @@
 -- Assumes nothing.
 pub mod Resting
 pub mod Strings
+pub mod Handing
 use mathlib.Core.Path.{_≡_, refl}
 use Prim.Native.Nat.{ℕ, _≤_}
 use native.Mathlib.Omega.{arith}
@@ -36,6 +37,7 @@ use Rattle.controller.specs.Machine.{unchanged, byteIn, brokenIn, tickIn
 use Rattle.controller.specs.Refused.{lentSpace, lentCheck}
 use Rattle.controller.specs.Machine.Call.{byte, taken, broken, report, hostData, result, tick, reset}
 use Rattle.controller.proofs.Steps.Resting.{Free, NoOrder, Rests, idle-rests, given-up-rests, byte-rests, send-rests, completed-rests, tick-rests, loaded-rests}
+use Rattle.controller.proofs.Steps.Handing.{Unhanded, idle-unhanded, completed-unhanded, byte-unhanded, given-up-unhanded, send-unhanded, tick-unhanded, loaded-unhanded}
 use Rattle.controller.proofs.Steps.Strings.{HeldUpToDate, SentUpToDate, StringsUpToDate, idle-strings, given-up-strings, byte-strings, send-strings, completed-strings, tick-strings, loaded-strings}
 
 -- ---- the kinds
@@ -70,7 +72,7 @@ SaysNo reset = ⊥
 
 -- what a reply leaves and does
 abbrev pub turnOf : Reply → Turn
-turnOf reply = record { body = reply .controller .body; phase = reply .controller .phase; action = reply .action }
+turnOf reply = record { body = reply .controller .body; phase = reply .controller .phase; action = reply .action; handed = reply .handed }
 
 -- what is claimed of a call in a state, with its answer
 abbrev pub Claim : Type 1
@@ -91,7 +93,8 @@ OfLink P =
     (c : Controller) (call : Call) (t : Turn)
     → LinkCall c call
     → Rests (c .body) t
-    → (HeldUpToDate (c .body .outcome .counted) (c .body .secondary) (c .phase) → StringsUpToDate t)
+    → (HeldUpToDate (c .body .outcome .counted) (c .body .outcome .result .count) (c .phase) → StringsUpToDate t)
+    → Unhanded t
     → P c (exchanged call (plain (carried t)))
 
 -- a store is carried out
@@ -180,31 +183,31 @@ module _ (P : Claim) (kinds : Kinds P) where
   module _ (b : Body) where
     byte-in : (value : ℕ) (phase : Phase) → P (stated b phase) (exchanged (byte value) (plain (byteIn (stated b phase) b value phase)))
     unfolding lentSpace lentCheck byteIn answerToGo LinkCall SaysNo Free NoOrder HeldUpToDate SentUpToDate
-    byte-in value (Collecting s) = kinds .link (stated b (Collecting s)) _ _ tt (byte-rests b s value) (λ held. byte-strings b s value)
-    byte-in value (AckOffered s) = kinds .link (stated b (AckOffered s)) _ _ tt (idle-rests b Nothing tt) (λ held. idle-strings b Nothing tt)
-    byte-in value (Sending s) = kinds .link (stated b (Sending s)) _ _ tt (send-rests b value s) (send-strings b value s)
+    byte-in value (Collecting s) = kinds .link (stated b (Collecting s)) _ _ tt (byte-rests b s value) (λ held. byte-strings b s value) (byte-unhanded b s value)
+    byte-in value (AckOffered s) = kinds .link (stated b (AckOffered s)) _ _ tt (idle-rests b Nothing tt) (λ held. idle-strings b Nothing tt) (idle-unhanded b Nothing)
+    byte-in value (Sending s) = kinds .link (stated b (Sending s)) _ _ tt (send-rests b value s) (send-strings b value s) (send-unhanded b value s)
     byte-in value (GoOffered held) =
         pick-by (λ (t : Turn). P (stated b (GoOffered held)) (exchanged (byte value) (plain (carried t)))) (eqb value ack) (λ yes. kinds .yes b held value yes)
         (λ no. kinds .no b held (byte value) no)
     byte-in value (DataAwaited held) = refuses (stated b (DataAwaited held)) _ 2 refl refl refl
     byte-in value (ResultAwaited operation held) = refuses (stated b (ResultAwaited operation held)) _ 2 refl refl refl
-    byte-in value (EndOffered interrupt) = kinds .link (stated b (EndOffered interrupt)) _ _ tt (completed-rests b interrupt) (λ held. completed-strings b interrupt)
+    byte-in value (EndOffered interrupt) = kinds .link (stated b (EndOffered interrupt)) _ _ tt (completed-rests b interrupt) (λ held. completed-strings b interrupt) (completed-unhanded b interrupt)
 
     broken-in : (phase : Phase) → P (stated b phase) (exchanged broken (plain (brokenIn (stated b phase) b phase)))
     unfolding lentSpace lentCheck brokenIn LinkCall SaysNo Free NoOrder SentUpToDate
-    broken-in (Collecting s) = kinds .link (stated b (Collecting s)) _ _ tt (idle-rests b Nothing tt) (λ held. idle-strings b Nothing tt)
-    broken-in (AckOffered s) = kinds .link (stated b (AckOffered s)) _ _ tt (idle-rests b Nothing tt) (λ held. idle-strings b Nothing tt)
-    broken-in (Sending s) = kinds .link (stated b (Sending s)) _ _ tt (given-up-rests b (s .kind)) (λ held. given-up-strings b (s .kind))
+    broken-in (Collecting s) = kinds .link (stated b (Collecting s)) _ _ tt (idle-rests b Nothing tt) (λ held. idle-strings b Nothing tt) (idle-unhanded b Nothing)
+    broken-in (AckOffered s) = kinds .link (stated b (AckOffered s)) _ _ tt (idle-rests b Nothing tt) (λ held. idle-strings b Nothing tt) (idle-unhanded b Nothing)
+    broken-in (Sending s) = kinds .link (stated b (Sending s)) _ _ tt (given-up-rests b (s .kind)) (λ held. given-up-strings b (s .kind)) (given-up-unhanded b (s .kind))
     broken-in (GoOffered held) = kinds .no b held broken tt
     broken-in (DataAwaited held) = refuses (stated b (DataAwaited held)) _ 2 refl refl refl
     broken-in (ResultAwaited operation held) = refuses (stated b (ResultAwaited operation held)) _ 2 refl refl refl
-    broken-in (EndOffered interrupt) = kinds .link (stated b (EndOffered interrupt)) _ _ tt (completed-rests b interrupt) (λ held. completed-strings b interrupt)
+    broken-in (EndOffered interrupt) = kinds .link (stated b (EndOffered interrupt)) _ _ tt (completed-rests b interrupt) (λ held. completed-strings b interrupt) (completed-unhanded b interrupt)
 
     tick-in : (phase : Phase) → P (stated b phase) (exchanged tick (plain (tickIn (stated b phase) b phase)))
     unfolding lentSpace lentCheck tickIn LinkCall Free
     tick-in (Collecting s) =
         pick-by (λ (r : Reply). P (stated b (Collecting s)) (exchanged tick (plain r))) (eqb (s .length) 0)
-        (λ idle. kinds .link (stated b (Collecting s)) _ _ tt (tick-rests b s) (λ held. tick-strings b s)) (λ part. refuses (stated b (Collecting s)) _ 4 refl refl refl)
+        (λ idle. kinds .link (stated b (Collecting s)) _ _ tt (tick-rests b s) (λ held. tick-strings b s) (tick-unhanded b s)) (λ part. refuses (stated b (Collecting s)) _ 4 refl refl refl)
     tick-in (AckOffered s) = refuses (stated b (AckOffered s)) _ 4 refl refl refl
     tick-in (Sending s) = refuses (stated b (Sending s)) _ 4 refl refl refl
     tick-in (GoOffered held) = refuses (stated b (GoOffered held)) _ 4 refl refl refl
@@ -216,7 +219,7 @@ module _ (P : Claim) (kinds : Kinds P) where
     unfolding lentSpace lentCheck takenIn carryOutString offered LinkCall Free
     taken-in (AckOffered s) =
         pick-by (λ (t : Turn). P (stated b (AckOffered s)) (exchanged taken (plain (carried t)))) (eqb (s .c0) loadLead)
-        (λ load. kinds .link (stated b (AckOffered s)) _ _ (tt, load) (loaded-rests b (s .c1)) (λ held. loaded-strings b (s .c1))) (λ other. kinds .stores b s other)
+        (λ load. kinds .link (stated b (AckOffered s)) _ _ (tt, load) (loaded-rests b (s .c1)) (λ held. loaded-strings b (s .c1)) (loaded-unhanded b (s .c1))) (λ other. kinds .stores b s other)
     taken-in (Collecting s) = refuses (stated b (Collecting s)) _ 2 refl refl refl
     taken-in (Sending s) = refuses (stated b (Sending s)) _ 2 refl refl refl
     taken-in (GoOffered held) = refuses (stated b (GoOffered held)) _ 2 refl refl refl

@@ -46,7 +46,7 @@ use Rattle.link.specs.Damaged.{isSound}
 use Rattle.controller.specs.declared.controller.Controller.{Controller}
 use Rattle.controller.specs.declared.controller.Reply.{Reply}
 use Rattle.controller.specs.Controller.{fresh}
-use Rattle.controller.specs.Stores.{endWith, endOperation, carryOut}
+use Rattle.controller.specs.Stores.{settle, endWith, endOperation, carryOut}
 use Rattle.controller.specs.Records.{Answer, dataDone, resultDone}
 use Rattle.controller.specs.Machine.{byteIn, brokenIn, tickIn, byteCall, brokenCall, tickCall, carryOutString, takenIn, takenCall, reportNoted, reportCall, resetCall, dataFor, dataIn, dataCall, resultFor, resultIn, resultCall, Call, step}
 use Rattle.controller.specs.Machine.Call.{byte, taken, broken, report, hostData, result, tick, reset}
@@ -142,14 +142,14 @@ taken-with-no-ack b phase ack =
     (pick-by (λ (r : Reply). r .refusal ≡ 0 → ⊥) (isSound b phase) (λ sane. taken-in-refuses (at b phase) b phase ack) (λ hurt. nonzero 1 refl))
 
 -- such a store ends with code 01
-ended-coded : (b : Body) (store : Store) → endWith b store illegalDrive .body .outcome .code ≡ 0 → ⊥
-unfolding endWith complete sendInterrupt sendWord idle review pick
+ended-coded : (b : Body) (store : Store) → endWith b store illegalDrive .body .outcome .result .code ≡ 0 → ⊥
+unfolding endWith settle complete sendInterrupt sendWord idle review pick
 ended-coded b store =
-    pick-by (λ (t : Turn). t .body .outcome .code ≡ 0 → ⊥) (asksInterrupt store)
-    (λ asked. pick-by (λ (t : Turn). t .body .outcome .code ≡ 0 → ⊥) (b .outcome .counted) (λ counted. nonzero 1 refl) (λ none. nonzero 1 refl))
+    pick-by (λ (t : Turn). t .body .outcome .result .code ≡ 0 → ⊥) (asksInterrupt store)
+    (λ asked. pick-by (λ (t : Turn). t .body .outcome .result .code ≡ 0 → ⊥) (b .outcome .counted) (λ counted. nonzero 1 refl) (λ none. nonzero 1 refl))
     (λ quiet. nonzero 1 refl)
 
-named-above : (b : Body) (store : Store) → namesDrive store ≡ true → 4 ≤ namedDrive store → carryOut b store .body .outcome .code ≡ 0 → ⊥
+named-above : (b : Body) (store : Store) → namesDrive store ≡ true → 4 ≤ namedDrive store → carryOut b store .body .outcome .result .code ≡ 0 → ⊥
 unfolding carryOut namesUnknown pick
 named-above b store names high = simp (names, le-leb 4 (namedDrive store) high) (ended-coded _ store)
 
@@ -159,12 +159,12 @@ pub taken-drive-4-with-code-00 :
     → (s .c0 ≡ loadLead → ⊥)
     → namesDrive (storeOf s) ≡ true
     → 4 ≤ namedDrive (storeOf s)
-    → Excludes (at b (AckOffered s)) taken (λ a. (a .reply .refusal ≡ 0) × (a .reply .controller .body .outcome .code ≡ 0))
+    → Excludes (at b (AckOffered s)) taken (λ a. (a .reply .refusal ≡ 0) × (a .reply .controller .body .outcome .result .code ≡ 0))
 unfolding step takenCall takenIn carryOutString
 taken-drive-4-with-code-00 b s lead names high =
     excluded _ _ _
-    (pick-by (λ (r : Reply). (r .refusal ≡ 0) × (r .controller .body .outcome .code ≡ 0) → ⊥) (isSound b (AckOffered s))
-    (λ sane w. pick-by (λ (t : Turn). t .body .outcome .code ≡ 0 → ⊥) (eqb (s .c0) loadLead) (λ load. absurd (lead (eqb-true _ _ load)))
+    (pick-by (λ (r : Reply). (r .refusal ≡ 0) × (r .controller .body .outcome .result .code ≡ 0) → ⊥) (isSound b (AckOffered s))
+    (λ sane w. pick-by (λ (t : Turn). t .body .outcome .result .code ≡ 0 → ⊥) (eqb (s .c0) loadLead) (λ load. absurd (lead (eqb-true _ _ load)))
     (λ stored. named-above b (storeOf s) names high) (w .1))
     (λ hurt w. nonzero 1 refl (w .0)))
 
@@ -306,7 +306,7 @@ module _ (c : Controller) (b : Body) (drive : Drive) (store : Store) (code late 
 
   module _ (mark : Bool) where
     abbrev well : Answer → Type 0
-    well a = (a .reply .refusal ≡ 0) × (a .reply .controller .body .outcome .code ≡ 0) → ⊥
+    well a = (a .reply .refusal ≡ 0) × (a .reply .controller .body .outcome .result .code ≡ 0) → ⊥
 
     -- a scan that stops is told, whatever drive moved
     two-bad-told : ltb (scanMarks marks .stop) (length marks) ≡ true → well (resultFor c b drive Read store (resultOf code mark late image marks) space check)
@@ -332,11 +332,11 @@ pub result-two-bad-told-as-good :
     (b : Body) (store : Store) (code late : ℕ) (mark : Bool) (image marks space check : List ℕ)
     → ltb (scanMarks marks .stop) (length marks) ≡ true
     → Excludes (at b (ResultAwaited Read store)) (result (resultOf code mark late image marks) space check)
-    (λ a. (a .reply .refusal ≡ 0) × (a .reply .controller .body .outcome .code ≡ 0))
+    (λ a. (a .reply .refusal ≡ 0) × (a .reply .controller .body .outcome .result .code ≡ 0))
 unfolding step resultCall resultIn
 result-two-bad-told-as-good b store code late mark image marks space check stopped =
     excluded _ _ _
-    (pick-by (λ (a : Answer). (a .reply .refusal ≡ 0) × (a .reply .controller .body .outcome .code ≡ 0) → ⊥) (isSound b (ResultAwaited Read store))
+    (pick-by (λ (a : Answer). (a .reply .refusal ≡ 0) × (a .reply .controller .body .outcome .result .code ≡ 0) → ⊥) (isSound b (ResultAwaited Read store))
     (λ sane. two-bad-told _ b _ store code late image marks space check mark stopped) (λ hurt w. nonzero 1 refl (w .0)))
 
 -- ---- tick

@@ -87,8 +87,8 @@ Sends own count (Order order) = Unit
 
 -- what holds after a call: of primary as it stands, and of what is sent
 pub record Valid (own : OwnRecord) (reply : Reply) : Type 0 where
-  pub stands : bit22 (primaryNow (reply .controller .body)) ≡ true → own ≡ recordOf (reply .controller .body .secondary)
-  pub sends : Sends own (reply .controller .body .secondary) (reply .action)
+  pub stands : bit22 (primaryNow (reply .controller .body)) ≡ true → own ≡ recordOf (reply .controller .body .outcome .result .count)
+  pub sends : Sends own (reply .controller .body .outcome .result .count) (reply .action)
 
 -- at every call of a list
 unfoldable pub ValidFrom : Store → OwnRecord → Controller → List Exchange → Type 0

@@ -8,3 +8,4 @@ pub mod Separation
 pub mod Counts
 pub mod Orders
 pub mod Retry
+pub mod Handed

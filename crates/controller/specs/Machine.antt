@@ -17,6 +17,7 @@ use Rattle.link.specs.declared.state.Phase.the-variants.{Collecting, AckOffered
 use Rattle.link.specs.declared.state.Body.{Body}
 use Rattle.controller.specs.declared.controller.Controller.{Controller}
 use Rattle.link.specs.declared.state.Action.the-variants.{Nothing}
+use Rattle.link.specs.declared.state.Handed.the-variants.{NoneHanded}
 use Rattle.link.specs.declared.state.Turn.{Turn}
 use Rattle.controller.specs.declared.controller.Reply.{Reply}
 use Rattle.link.specs.State.{storeOf, currentDrive, noteReport, resetState, idle}
@@ -100,7 +101,7 @@ takenCall c = pick (isSound (c .body) (c .phase)) (takenIn c (c .body) (c .phase
 
 -- a report is noted, in any phase
 abbrev pub reportNoted : Controller → ℕ → ℕ → Turn
-reportNoted c drive report = record { body = noteReport (c .body) drive report; phase = c .phase; action = Nothing }
+reportNoted c drive report = record { body = noteReport (c .body) drive report; phase = c .phase; action = Nothing; handed = NoneHanded }
 
 -- "5 drive above 3"
 unfoldable pub reportCall : Controller → ℕ → ℕ → Reply

@@ -33,11 +33,11 @@ answered t space check = record { reply = t .reply; bytes = t .bytes; space = sp
 
 -- the status words as they stand
 abbrev pub wordsOf : Body → Words
-wordsOf b = record { outcome = b .outcome; secondary = b .secondary; tertiary = b .tertiary; quintary = b .quintary }
+wordsOf b = record { outcome = b .outcome; tertiary = b .tertiary; quintary = b .quintary }
 
 -- and set anew
 abbrev pub withStatus : Body → Words → Body
-withStatus b words = withOutcome (withWords b (words .secondary) (words .tertiary) (words .quintary)) (words .outcome)
+withStatus b words = withOutcome (withWords b (words .tertiary) (words .quintary)) (words .outcome)
 
 -- what a result leaves: the words, and the gap of the selected drive
 abbrev pub withAfter : Body → After → Body

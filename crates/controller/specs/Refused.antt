@@ -4,6 +4,7 @@ use mathlib.Core.Path.{_≡_}
 use Prim.Native.Nat.{ℕ}
 use mathlib.Core.List.{List, []}
 use Rattle.link.specs.declared.state.Action.the-variants.{Nothing}
+use Rattle.link.specs.declared.state.Handed.the-variants.{NoneHanded}
 use Rattle.controller.specs.declared.controller.Controller.{Controller}
 use Rattle.controller.specs.Records.{Answer}
 use Rattle.controller.specs.Machine.{Call}
@@ -31,10 +32,11 @@ lentCheck (report drive r) = []
 lentCheck tick = []
 lentCheck reset = []
 
--- "state and buffers unchanged, no action": and no byte is given
+-- "state and buffers unchanged, no action": and no byte is given, and no record handed back
 pub record Unchanged (c : Controller) (call : Call) (answer : Answer) : Type 0 where
   pub state : answer .reply .controller ≡ c
   pub action : answer .reply .action ≡ Nothing
+  pub handed : answer .reply .handed ≡ NoneHanded
   pub bytes : answer .bytes ≡ 0
   pub space : answer .space ≡ lentSpace call
   pub check : answer .check ≡ lentCheck call

@@ -39,8 +39,8 @@ anotherBit outcome = outcome .parity || (outcome .overflow || (outcome .underflo
 -- what a result of an operation leaves, where the scan found this: bit 2 is clear after a forward skip that went well, and set with a code that
 -- loses the tape and with 16
 pub record TrustedRetry (operation : Operation) (found : Findings) (b : Body) : Type 0 where
-  pub clear : operation ≡ SkipForward → wentWell (b .outcome .code) found ≡ true → anotherBit (b .outcome) ≡ false → bit2 (primaryNow b) ≡ false
-  pub set : (losesTape (b .outcome .code) || eqb (b .outcome .code) unrecoverable) ≡ true → bit2 (primaryNow b) ≡ true
+  pub clear : operation ≡ SkipForward → wentWell (b .outcome .result .code) found ≡ true → anotherBit (b .outcome) ≡ false → bit2 (primaryNow b) ≡ false
+  pub set : (losesTape (b .outcome .result .code) || eqb (b .outcome .result .code) unrecoverable) ≡ true → bit2 (primaryNow b) ≡ true
 
 -- by the operation whose result is awaited
 unfoldable pub TrustedIn : Phase → Result → Body → Type 0

@@ -5,7 +5,8 @@ use Prim.Native.Nat.{ℕ}
 use Rattle.common.specs.Pick.{pick}
 use Rattle.status.specs.declared.strings.Six.{Six}
 use Rattle.status.specs.Drives.{driveOf}
-use Rattle.status.specs.Words.{noOutcome}
+use Rattle.status.specs.declared.words.ResultRecord.{ResultRecord}
+use Rattle.status.specs.Words.{noOutcome, withCount}
 use Rattle.status.specs.Strings.{orderOf}
 use Rattle.operations.specs.declared.operation.Operation.{Operation}
 use Rattle.operations.specs.declared.operation.Operation.the-variants.{CheckBytes, Write}
@@ -20,26 +21,32 @@ use Rattle.operations.specs.Course.{courseOf}
 use Rattle.link.specs.declared.state.Phase.the-variants.{GoOffered, ResultAwaited, EndOffered}
 use Rattle.link.specs.declared.state.Body.{Body}
 use Rattle.link.specs.declared.state.Action.the-variants.{Nothing, Byte, Order}
+use Rattle.link.specs.declared.state.Handed.the-variants.{NoneHanded, OneHanded}
 use Rattle.link.specs.declared.state.Turn.{Turn}
 use Rattle.link.specs.Bytes.{go, endOfRecord}
-use Rattle.link.specs.State.{withSelected, withFlags, withOutcome, withWords, withCurrentDrive, currentDrive, resetState}
+use Rattle.link.specs.State.{withSelected, withFlags, withOutcome, withCurrentDrive, currentDrive, resetState}
 use Rattle.link.specs.Completion.{complete}
 
 -- ---- the end of a store
 
--- a setting is made, and the store is done
+-- "Hand that record back beside the answer of the call that settles the code" (document 02, Wish 4)
+abbrev pub handBack : Turn → ResultRecord → Turn
+handBack turn result = record { body = turn .body; phase = turn .phase; action = turn .action; handed = OneHanded result }
+
+-- a store is done, with the code that its record has, and completed
 unfoldable pub settle : Body → Store → Turn
-settle b store = complete b (asksInterrupt store)
+settle b store = handBack (complete b (asksInterrupt store)) (b .outcome .result)
 
 -- "A code here ends the store with motion 00."
 unfoldable pub endWith : Body → Store → ℕ → Turn
-endWith b store code = complete (withOutcome b (withCode (b .outcome) code)) (asksInterrupt store)
+endWith b store code = settle (withOutcome b (withCode (b .outcome) code)) store
 
 -- "Read, write and check bytes offer EOR when a result came"; the others are completed at once
 unfoldable pub endOperation : Body → Operation → Store → Turn
 endOperation b operation store =
-    pick (offersEnd operation) (record { body = b; phase = EndOffered (asksInterrupt store); action = Byte endOfRecord })
-    (complete b (asksInterrupt store))
+    pick (offersEnd operation)
+    (record { body = b; phase = EndOffered (asksInterrupt store); action = Byte endOfRecord; handed = OneHanded (b .outcome .result) })
+    (settle b store)
 
 -- ---- the beginning of an operation
 
@@ -51,19 +58,19 @@ motionOrder b operation store =
 -- the move is ordered, and its result awaited
 unfoldable pub orderMove : Body → Operation → Store → Turn
 orderMove b operation store =
-    record { body = b; phase = ResultAwaited operation store; action = Order (motionOrder b operation store) }
+    record { body = b; phase = ResultAwaited operation store; action = Order (motionOrder b operation store); handed = NoneHanded }
 
 -- "A write offers GO"
 abbrev pub offerGo : Body → Store → Turn
-offerGo b store = record { body = b; phase = GoOffered store; action = Byte go }
+offerGo b store = record { body = b; phase = GoOffered store; action = Byte go; handed = NoneHanded }
 
 -- "Check bytes give no order but await a result."
 abbrev pub awaitCheckBytes : Body → Store → Turn
-awaitCheckBytes b store = record { body = b; phase = ResultAwaited CheckBytes store; action = Nothing }
+awaitCheckBytes b store = record { body = b; phase = ResultAwaited CheckBytes store; action = Nothing; handed = NoneHanded }
 
 -- "Past the test, read, skip and write set secondary to 0."
 unfoldable pub pastTest : Body → Operation → Body
-pastTest b operation = pick (countsBytes operation) (withWords b 0 (b .tertiary) (b .quintary)) b
+pastTest b operation = pick (countsBytes operation) (withOutcome b (withCount (b .outcome) 0)) b
 
 -- past the test, an operation begins
 unfoldable pub begin : Body → Operation → Store → Turn
@@ -83,7 +90,7 @@ follow b store (Begin operation) = begin b operation store
 
 -- "clear primary bits 2 and 8-22"
 unfoldable pub clearOutcome : Body → Body
-clearOutcome b = withOutcome b noOutcome
+clearOutcome b = withOutcome b (noOutcome (b .outcome .result .count))
 
 -- "decode; test", of a store that selects this drive, by its density and its record
 unfoldable pub carryOutOn : Body → Store → ℕ → Turn

@@ -2,6 +2,7 @@
 use link::body::start_body;
 use link::state::Action;
 use link::state::Body;
+use link::state::Handed;
 use link::state::Phase;
 use link::state::Turn;
 use link::state::nothing_collected;
@@ -14,11 +15,13 @@ pub struct Controller {
     pub phase: Phase,
 }
 
-// What a call hands back. The refusal is document 01's number, 0 where the call is carried out.
+// What a call hands back. The refusal is document 01's number, 0 where the call is carried out; the record is that of a store whose code the call
+// settled.
 pub struct Reply {
     pub controller: Controller,
     pub action: Action,
     pub refusal: u32,
+    pub handed: Handed,
 }
 
 // What a data or result call hands back: the reply, and how many bytes of the lent space it gives (the image's, or those delivered).
@@ -46,10 +49,12 @@ pub fn carried(turn: Turn) -> Reply
     let body = turn.body;
     let phase = turn.phase;
     let action = turn.action;
+    let handed = turn.handed;
     Reply {
         controller: Controller { body, phase },
         action,
         refusal: 0,
+        handed,
     }
 }
 
@@ -62,5 +67,6 @@ pub fn refused(number: u32, c: Controller) -> Reply
         controller: c,
         action: Action::Nothing,
         refusal: number,
+        handed: Handed::NoneHanded,
     }
 }

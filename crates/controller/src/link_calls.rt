@@ -24,6 +24,7 @@ use link::sending::give_up;
 use link::state::Action;
 use link::state::Body;
 use link::state::Collected;
+use link::state::Handed;
 use link::state::Phase;
 use link::state::Turn;
 use link::state::store_of;
@@ -137,6 +138,7 @@ impl Controller {
             body,
             phase,
             action: Action::Nothing,
+            handed: Handed::NoneHanded,
         };
         carried(turn)
     }

@@ -7,6 +7,7 @@ use link::bytes::GO;
 use link::completion::complete;
 use link::state::Action;
 use link::state::Body;
+use link::state::Handed;
 use link::state::Phase;
 use link::state::Turn;
 use operations::after::with_code;
@@ -25,15 +26,33 @@ use operations::store::selected_by;
 use status::drives::drive_of;
 use status::strings::Six;
 use status::strings::order_of;
+use status::words::ResultRecord;
 use status::words::no_outcome;
+use status::words::with_count;
 ghost use mathlib.Core.Path.{_≡_};
-ghost use Rattle.controller.specs.Stores.{settle, endWith, endOperation, motionOrder, orderMove, offerGo, awaitCheckBytes, pastTest, begin, follow, clearOutcome, carryOutOn, carryOut};
+ghost use Rattle.controller.specs.Stores.{handBack, settle, endWith, endOperation, motionOrder, orderMove, offerGo, awaitCheckBytes, pastTest, begin, follow, clearOutcome, carryOutOn, carryOut};
 
-// A setting is made, and the store is done.
+// A turn that hands back the record of the store whose code it settles.
+fn hand_back(turn: Turn, result: ResultRecord) -> Turn
+    ensures { λ r. ⌜ r ≡ handBack turn result ⌝ }
+{
+    let body = turn.body;
+    let phase = turn.phase;
+    let action = turn.action;
+    Turn {
+        body,
+        phase,
+        action,
+        handed: Handed::OneHanded(result),
+    }
+}
+
+// The store is done: its record is handed back, and it is completed.
 fn settle(b: Body, store: Store) -> Turn
     ensures { λ r. ⌜ r ≡ settle b store ⌝ }
 {
-    complete(b, asks_interrupt(store))
+    let result = b.outcome.result;
+    hand_back(complete(b, asks_interrupt(store)), result)
 }
 
 // A code ends the store.
@@ -42,22 +61,24 @@ fn end_with(mut b: Body, store: Store, code: u8) -> Turn
 {
     let coded = with_code(b.outcome, code);
     b.outcome = coded;
-    complete(b, asks_interrupt(store))
+    settle(b, store)
 }
 
 // The end of an operation with a result: EOR is offered, or the store is completed at once.
 pub fn end_operation(b: Body, operation: Operation, store: Store) -> Turn
     ensures { λ r. ⌜ r ≡ endOperation b operation store ⌝ }
 {
-    let asked = asks_interrupt(store);
     if offers_end(operation) {
+        let asked = asks_interrupt(store);
+        let result = b.outcome.result;
         return Turn {
             body: b,
             phase: Phase::EndOffered(asked),
             action: Action::Byte(END_OF_RECORD),
+            handed: Handed::OneHanded(result),
         };
     }
-    complete(b, asked)
+    settle(b, store)
 }
 
 // The order of an operation for the selected drive.
@@ -85,6 +106,7 @@ pub fn order_move(b: Body, operation: Operation, store: Store) -> Turn
         body: b,
         phase: Phase::ResultAwaited(operation, store),
         action: Action::Order(order),
+        handed: Handed::NoneHanded,
     }
 }
 
@@ -96,6 +118,7 @@ fn offer_go(b: Body, store: Store) -> Turn
         body: b,
         phase: Phase::GoOffered(store),
         action: Action::Byte(GO),
+        handed: Handed::NoneHanded,
     }
 }
 
@@ -107,6 +130,7 @@ fn await_check_bytes(b: Body, store: Store) -> Turn
         body: b,
         phase: Phase::ResultAwaited(Operation::CheckBytes, store),
         action: Action::Nothing,
+        handed: Handed::NoneHanded,
     }
 }
 
@@ -115,7 +139,8 @@ fn past_test(mut b: Body, operation: Operation) -> Body
     ensures { λ r. ⌜ r ≡ pastTest b operation ⌝ }
 {
     if counts_bytes(operation) {
-        b.secondary = 0;
+        let counted = with_count(b.outcome, 0);
+        b.outcome = counted;
     }
     b
 }
@@ -145,11 +170,11 @@ fn follow(b: Body, store: Store, course: Course) -> Turn
     }
 }
 
-// Bits 2 and 8-22 of primary cleared.
+// Bits 2 and 8-22 of primary cleared; secondary stays.
 fn clear_outcome(mut b: Body) -> Body
     ensures { λ r. ⌜ r ≡ clearOutcome b ⌝ }
 {
-    let none = no_outcome();
+    let none = no_outcome(b.outcome.result.count);
     b.outcome = none;
     b
 }

@@ -44,7 +44,6 @@ fn words_of(b: Body) -> Words
     let quintary = b.quintary;
     Words {
         outcome,
-        secondary: b.secondary,
         tertiary,
         quintary,
     }
@@ -58,7 +57,6 @@ fn with_status(mut b: Body, words: Words) -> Body
     let tertiary = words.tertiary;
     let quintary = words.quintary;
     b.outcome = outcome;
-    b.secondary = words.secondary;
     b.tertiary = tertiary;
     b.quintary = quintary;
     b

@@ -11,6 +11,7 @@ use Rattle.link.specs.declared.state.Kind.the-variants.{Secondary, Compl
 use Rattle.link.specs.declared.state.Phase.the-variants.{Sending}
 use Rattle.link.specs.declared.state.Body.{Body}
 use Rattle.link.specs.declared.state.Action.the-variants.{Nothing, Text}
+use Rattle.link.specs.declared.state.Handed.the-variants.{NoneHanded}
 use Rattle.link.specs.declared.state.Turn.{Turn}
 use Rattle.link.specs.Bytes.{secondaryUpdate, interrupt}
 use Rattle.link.specs.State.{withFlags, currentDrive, review, idle}
@@ -22,12 +23,12 @@ primaryNow b = primaryOf (b .changed) (b .enable) (b .outcome) (b .selected) (cu
 -- "A sent string is six bytes: lead, four status bytes, check": it is sent, with no noes so far
 unfoldable pub sendWord : Body → Kind → ℕ → Word → Turn
 sendWord b kind lead word =
-    record { body = b; phase = Sending (record { kind = kind; bytes = stringOf lead word; noes = 0 }); action = Text (stringOf lead word) }
+    record { body = b; phase = Sending (record { kind = kind; bytes = stringOf lead word; noes = 0 }); action = Text (stringOf lead word); handed = NoneHanded }
 
 -- "if bit 22 send secondary; then primary"
 unfoldable pub sendInterrupt : Body → Turn
 sendInterrupt b =
-    pick (b .outcome .counted) (sendWord b Secondary secondaryUpdate (secondaryWord (b .secondary))) (sendWord b Completion interrupt (primaryNow b))
+    pick (b .outcome .counted) (sendWord b Secondary secondaryUpdate (secondaryWord (b .outcome .result .count))) (sendWord b Completion interrupt (primaryNow b))
 
 -- "then review. With an interrupt asked: clear enable; .."
 unfoldable pub complete : Body → Bool → Turn

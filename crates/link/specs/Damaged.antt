@@ -29,7 +29,7 @@ soundDrives d = soundDrive (d .d0) && (soundDrive (d .d1) && (soundDrive (d .d2)
 -- "selected drive, motion 0-3; .. code 0-31; .. secondary 0-65,535"
 unfoldable pub soundBody : Body → Bool
 soundBody b =
-    soundDrives (b .drives) && (leb (b .selected) 3 && (leb (b .outcome .motion) 3 && (leb (b .outcome .code) 31 && leb (b .secondary) 65535)))
+    soundDrives (b .drives) && (leb (b .selected) 3 && (leb (b .outcome .result .motion) 3 && (leb (b .outcome .result .code) 31 && leb (b .outcome .result .count) 65535)))
 
 -- "a string's lead #62 or #64"
 unfoldable pub soundLead : Collected → Bool

@@ -14,6 +14,7 @@ use Rattle.link.specs.declared.state.Send.{Send}
 use Rattle.link.specs.declared.state.Phase.the-variants.{AckOffered, Sending, DataAwaited, EndOffered}
 use Rattle.link.specs.declared.state.Body.{Body}
 use Rattle.link.specs.declared.state.Action.the-variants.{Nothing, Byte, Text}
+use Rattle.link.specs.declared.state.Handed.the-variants.{NoneHanded, OneHanded}
 use Rattle.link.specs.declared.state.Turn.{Turn}
 use Rattle.link.specs.Bytes.{ack, nack, endOfRecord, loadLead, storeLead, loadLength, storeLength, interrupt, mostNoes}
 use Rattle.operations.specs.After.{withCode}
@@ -61,7 +62,7 @@ firstByte b s byte =
 
 -- "All bytes XOR to 0, else NACK and review. A good string offers ACK #06."
 unfoldable pub lastByte : Body → Collected → Turn
-lastByte b s = pick (isGoodString s) (record { body = b; phase = AckOffered s; action = Byte ack }) (idle b (Byte nack))
+lastByte b s = pick (isGoodString s) (record { body = b; phase = AckOffered s; action = Byte ack; handed = NoneHanded }) (idle b (Byte nack))
 
 -- a further byte of a string
 unfoldable pub nextByte : Body → Collected → ℕ → Turn
@@ -93,7 +94,7 @@ giveUp b Change = idle (withFlags b (b .changed) false) Nothing
 unfoldable pub noToSend : Body → Send → Turn
 noToSend b s =
     pick (eqb (s .noes) mostNoes) (giveUp b (s .kind))
-    (record { body = b; phase = Sending (record { kind = s .kind; bytes = s .bytes; noes = s .noes + 1 }); action = Text (s .bytes) })
+    (record { body = b; phase = Sending (record { kind = s .kind; bytes = s .bytes; noes = s .noes + 1 }); action = Text (s .bytes); handed = NoneHanded })
 
 -- "Byte #06 accepts; another byte is a no"
 unfoldable pub answerToSend : Body → ℕ → Send → Turn
@@ -101,13 +102,21 @@ answerToSend b byte s = pick (eqb byte ack) (yesToSend b (s .kind)) (noToSend b 
 
 -- ---- the answers to GO
 
--- "A write offers GO; a no is code 05, motion 00, then EOR."
+-- "A write offers GO; a no is code 05, motion 00, then EOR."; "Hand that record back beside the answer of the call that settles the code: .. the GO
+-- no" (document 02, Wish 4)
 unfoldable pub noToGo : Body → Store → Turn
-noToGo b store = record { body = withOutcome b (withCode (b .outcome) noGo); phase = EndOffered (asksInterrupt store); action = Byte endOfRecord }
+noToGo b store =
+    let coded = withCode (b .outcome) noGo in
+    record {
+      body = withOutcome b coded;
+      phase = EndOffered (asksInterrupt store);
+      action = Byte endOfRecord;
+      handed = OneHanded (coded .result);
+    }
 
 -- "After a yes, the data call ..": it is awaited
 unfoldable pub yesToGo : Body → Store → Turn
-yesToGo b store = record { body = b; phase = DataAwaited store; action = Nothing }
+yesToGo b store = record { body = b; phase = DataAwaited store; action = Nothing; handed = NoneHanded }
 
 -- "anything but #06 is a no"
 unfoldable pub answerToGo : Body → ℕ → Store → Turn

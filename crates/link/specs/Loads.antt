@@ -18,7 +18,7 @@ unfoldable pub loadWord : Body → ℕ → Word
 loadWord b operation =
     pick (eqb operation 0) deviceId
     (pick (eqb operation 1) (primaryNow b)
-    (pick (eqb operation 2) (secondaryWord (b .secondary))
+    (pick (eqb operation 2) (secondaryWord (b .outcome .result .count))
     (pick (eqb operation 3) (b .tertiary) (pick (eqb operation 4) (reportsWord (b .drives)) (b .quintary)))))
 
 -- "6, 7 no reply, review. After a reply, review.", which comes when the reply's send ends

@@ -16,6 +16,7 @@ use Rattle.link.specs.declared.state.Phase.the-variants.{Collecting, Ack
 use Rattle.link.specs.declared.state.Body.{Body}
 use Rattle.link.specs.declared.state.Action.{Action}
 use Rattle.link.specs.declared.state.Action.the-variants.{Nothing}
+use Rattle.link.specs.declared.state.Handed.the-variants.{NoneHanded}
 use Rattle.link.specs.declared.state.Turn.{Turn}
 
 -- ---- a string from the host
@@ -49,7 +50,6 @@ withDrives b drives =
       changed = b .changed;
       enable = b .enable;
       outcome = b .outcome;
-      secondary = b .secondary;
       tertiary = b .tertiary;
       quintary = b .quintary;
     }
@@ -63,7 +63,6 @@ withSelected b selected =
       changed = b .changed;
       enable = b .enable;
       outcome = b .outcome;
-      secondary = b .secondary;
       tertiary = b .tertiary;
       quintary = b .quintary;
     }
@@ -77,12 +76,11 @@ withFlags b changed enable =
       changed = changed;
       enable = enable;
       outcome = b .outcome;
-      secondary = b .secondary;
       tertiary = b .tertiary;
       quintary = b .quintary;
     }
 
--- the bits of primary that a store sets
+-- what a store sets of primary, and secondary
 abbrev pub withOutcome : Body → Outcome → Body
 withOutcome b outcome =
     record {
@@ -91,21 +89,19 @@ withOutcome b outcome =
       changed = b .changed;
       enable = b .enable;
       outcome = outcome;
-      secondary = b .secondary;
       tertiary = b .tertiary;
       quintary = b .quintary;
     }
 
 -- the other status words
-abbrev pub withWords : Body → ℕ → Word → Word → Body
-withWords b secondary tertiary quintary =
+abbrev pub withWords : Body → Word → Word → Body
+withWords b tertiary quintary =
     record {
       drives = b .drives;
       selected = b .selected;
       changed = b .changed;
       enable = b .enable;
       outcome = b .outcome;
-      secondary = secondary;
       tertiary = tertiary;
       quintary = quintary;
     }
@@ -138,22 +134,21 @@ startBody drives =
       selected = 0;
       changed = true;
       enable = false;
-      outcome = noOutcome;
-      secondary = 0;
+      outcome = noOutcome 0;
       tertiary = zeroWord;
       quintary = zeroWord;
     }
 
 -- "Reset, by call or store, gives this but keeps reports, copied as reviewed.", collecting
 unfoldable pub resetState : Body → Turn
-resetState b = record { body = startBody (resetDrives (b .drives)); phase = Collecting nothingCollected; action = Nothing }
+resetState b = record { body = startBody (resetDrives (b .drives)); phase = Collecting nothingCollected; action = Nothing; handed = NoneHanded }
 
 -- ---- collecting
 
 -- this much of a string has come, and there is no action
 abbrev pub keepCollecting : Body → Collected → Turn
-keepCollecting b s = record { body = b; phase = Collecting s; action = Nothing }
+keepCollecting b s = record { body = b; phase = Collecting s; action = Nothing; handed = NoneHanded }
 
 -- "review, collecting", with nothing collected
 unfoldable pub idle : Body → Action → Turn
-idle b action = record { body = review b; phase = Collecting nothingCollected; action = action }
+idle b action = record { body = review b; phase = Collecting nothingCollected; action = action; handed = NoneHanded }

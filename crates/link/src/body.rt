@@ -2,6 +2,7 @@
 use crate::state::Action;
 use crate::state::Body;
 use crate::state::Collected;
+use crate::state::Handed;
 use crate::state::Phase;
 use crate::state::Turn;
 use crate::state::nothing_collected;
@@ -64,7 +65,7 @@ pub fn review(mut b: Body) -> Body
 pub fn start_body(drives: Drives) -> Body
     ensures { λ r. ⌜ r ≡ startBody drives ⌝ }
 {
-    let outcome = no_outcome();
+    let outcome = no_outcome(0);
     let zero = zero_word();
     Body {
         drives,
@@ -72,7 +73,6 @@ pub fn start_body(drives: Drives) -> Body
         changed: true,
         enable: false,
         outcome,
-        secondary: 0,
         tertiary: zero,
         quintary: zero,
     }
@@ -89,6 +89,7 @@ pub fn reset_state(b: Body) -> Turn
         body,
         phase: Phase::Collecting(string),
         action: Action::Nothing,
+        handed: Handed::NoneHanded,
     }
 }
 
@@ -100,6 +101,7 @@ pub fn keep_collecting(b: Body, s: Collected) -> Turn
         body: b,
         phase: Phase::Collecting(s),
         action: Action::Nothing,
+        handed: Handed::NoneHanded,
     }
 }
 
@@ -113,5 +115,6 @@ pub fn idle(b: Body, action: Action) -> Turn
         body: reviewed,
         phase: Phase::Collecting(string),
         action,
+        handed: Handed::NoneHanded,
     }
 }

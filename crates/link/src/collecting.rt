@@ -14,6 +14,7 @@ use crate::completion::send_word;
 use crate::state::Action;
 use crate::state::Body;
 use crate::state::Collected;
+use crate::state::Handed;
 use crate::state::Kind;
 use crate::state::Phase;
 use crate::state::Turn;
@@ -95,6 +96,7 @@ fn last_byte(b: Body, s: Collected) -> Turn
             body: b,
             phase: Phase::AckOffered(s),
             action: Action::Byte(ACK),
+            handed: Handed::NoneHanded,
         };
     }
     idle(b, Action::Byte(NACK))

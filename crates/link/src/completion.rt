@@ -6,6 +6,7 @@ use crate::bytes::INTERRUPT;
 use crate::bytes::SECONDARY_UPDATE;
 use crate::state::Action;
 use crate::state::Body;
+use crate::state::Handed;
 use crate::state::Kind;
 use crate::state::Phase;
 use crate::state::Send;
@@ -41,6 +42,7 @@ pub fn send_word(b: Body, kind: Kind, lead: u8, word: Word) -> Turn
         body: b,
         phase: Phase::Sending(send),
         action: Action::Text(bytes),
+        handed: Handed::NoneHanded,
     }
 }
 
@@ -50,7 +52,7 @@ fn send_interrupt(b: Body) -> Turn
 {
     let counted = b.outcome.counted;
     if counted {
-        let word = secondary_word(b.secondary);
+        let word = secondary_word(b.outcome.result.count);
         return send_word(b, Kind::Secondary, SECONDARY_UPDATE, word);
     }
     let word = primary_now(b);

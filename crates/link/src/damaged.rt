@@ -33,7 +33,8 @@ fn sound_body(b: Body) -> bool
 {
     sound_drives(b.drives)
         & ((b.selected <= 3)
-            & ((b.outcome.motion <= 3) & ((b.outcome.code <= 31) & (b.secondary <= 65535))))
+            & ((b.outcome.result.motion <= 3)
+                & ((b.outcome.result.code <= 31) & (b.outcome.result.count <= 65535))))
 }
 
 // A string begins with the lead of a load or of a store.

@@ -21,7 +21,7 @@ fn load_word(b: Body, operation: u8) -> Word
     match operation {
         0 => DEVICE_ID,
         1 => primary_now(b),
-        2 => secondary_word(b.secondary),
+        2 => secondary_word(b.outcome.result.count),
         3 => b.tertiary,
         4 => reports_word(b.drives),
         _ => b.quintary,

@@ -3,6 +3,7 @@ use crate::bytes::ACK;
 use crate::bytes::END_OF_RECORD;
 use crate::state::Action;
 use crate::state::Body;
+use crate::state::Handed;
 use crate::state::Phase;
 use crate::state::Turn;
 use operations::after::with_code;
@@ -19,10 +20,12 @@ pub fn no_to_go(mut b: Body, store: Store) -> Turn
     let coded = with_code(b.outcome, NO_GO);
     b.outcome = coded;
     let asked = asks_interrupt(store);
+    let result = coded.result;
     Turn {
         body: b,
         phase: Phase::EndOffered(asked),
         action: Action::Byte(END_OF_RECORD),
+        handed: Handed::OneHanded(result),
     }
 }
 
@@ -34,6 +37,7 @@ fn yes_to_go(b: Body, store: Store) -> Turn
         body: b,
         phase: Phase::DataAwaited(store),
         action: Action::Nothing,
+        handed: Handed::NoneHanded,
     }
 }
 

@@ -8,6 +8,7 @@ use crate::completion::primary_now;
 use crate::completion::send_word;
 use crate::state::Action;
 use crate::state::Body;
+use crate::state::Handed;
 use crate::state::Kind;
 use crate::state::Phase;
 use crate::state::Send;
@@ -61,6 +62,7 @@ fn no_to_send(b: Body, send: Send) -> Turn
         body: b,
         phase: Phase::Sending(again),
         action: Action::Text(bytes),
+        handed: Handed::NoneHanded,
     }
 }
 

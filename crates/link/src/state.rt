@@ -4,6 +4,7 @@ use operations::store::Store;
 use status::drives::Drives;
 use status::strings::Six;
 use status::words::Outcome;
+use status::words::ResultRecord;
 use status::words::Word;
 ghost use mathlib.Core.Path.{_≡_};
 ghost use Rattle.link.specs.State.{nothingCollected, storeOf};
@@ -92,7 +93,6 @@ pub struct Body {
     pub changed: bool,
     pub enable: bool,
     pub outcome: Outcome,
-    pub secondary: u32,
     pub tertiary: Word,
     pub quintary: Word,
 }
@@ -105,9 +105,16 @@ pub enum Action {
     Order(Six),
 }
 
-// What a step that is carried out leaves: the body, the phase, and what it has the controller do.
+// What a step hands back of a store: nothing, or the record of one whose code it settled.
+pub enum Handed {
+    NoneHanded,
+    OneHanded(ResultRecord),
+}
+
+// What a step that is carried out leaves: the body, the phase, what it has the controller do, and what it hands back of a store.
 pub struct Turn {
     pub body: Body,
     pub phase: Phase,
     pub action: Action,
+    pub handed: Handed,
 }

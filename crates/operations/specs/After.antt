@@ -69,8 +69,7 @@ withCode outcome code =
     record {
       retry = ownRetry code false;
       mark = outcome .mark;
-      motion = 0;
-      code = code;
+      result = record { code = code; motion = 0; count = outcome .result .count };
       parity = outcome .parity;
       overflow = outcome .overflow;
       underflow = outcome .underflow;

@@ -10,6 +10,7 @@ use status::drives::GAP_LOST;
 use status::drives::GAP_PROPER;
 use status::drives::GAP_UNFINISHED;
 use status::words::Outcome;
+use status::words::ResultRecord;
 ghost use mathlib.Core.Path.{_≡_};
 ghost use Rattle.operations.specs.After.{losesTape, usualMotion, motionOf, gapOf, gapAfter, ownRetry, codeRetry, retryOf, withCode};
 
@@ -110,8 +111,12 @@ pub fn with_code(mut outcome: Outcome, code: u8) -> Outcome
     ensures { λ r. ⌜ r ≡ withCode outcome code ⌝ }
 {
     let again = own_retry(code, false);
+    let result = ResultRecord {
+        code,
+        motion: 0,
+        count: outcome.result.count,
+    };
     outcome.retry = again;
-    outcome.motion = 0;
-    outcome.code = code;
+    outcome.result = result;
     outcome
 }

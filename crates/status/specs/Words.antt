@@ -14,14 +14,14 @@ use Rattle.status.specs.declared.words.Outcome.{Outcome}
 unfoldable pub bitOf : Bool → ℕ → ℕ
 bitOf set weight = pick set weight 0
 
--- "clear primary bits 2 and 8-22"
-unfoldable pub noOutcome : Outcome
-noOutcome =
+-- "clear primary bits 2 and 8-22"; secondary has this count. "Carry the three through the core as one record": final code, motion and count
+-- (document 02, Wish 4)
+unfoldable pub noOutcome : ℕ → Outcome
+noOutcome count =
     record {
       retry = false;
       mark = false;
-      motion = 0;
-      code = 0;
+      result = record { code = 0; motion = 0; count = count };
       parity = false;
       overflow = false;
       underflow = false;
@@ -31,14 +31,29 @@ noOutcome =
       counted = false;
     }
 
+-- another count
+abbrev pub withCount : Outcome → ℕ → Outcome
+withCount outcome count =
+    record {
+      retry = outcome .retry;
+      mark = outcome .mark;
+      result = record { code = outcome .result .code; motion = outcome .result .motion; count = count };
+      parity = outcome .parity;
+      overflow = outcome .overflow;
+      underflow = outcome .underflow;
+      wdl = outcome .wdl;
+      rdl = outcome .rdl;
+      supplied = outcome .supplied;
+      counted = outcome .counted;
+    }
+
 -- "fewer host bytes than thrown away plus count: zeros fill, bit 18"
 abbrev pub withUnderflow : Outcome → Bool → Outcome
 withUnderflow outcome short =
     record {
       retry = outcome .retry;
       mark = outcome .mark;
-      motion = outcome .motion;
-      code = outcome .code;
+      result = outcome .result;
       parity = outcome .parity;
       overflow = outcome .overflow;
       underflow = outcome .underflow || short;
@@ -60,7 +75,7 @@ primaryFirst changed enable outcome selected drive =
 
 -- ".. mark, motion (9-10), code (11-15), .."
 abbrev pub primarySecond : Outcome → ℕ
-primarySecond outcome = bitOf (outcome .mark) 128 + outcome .motion % 4 * 32 + outcome .code % 32
+primarySecond outcome = bitOf (outcome .mark) 128 + outcome .result .motion % 4 * 32 + outcome .result .code % 32
 
 -- ".. 16-22 as said, density, .."
 abbrev pub primaryThird : Outcome → Drive → ℕ
@@ -80,7 +95,7 @@ primaryOf changed enable outcome selected drive =
       b3 = drive .report;
     }
 
--- secondary: a count in the last two bytes
+-- secondary: the count of the record, in the last two bytes
 unfoldable pub secondaryWord : ℕ → Word
 secondaryWord count = record { b0 = 0; b1 = 0; b2 = count / 256 % 256; b3 = count % 256 }
 

@@ -9,7 +9,7 @@ use crate::drives::Drives;
 use marks::Defect;
 ghost use mathlib.Core.Path.{_≡_};
 ghost use Prim.Native.Nat.{_≤_};
-ghost use Rattle.status.specs.Words.{zeroWord, bitOf, noOutcome, withUnderflow, anyBit, primaryFirst, primarySecond, primaryThird, primaryOf, secondaryWord, digitsOf, tertiaryOf, quintaryOf, reportsWord};
+ghost use Rattle.status.specs.Words.{zeroWord, bitOf, noOutcome, withCount, withUnderflow, anyBit, primaryFirst, primarySecond, primaryThird, primaryOf, secondaryWord, digitsOf, tertiaryOf, quintaryOf, reportsWord};
 
 pub struct Word {
     pub b0: u8,
@@ -18,12 +18,18 @@ pub struct Word {
     pub b3: u8,
 }
 
-// The fields of primary that a store sets: bits 2 and 8-22.
+// What a store came to: the final code, the motion and the count, which secondary shows.
+pub struct ResultRecord {
+    pub code: u8,
+    pub motion: u8,
+    pub count: u32,
+}
+
+// What a store sets: bits 2 and 8-22 of primary, and secondary.
 pub struct Outcome {
     pub retry: bool,
     pub mark: bool,
-    pub motion: u8,
-    pub code: u8,
+    pub result: ResultRecord,
     pub parity: bool,
     pub overflow: bool,
     pub underflow: bool,
@@ -41,15 +47,19 @@ fn bit_of(set: bool, weight: u8) -> u8
     if set { weight } else { 0 }
 }
 
-// Nothing set.
-pub fn no_outcome() -> Outcome
-    ensures { λ r. ⌜ r ≡ noOutcome ⌝ }
+// Nothing set of primary, and this count.
+pub fn no_outcome(count: u32) -> Outcome
+    ensures { λ r. ⌜ r ≡ noOutcome count ⌝ }
 {
+    let result = ResultRecord {
+        code: 0,
+        motion: 0,
+        count,
+    };
     Outcome {
         retry: false,
         mark: false,
-        motion: 0,
-        code: 0,
+        result,
         parity: false,
         overflow: false,
         underflow: false,
@@ -58,6 +68,14 @@ pub fn no_outcome() -> Outcome
         supplied: false,
         counted: false,
     }
+}
+
+// An outcome with this count.
+pub fn with_count(mut outcome: Outcome, count: u32) -> Outcome
+    ensures { λ r. ⌜ r ≡ withCount outcome count ⌝ }
+{
+    outcome.result.count = count;
+    outcome
 }
 
 // An outcome with bit 18 set where host bytes run short.
@@ -91,7 +109,7 @@ fn primary_first(changed: bool, enable: bool, outcome: Outcome, selected: u8, dr
 fn primary_second(outcome: Outcome) -> u8
     ensures { λ r. ⌜ r ≡ primarySecond outcome ⌝ }
 {
-    bit_of(outcome.mark, 128) + outcome.motion % 4 * 32 + outcome.code % 32
+    bit_of(outcome.mark, 128) + outcome.result.motion % 4 * 32 + outcome.result.code % 32
 }
 
 // The third: bits 16-22 and the density.

@@ -55,7 +55,6 @@ unfoldable pub dataWords : Words → Drive → Store → List ℕ → Words
 dataWords words drive store host =
     record {
       outcome = withUnderflow (words .outcome) (runsShort store host);
-      secondary = words .secondary;
       tertiary = pick (isGcr drive) zeroWord (words .tertiary);
       quintary = pick (isGcr drive) zeroWord (words .quintary);
     }

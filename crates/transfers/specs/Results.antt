@@ -175,20 +175,24 @@ wroteWell operation code = sameOperation operation Write && eqb code 0
 
 -- "Used images, and writes with code 0, set bit 22 and secondary = c."; of a supplied count, "A result .. makes secondary the count exactly if
 -- that is nonzero, whatever the code"
-unfoldable pub resultSecondary : Verdict → Operation → Store → ℕ → ℕ
-resultSecondary verdict operation store before =
+unfoldable pub resultCount : Verdict → Operation → Store → ℕ → ℕ
+resultCount verdict operation store before =
     pick (verdict .supplied) (heldCount store)
     (pick (verdict .used) (verdict .count) (pick (wroteWell operation (verdict .code)) (heldCount store) before))
 
 -- bits 17, 19, 20, 21 and 22 are set, "(1 sets bit 19, 2 bit 20)", "Host space too short: .. bit 17", "A result sets bits 21 and 22 .. exactly if
--- that is nonzero"; mark, motion and code are assigned
-unfoldable pub resultBits : Verdict → Outcome → Operation → Bool → ℕ → ℕ → ℕ → Outcome
-resultBits verdict outcome operation mark late bytes space =
+-- that is nonzero"; mark is assigned, and the record of final code, motion and count
+unfoldable pub resultBits : Verdict → Outcome → Operation → Store → Bool → ℕ → ℕ → ℕ → Outcome
+resultBits verdict outcome operation store mark late bytes space =
     record {
       retry = outcome .retry;
       mark = mark && not (verdict .gone);
-      motion = motionOf (moveOf operation) (verdict .code);
-      code = verdict .code;
+      result =
+          record {
+            code = verdict .code;
+            motion = motionOf (moveOf operation) (verdict .code);
+            count = resultCount verdict operation store (outcome .result .count);
+          };
       parity = outcome .parity;
       overflow = outcome .overflow || ltb space bytes;
       underflow = outcome .underflow;
@@ -203,10 +207,9 @@ resultBits verdict outcome operation mark late bytes space =
 unfoldable pub withRetry : Outcome → Operation → Findings → Outcome
 withRetry outcome operation found =
     record {
-      retry = retryOf operation (outcome .code) (checksAlone found) (anyBit outcome (not (isSkip operation)));
+      retry = retryOf operation (outcome .result .code) (checksAlone found) (anyBit outcome (not (isSkip operation)));
       mark = outcome .mark;
-      motion = outcome .motion;
-      code = outcome .code;
+      result = outcome .result;
       parity = outcome .parity;
       overflow = outcome .overflow;
       underflow = outcome .underflow;
@@ -216,12 +219,11 @@ withRetry outcome operation found =
       counted = outcome .counted;
     }
 
--- all words, where `bytes` are to be delivered and `space` fit: primary by its bits, "secondary = c", tertiary and quintary
+-- all words, where `bytes` are to be delivered and `space` fit: primary by its bits and its record, which has "secondary = c", tertiary and quintary
 unfoldable pub resultWords : Words → Verdict → Operation → Store → Bool → ℕ → ℕ → ℕ → Words
 resultWords words verdict operation store mark late bytes space =
     record {
-      outcome = withRetry (resultBits verdict (words .outcome) operation mark late bytes space) operation (verdict .found);
-      secondary = resultSecondary verdict operation store (words .secondary);
+      outcome = withRetry (resultBits verdict (words .outcome) operation store mark late bytes space) operation (verdict .found);
       tertiary = resultTertiary verdict (words .tertiary);
       quintary = resultQuintary verdict (words .quintary);
     }

@@ -2,10 +2,9 @@
 use status::words::Outcome;
 use status::words::Word;
 
-// What a store sets of primary, and the other three words.
+// What a store sets of primary and of secondary, and the other two words.
 pub struct Words {
     pub outcome: Outcome,
-    pub secondary: u32,
     pub tertiary: Word,
     pub quintary: Word,
 }

@@ -15,6 +15,7 @@ use operations::store::Store;
 use operations::store::held_count;
 use status::drives::Drive;
 use status::words::Outcome;
+use status::words::ResultRecord;
 use status::words::Word;
 use status::words::any_bit;
 use status::words::quintary_of;
@@ -23,7 +24,7 @@ use status::words::zero_word;
 ghost use mathlib.Core.Path.{_≡_};
 ghost use Prim.Native.Nat.{_≤_};
 ghost use Rattle.records.specs.Count.{limit};
-ghost use Rattle.transfers.specs.Results.{resultTertiary, resultQuintary, wroteWell, resultSecondary, resultBits, withRetry, resultWords, resultGap};
+ghost use Rattle.transfers.specs.Results.{resultTertiary, resultQuintary, wroteWell, resultCount, resultBits, withRetry, resultWords, resultGap};
 
 // Tertiary after a result: the first errors, zero where the image goes unused, or as it was.
 fn result_tertiary(verdict: Verdict, before: Word) -> Word
@@ -58,10 +59,10 @@ fn wrote_well(operation: Operation, code: u8) -> bool
     same_operation(operation, Operation::Write) & (code == 0)
 }
 
-// Secondary after a result: the supplied count, that of an image that is used, of a write with code 0, or as it was.
-fn result_secondary(verdict: Verdict, operation: Operation, store: Store, before: u32) -> u32
+// The count after a result: the supplied one, that of an image that is used, of a write with code 0, or as it was.
+fn result_count(verdict: Verdict, operation: Operation, store: Store, before: u32) -> u32
     requires { ⌜ verdict .count ≤ limit ⌝ }
-    ensures { λ r. ⌜ r ≡ resultSecondary verdict operation store before ⌝ }
+    ensures { λ r. ⌜ r ≡ resultCount verdict operation store before ⌝ }
 {
     if verdict.supplied {
         return held_count(store) as u32;
@@ -75,22 +76,29 @@ fn result_secondary(verdict: Verdict, operation: Operation, store: Store, before
     before
 }
 
-// The bits of primary: `bytes` are to be delivered, and `space` fit.
+// The bits of primary, and the record of code, motion and count: `bytes` are to be delivered, and `space` fit.
 fn result_bits(
     verdict: Verdict,
     mut outcome: Outcome,
     operation: Operation,
+    store: Store,
     ending: Ending,
     bytes: usize,
     space: usize,
 ) -> Outcome
-    ensures { λ r. ⌜ r ≡ resultBits verdict outcome operation (ending .mark) (ending .late) bytes space ⌝ }
+    requires { ⌜ verdict .count ≤ limit ⌝ }
+    ensures { λ r. ⌜ r ≡ resultBits verdict outcome operation store (ending .mark) (ending .late) bytes space ⌝ }
 {
     let wrote = wrote_well(operation, verdict.code);
     let motion = motion_of(move_of(operation), verdict.code);
+    let count = result_count(verdict, operation, store, outcome.result.count);
+    let result = ResultRecord {
+        code: verdict.code,
+        motion,
+        count,
+    };
     outcome.mark = ending.mark & !verdict.gone;
-    outcome.motion = motion;
-    outcome.code = verdict.code;
+    outcome.result = result;
     outcome.overflow = outcome.overflow | (space < bytes);
     outcome.wdl = outcome.wdl | (ending.late % 2 == 1);
     outcome.rdl = outcome.rdl | (ending.late / 2 % 2 == 1);
@@ -104,7 +112,7 @@ fn with_retry(mut outcome: Outcome, operation: Operation, found: Findings) -> Ou
     ensures { λ r. ⌜ r ≡ withRetry outcome operation found ⌝ }
 {
     let bits = any_bit(outcome, !is_skip(operation));
-    let again = retry_of(operation, outcome.code, checks_alone(found), bits);
+    let again = retry_of(operation, outcome.result.code, checks_alone(found), bits);
     outcome.retry = again;
     outcome
 }
@@ -122,14 +130,20 @@ pub fn result_words(
     requires { ⌜ verdict .count ≤ limit ⌝ }
     ensures { λ r. ⌜ r ≡ resultWords words verdict operation store (ending .mark) (ending .late) bytes space ⌝ }
 {
-    let bits = result_bits(verdict, words.outcome, operation, ending, bytes, space);
+    let bits = result_bits(
+        verdict,
+        words.outcome,
+        operation,
+        store,
+        ending,
+        bytes,
+        space,
+    );
     let outcome = with_retry(bits, operation, verdict.found);
-    let secondary = result_secondary(verdict, operation, store, words.secondary);
     let tertiary = result_tertiary(verdict, words.tertiary);
     let quintary = result_quintary(verdict, words.quintary);
     Words {
         outcome,
-        secondary,
         tertiary,
         quintary,
     }

@@ -71,20 +71,20 @@ module _ (d : ℕ) (low : d ≤ 3) where
 
   link-case : OfLink Followed
   unfolding LinkCall eventOf transferOf holdsStore lastStore carriesOut isTaken pick
-  link-case c (byte value) t free rests strings last held admitted =
+  link-case c (byte value) t free rests strings none last held admitted =
       rest-follows c (byte value) t last free rests (pick-no (goAnswered (eqb value ack) ∷ []) [] (ap (λ (go : Bool). go && isOf d last) (free-goes (c .phase) free))) refl
-  link-case c broken t free rests strings last held admitted =
+  link-case c broken t free rests strings none last held admitted =
       rest-follows c broken t last free rests (pick-no (goAnswered false ∷ []) [] (ap (λ (go : Bool). go && isOf d last) (free-goes (c .phase) free))) refl
-  link-case c tick t free rests strings last held admitted = rest-follows c tick t last free rests refl refl
-  link-case c taken t (free, load) rests strings last held admitted =
+  link-case c tick t free rests strings none last held admitted = rest-follows c tick t last free rests refl refl
+  link-case c taken t (free, load) rests strings none last held admitted =
       let x : Exchange = exchanged taken (plain (carried t)) in
       let none = ap not load in
       kept c x last (ap (λ (t : Bool). notRefused x && t) none ∙ and-false (notRefused x))
       (rest-follows c taken t last free rests (pick-no (storeEvent last ∷ []) [] (ap (λ (t : Bool). t && isOf d last) none)) refl)
-  link-case c (report drive r) t links rests strings last held admitted = absurd links
-  link-case c (hostData host space check) t links rests strings last held admitted = absurd links
-  link-case c (result r space check) t links rests strings last held admitted = absurd links
-  link-case c reset t links rests strings last held admitted = absurd links
+  link-case c (report drive r) t links rests strings none last held admitted = absurd links
+  link-case c (hostData host space check) t links rests strings none last held admitted = absurd links
+  link-case c (result r space check) t links rests strings none last held admitted = absurd links
+  link-case c reset t links rests strings none last held admitted = absurd links
 
   stores-case : OfStores Followed
   unfolding lastStore carriesOut isTaken notRefused holdsStore offered admits Free

@@ -21,6 +21,7 @@ use Rattle.link.specs.declared.state.Phase.the-variants.{Collecting, AckOffered
 use Rattle.link.specs.declared.state.Body.{Body}
 use Rattle.link.specs.declared.state.Action.{Action}
 use Rattle.link.specs.declared.state.Action.the-variants.{Nothing, Byte, Text, Order}
+use Rattle.link.specs.declared.state.Handed.{Handed}
 use Rattle.link.specs.declared.state.Turn.{Turn}
 use Rattle.link.specs.State.{withDrives, currentDrive}
 use Rattle.controller.specs.declared.controller.Controller.{Controller}
@@ -94,10 +95,10 @@ Complying c x =
 
 -- where no order goes out
 pub quiet-complies :
-    (a : Settings) (b : Body) (phase : Phase) (action : Action)
+    (a : Settings) (b : Body) (phase : Phase) (action : Action) {handed : Handed}
     → NoOrder action
     → Kept a b phase
-    → Complies a (record { body = b; phase = phase; action = action })
+    → Complies a (record { body = b; phase = phase; action = action; handed = handed })
 unfolding NoOrder Asked issued
 quiet-complies a b phase Nothing none kept = record { asked = tt; kept = kept }
 quiet-complies a b phase (Byte value) none kept = record { asked = tt; kept = kept }

@@ -24,6 +24,7 @@ use Rattle.link.specs.declared.state.Body.{Body}
 use Rattle.link.specs.declared.state.Action.{Action}
 use Rattle.link.specs.declared.state.Action.the-variants.{Nothing, Byte, Text, Order}
 use Rattle.link.specs.declared.state.Turn.{Turn}
+use Rattle.status.specs.declared.words.ResultRecord.{ResultRecord}
 use Rattle.link.specs.State.{withFlags, withOutcome, review, idle}
 use Rattle.link.specs.Bytes.{ack, nack, loadLead, storeLead, mostNoes}
 use Rattle.link.specs.Completion.{sendWord, sendInterrupt, complete}
@@ -31,7 +32,7 @@ use Rattle.operations.specs.Codes.{noGo}
 use Rattle.operations.specs.Store.{asksInterrupt}
 use Rattle.link.specs.Link.{wholeLength, appendByte, isGoodString, firstByte, lastByte, nextByte, yesToSend, giveUp, noToSend, noToGo, collectByte, answerToSend, tickAfterReview, idleTick}
 use Rattle.link.specs.Loads.{carryOutLoad}
-use Rattle.controller.specs.Stores.{endWith, settle, endOperation}
+use Rattle.controller.specs.Stores.{handBack, endWith, settle, endOperation}
 
 -- ---- what counts of a state
 
@@ -44,7 +45,7 @@ pub record Same (b later : Body) : Type 0 where
   pub drive : (d : ℕ) → d ≤ 3 → seen d later ≡ seen d b
   pub selected : later .selected ≡ b .selected
   pub counted : later .outcome .counted ≡ b .outcome .counted
-  pub secondary : later .secondary ≡ b .secondary
+  pub secondary : later .outcome .result .count ≡ b .outcome .result .count
 
 -- nothing in hand
 unfoldable pub Free : Phase → Type 0
@@ -144,19 +145,23 @@ completed-rests b interrupt =
 coded-same : (b : Body) (code : ℕ) → Same b (withOutcome b (withCode (b .outcome) code))
 coded-same b code = record { drive = λ d low. refl; selected = refl; counted = refl; secondary = refl }
 
-pub ended-rests : (b : Body) (store : Store) (code : ℕ) → Rests b (endWith b store code)
-unfolding endWith
-ended-rests b store code = rests-from b _ _ (coded-same b code) (completed-rests (withOutcome b (withCode (b .outcome) code)) (asksInterrupt store))
+-- what is handed back beside it changes nothing of that
+handed-rests : (b : Body) (t : Turn) (result : ResultRecord) → Rests b t → Rests b (handBack t result)
+handed-rests b t result rests = record { same = rests .same; free = rests .free; quiet = rests .quiet }
 
 pub settled-rests : (b : Body) (store : Store) → Rests b (settle b store)
 unfolding settle
-settled-rests b store = completed-rests b (asksInterrupt store)
+settled-rests b store = handed-rests b _ _ (completed-rests b (asksInterrupt store))
+
+pub ended-rests : (b : Body) (store : Store) (code : ℕ) → Rests b (endWith b store code)
+unfolding endWith
+ended-rests b store code = rests-from b _ _ (coded-same b code) (settled-rests (withOutcome b (withCode (b .outcome) code)) store)
 
 pub ending-rests : (b : Body) (operation : Operation) (store : Store) → Rests b (endOperation b operation store)
 unfolding endOperation Free NoOrder
 ending-rests b operation store =
     pick-by (Rests b) (offersEnd operation) (λ offered. record { same = untouched b; free = tt; quiet = tt })
-    (λ ended. completed-rests b (asksInterrupt store))
+    (λ ended. settled-rests b store)
 
 pub go-refused-rests : (b : Body) (store : Store) → Rests b (noToGo b store)
 unfolding noToGo Free NoOrder

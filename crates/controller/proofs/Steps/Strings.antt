@@ -31,12 +31,13 @@ use Rattle.link.specs.declared.state.Body.{Body}
 use Rattle.link.specs.declared.state.Action.{Action}
 use Rattle.link.specs.declared.state.Action.the-variants.{Nothing, Byte, Text, Order}
 use Rattle.link.specs.declared.state.Turn.{Turn}
+use Rattle.status.specs.declared.words.ResultRecord.{ResultRecord}
 use Rattle.link.specs.State.{withFlags, withOutcome, currentDrive, review, idle}
 use Rattle.link.specs.Bytes.{ack, nack, loadLead, storeLead, loadReply, secondaryUpdate, interrupt, mostNoes}
 use Rattle.link.specs.Completion.{primaryNow, sendWord, sendInterrupt, complete}
 use Rattle.link.specs.Link.{wholeLength, appendByte, isGoodString, firstByte, lastByte, nextByte, yesToSend, giveUp, noToSend, noToGo, collectByte, answerToSend, tickAfterReview, idleTick}
 use Rattle.link.specs.Loads.{carryOutLoad, loadWord}
-use Rattle.controller.specs.Stores.{endWith, settle, endOperation}
+use Rattle.controller.specs.Stores.{handBack, endWith, settle, endOperation}
 use Rattle.controller.specs.Counts.{bit22, wordIn}
 
 -- ---- bit 22 of the word
@@ -110,14 +111,14 @@ SentUpToDate counted count (Byte b) = Unit
 SentUpToDate counted count (Order order) = Unit
 
 pub record StringsUpToDate (t : Turn) : Type 0 where
-  pub holds : HeldUpToDate (t .body .outcome .counted) (t .body .secondary) (t .phase)
-  pub says : SentUpToDate (t .body .outcome .counted) (t .body .secondary) (t .action)
+  pub holds : HeldUpToDate (t .body .outcome .counted) (t .body .outcome .result .count) (t .phase)
+  pub says : SentUpToDate (t .body .outcome .counted) (t .body .outcome .result .count) (t .action)
 
 -- ---- steps
 
 sent-strings :
     (b : Body) (kind : Kind) (lead : ℕ) (word : Word)
-    → UpToDate (b .outcome .counted) (b .secondary) (stringOf lead word)
+    → UpToDate (b .outcome .counted) (b .outcome .result .count) (stringOf lead word)
     → StringsUpToDate (sendWord b kind lead word)
 unfolding sendWord HeldUpToDate SentUpToDate
 sent-strings b kind lead word honest = record { holds = honest; says = honest }
@@ -130,7 +131,7 @@ primary-strings : (b : Body) (kind : Kind) → StringsUpToDate (sendWord b kind 
 unfolding stringOf bit22 wordIn
 primary-strings b kind = sent-strings b kind interrupt (primaryNow b) (record { brings = λ e. absurd (omega arith); marks = λ e set. marked b set })
 
-secondary-strings : (b : Body) → b .outcome .counted ≡ true → StringsUpToDate (sendWord b Secondary secondaryUpdate (secondaryWord (b .secondary)))
+secondary-strings : (b : Body) → b .outcome .counted ≡ true → StringsUpToDate (sendWord b Secondary secondaryUpdate (secondaryWord (b .outcome .result .count)))
 unfolding stringOf
 secondary-strings b counted = sent-strings b Secondary secondaryUpdate _ (record { brings = λ e. (counted, refl); marks = λ e set. absurd (omega arith) })
 
@@ -138,7 +139,7 @@ interrupts-strings : (b : Body) → StringsUpToDate (sendInterrupt b)
 unfolding sendInterrupt
 interrupts-strings b = pick-by StringsUpToDate (b .outcome .counted) (λ counted. secondary-strings b counted) (λ none. primary-strings b Completion)
 
-pub idle-strings : (b : Body) (action : Action) → SentUpToDate (b .outcome .counted) (b .secondary) action → StringsUpToDate (idle b action)
+pub idle-strings : (b : Body) (action : Action) → SentUpToDate (b .outcome .counted) (b .outcome .result .count) action → StringsUpToDate (idle b action)
 unfolding idle review HeldUpToDate
 idle-strings b action says = record { holds = tt; says = says }
 
@@ -146,18 +147,21 @@ pub completed-strings : (b : Body) (asked : Bool) → StringsUpToDate (complete 
 unfolding complete SentUpToDate
 completed-strings b asked = pick-by StringsUpToDate asked (λ due. interrupts-strings _) (λ silent. idle-strings b _ tt)
 
-pub ended-strings : (b : Body) (store : Store) (code : ℕ) → StringsUpToDate (endWith b store code)
-unfolding endWith
-ended-strings b store code = completed-strings (withOutcome b (withCode (b .outcome) code)) (asksInterrupt store)
+handed-strings : (t : Turn) (result : ResultRecord) → StringsUpToDate t → StringsUpToDate (handBack t result)
+handed-strings t result strings = record { holds = strings .holds; says = strings .says }
 
 pub settled-strings : (b : Body) (store : Store) → StringsUpToDate (settle b store)
 unfolding settle
-settled-strings b store = completed-strings b (asksInterrupt store)
+settled-strings b store = handed-strings _ _ (completed-strings b (asksInterrupt store))
+
+pub ended-strings : (b : Body) (store : Store) (code : ℕ) → StringsUpToDate (endWith b store code)
+unfolding endWith
+ended-strings b store code = settled-strings (withOutcome b (withCode (b .outcome) code)) store
 
 pub ending-strings : (b : Body) (operation : Operation) (store : Store) → StringsUpToDate (endOperation b operation store)
 unfolding endOperation HeldUpToDate SentUpToDate
 ending-strings b operation store =
-    pick-by StringsUpToDate (offersEnd operation) (λ offered. record { holds = tt; says = tt }) (λ ended. completed-strings b (asksInterrupt store))
+    pick-by StringsUpToDate (offersEnd operation) (λ offered. record { holds = tt; says = tt }) (λ ended. settled-strings b store)
 
 pub go-refused-strings : (b : Body) (store : Store) → StringsUpToDate (noToGo b store)
 unfolding noToGo HeldUpToDate SentUpToDate
@@ -178,12 +182,12 @@ accepted-strings b Completion = idle-strings (withFlags b false (b .enable)) _ t
 accepted-strings b Change = idle-strings (withFlags b false false) _ tt
 
 -- the same string goes again
-said-no-strings : (b : Body) (s : Send) → UpToDate (b .outcome .counted) (b .secondary) (s .bytes) → StringsUpToDate (noToSend b s)
+said-no-strings : (b : Body) (s : Send) → UpToDate (b .outcome .counted) (b .outcome .result .count) (s .bytes) → StringsUpToDate (noToSend b s)
 unfolding noToSend HeldUpToDate SentUpToDate
 said-no-strings b s held =
     pick-by StringsUpToDate (eqb (s .noes) mostNoes) (λ fifth. given-up-strings b (s .kind)) (λ again. record { holds = held; says = held })
 
-pub send-strings : (b : Body) (byte : ℕ) (s : Send) → UpToDate (b .outcome .counted) (b .secondary) (s .bytes) → StringsUpToDate (answerToSend b byte s)
+pub send-strings : (b : Body) (byte : ℕ) (s : Send) → UpToDate (b .outcome .counted) (b .outcome .result .count) (s .bytes) → StringsUpToDate (answerToSend b byte s)
 unfolding answerToSend
 send-strings b byte s held = pick-by StringsUpToDate (eqb byte ack) (λ yes. accepted-strings b (s .kind)) (λ no. said-no-strings b s held)
 

@@ -6,33 +6,23 @@ use Rattle.controller.specs.Stores.{endOperation}
 use Rattle.controller.proofs.stores.end_operation.Statement.{statement}
 use Rattle.controller.proofs.stores.end_operation.Tie as tie
 
-asks-interrupt-requires : tie.Need-asks-interrupt-requires
-asks-interrupt-requires c κs = search needs
-
 offers-end-requires : tie.Need-offers-end-requires
 offers-end-requires c κs = search needs
 
+asks-interrupt-requires : tie.Need-asks-interrupt-requires
+asks-interrupt-requires c κs = search needs
+
 returns : tie.Need-returns
 unfolding endOperation pick
-returns c = simp (
-  c .if1 .taken,
-  ← c .before .offers-end .ensures,
-  c .before .before .asks-interrupt .ensures,
-)
+returns c =
+    simp (c .before .asks-interrupt .ensures, c .before .before .if1 .taken, ← c .before .before .before .offers-end .ensures)
 
-complete-requires : tie.Need-complete-requires
-complete-requires c κs = search needs
+settle-requires : tie.Need-settle-requires
+settle-requires c κs = search needs
 
 returns-2 : tie.Need-returns-2
 unfolding endOperation pick
-returns-2 c = simp (
-  c .complete .ensures,
-  c .before .if1 .left,
-  ← c .before .before .offers-end .ensures,
-  c .before .before .before .asks-interrupt .ensures,
-)
+returns-2 c = simp (c .settle .ensures, c .before .if1 .left, ← c .before .before .offers-end .ensures)
 
 pub end-operation-spec : {M : Type 1} → statement M
-end-operation-spec =
-    tie.close
-    (tie.spec asks-interrupt-requires offers-end-requires returns complete-requires returns-2)
+end-operation-spec = tie.close (tie.spec offers-end-requires asks-interrupt-requires returns settle-requires returns-2)

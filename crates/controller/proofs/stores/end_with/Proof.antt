@@ -8,15 +8,12 @@ use Rattle.controller.proofs.stores.end_with.Tie as tie
 with-code-requires : tie.Need-with-code-requires
 with-code-requires c κs = search needs
 
-asks-interrupt-requires : tie.Need-asks-interrupt-requires
-asks-interrupt-requires c κs = search needs
-
-complete-requires : tie.Need-complete-requires
-complete-requires c κs = search needs
+settle-requires : tie.Need-settle-requires
+settle-requires c κs = search needs
 
 returns : tie.Need-returns
 unfolding endWith
-returns c = simp (c .complete .ensures, c .before .asks-interrupt .ensures, c .before .before .with-code .ensures)
+returns c = simp (c .settle .ensures, c .before .with-code .ensures)
 
 pub end-with-spec : {M : Type 1} → statement M
-end-with-spec = tie.close (tie.spec with-code-requires asks-interrupt-requires complete-requires returns)
+end-with-spec = tie.close (tie.spec with-code-requires settle-requires returns)

@@ -14,8 +14,8 @@ asks-interrupt-requires c κs = search needs
 returns : tie.Need-returns
 unfolding noToGo
 returns c = simp (
-  c .asks-interrupt .ensures,
-  c .before .with-code .ensures,
+  c .before .asks-interrupt .ensures,
+  c .before .before .with-code .ensures,
 )
 
 pub no-to-go-spec : {M : Type 1} → statement M

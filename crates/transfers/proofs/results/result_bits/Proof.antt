@@ -14,14 +14,15 @@ move-of-requires c κs = search needs
 motion-of-requires : tie.Need-motion-of-requires
 motion-of-requires c κs = search needs
 
+result-count-requires : tie.Need-result-count-requires
+result-count-requires c κs = search needs
+
 returns : tie.Need-returns
 unfolding resultBits
-returns c = simp (
-  c .before .before .before .before .before .before .before .before .before .before .before .before .motion-of .ensures,
-  c .before .before .before .before .before .before .before .before .before .before .before .before .before .move-of .ensures,
-  c .before .before .before .before .before .before .before .before .before .before .before .before .before .before .wrote-well .ensures,
-)
+returns c =
+    let n = c .before .before .before .before .before .before .before .before .before .before .before .before in
+    simp (n .result-count .ensures, n .before .motion-of .ensures, n .before .before .move-of .ensures, n .before .before .before .wrote-well .ensures)
 
 pub result-bits-spec : {M : Type 1} → statement M
 result-bits-spec =
-    tie.close (tie.spec wrote-well-requires move-of-requires motion-of-requires returns)
+    tie.close (tie.spec wrote-well-requires move-of-requires motion-of-requires result-count-requires returns)

@@ -11,9 +11,6 @@ result-bits-requires c κs = search needs
 with-retry-requires : tie.Need-with-retry-requires
 with-retry-requires c κs = search needs
 
-result-secondary-requires : tie.Need-result-secondary-requires
-result-secondary-requires c κs = search needs
-
 result-tertiary-requires : tie.Need-result-tertiary-requires
 result-tertiary-requires c κs = search needs
 
@@ -26,9 +23,8 @@ returns c =
     simp (
       c .result-quintary .ensures,
       c .before .result-tertiary .ensures,
-      c .before .before .result-secondary .ensures,
-      c .before .before .before .with-retry .ensures,
-      c .before .before .before .before .result-bits .ensures,
+      c .before .before .with-retry .ensures,
+      c .before .before .before .result-bits .ensures,
     )
 
 pub result-words-spec : {M : Type 1} → statement M
@@ -37,7 +33,6 @@ result-words-spec =
     (tie.spec
     result-bits-requires
     with-retry-requires
-    result-secondary-requires
     result-tertiary-requires
     result-quintary-requires
     returns)

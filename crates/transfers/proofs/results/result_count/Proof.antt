@@ -1,13 +1,13 @@
--- `transfers::results::result_secondary` meets its contract: the supplied count, that of the image, of the write, or the old one.
+-- `transfers::results::result_count` meets its contract: the supplied count, that of the image, of the write, or the old one.
 -- Assumes nothing.
 use Rattle.common.specs.Pick.{pick}
 use borrow.Author.Needs.{needs}
 use native.Mathlib.Omega.{arith}
 use Rattle.records.specs.Count.{limit}
 use Rattle.operations.specs.Store.{heldCount}
-use Rattle.transfers.specs.Results.{resultSecondary}
-use Rattle.transfers.proofs.results.result_secondary.Statement.{statement}
-use Rattle.transfers.proofs.results.result_secondary.Tie as tie
+use Rattle.transfers.specs.Results.{resultCount}
+use Rattle.transfers.proofs.results.result_count.Statement.{statement}
+use Rattle.transfers.proofs.results.result_count.Tie as tie
 
 held-count-requires : tie.Need-held-count-requires
 held-count-requires c κs = search needs
@@ -17,7 +17,7 @@ unfolding heldCount
 cast-result c = omega arith
 
 returns : tie.Need-returns
-unfolding resultSecondary pick
+unfolding resultCount pick
 returns c = simp (
   c .held-count .ensures,
   c .before .if1 .taken,
@@ -28,7 +28,7 @@ unfolding limit
 cast-result-2 c = omega arith
 
 returns-2 : tie.Need-returns-2
-unfolding resultSecondary pick
+unfolding resultCount pick
 returns-2 c = simp (
   c .before .if2 .taken,
   c .before .before .if1 .left,
@@ -45,7 +45,7 @@ unfolding heldCount
 cast-result-3 c = omega arith
 
 returns-3 : tie.Need-returns-3
-unfolding resultSecondary pick
+unfolding resultCount pick
 returns-3 c = simp (
   c .held-count2 .ensures,
   c .before .if3 .taken,
@@ -55,7 +55,7 @@ returns-3 c = simp (
 )
 
 returns-4 : tie.Need-returns-4
-unfolding resultSecondary pick
+unfolding resultCount pick
 returns-4 c = simp (
   c .if3 .left,
   ← c .before .wrote-well .ensures,
@@ -63,8 +63,8 @@ returns-4 c = simp (
   c .before .before .before .if1 .left,
 )
 
-pub result-secondary-spec : {M : Type 1} → statement M
-result-secondary-spec =
+pub result-count-spec : {M : Type 1} → statement M
+result-count-spec =
     tie.close
     (tie.spec
     held-count-requires
