@@ -1,5 +1,5 @@
 /*
- * ctc-record: builds and restores tape records, file to file.
+ * ctc-record: builds, merges and restores tape records, file to file.
  *
  * An example of the library's use, to be copied from. The library decides what
  * is legal: the tool hands it whatever the files hold and puts its refusals into
@@ -27,6 +27,7 @@ static const char usage[] =
     "usage: ctc-record build DENSITY BYTES-FILE IMAGE-FILE\n"
     "       ctc-record bytes DENSITY IMAGE-FILE BYTES-FILE\n"
     "       ctc-record restore IMAGE-FILE MARKS-FILE BYTES-FILE\n"
+    "       ctc-record merge FIRST FIRST-MARKS SECOND SECOND-MARKS IMAGE-FILE MARKS-FILE\n"
     "       ctc-record show IMAGE-FILE DENSITY [MARKS-FILE]\n"
     "       ctc-record --help | --version\n";
 
@@ -36,16 +37,19 @@ static const char help[] =
     "bytes    undoes build: writes the bytes of the record whose image IMAGE-FILE holds.\n"
     "restore  does so for a GCR image that was read with errors. One bad odd-numbered\n"
     "         and one bad even-numbered blockette are made good.\n"
+    "merge    writes one image and its marks out of two passes over a GCR record: the\n"
+    "         images FIRST and SECOND with their marks. A blockette is bad only where\n"
+    "         both passes had it bad.\n"
     "show     prints the count, the blockettes and the errors of an image.\n"
     "\n"
     "DENSITY     mfm or gcr\n"
     "MARKS-FILE  one byte for each GCR blockette in tape order, check blockettes\n"
     "            included: 15 is good, 1 to 9 is an error. The word good in place of\n"
-    "            a file stands for all good; a file of that name is ./good\n"
+    "            a file that is read stands for all good; a file of that name is ./good\n"
     "\n"
-    "A file - is standard input or standard output. What is written is never a file\n"
-    "that is read, and an earlier file is replaced whole or not at all; it keeps its\n"
-    "mode.\n"
+    "A file - is standard input or standard output, each of them for one file. What\n"
+    "is written is never a file that is read, and an earlier file is replaced whole\n"
+    "or not at all, of two files neither before both are whole; it keeps its mode.\n"
     "\n"
     "Exit status: 0 done; 1 refused, or a file could not be read or written;\n"
     "2 wrong usage. A refused call writes no file.\n";
@@ -85,6 +89,10 @@ static const char *refusal_in_words(uint32_t refusal)
         return "too little space for the answer";
     case CTC_REFUSED_UNRESTORABLE:
         return "two bad blockettes of one parity, which cannot be restored";
+    case CTC_REFUSED_COUNTS:
+        return "the counts of the two passes differ";
+    case CTC_REFUSED_UNLIKE:
+        return "a blockette that is good in both passes, and unlike";
     default:
         return "unknown refusal";
     }
@@ -122,18 +130,27 @@ static bool read_input(struct input *input, size_t most)
     return true;
 }
 
+/* Tells whether two are one file. A terminal or a pipe may be both: nothing in it can be lost. */
+static bool same_file(const struct stat *one, const struct stat *other)
+{
+    return (S_ISREG(one->st_mode) || S_ISBLK(one->st_mode)) && one->st_dev == other->st_dev &&
+           one->st_ino == other->st_ino;
+}
+
+static void say_same(const char *one, const char *other)
+{
+    fprintf(stderr, "ctc-record: %s and %s are the same file: nothing was written\n", one, other);
+}
+
 /*
  * Tells whether what is to be written is a file that was read, by whatever name,
- * and says so. A terminal or a pipe may be both: nothing in it can be lost.
+ * and says so.
  */
 static bool was_read(const char *path, const struct stat *output, const struct input *const *inputs)
 {
     for (; *inputs != NULL; inputs++) {
-        const struct stat *input = &(*inputs)->about;
-        if ((S_ISREG(input->st_mode) || S_ISBLK(input->st_mode)) &&
-            input->st_dev == output->st_dev && input->st_ino == output->st_ino) {
-            fprintf(stderr, "ctc-record: %s and %s are the same file: nothing was written\n",
-                    (*inputs)->path, path);
+        if (same_file(&(*inputs)->about, output)) {
+            say_same((*inputs)->path, path);
             return true;
         }
     }
@@ -156,99 +173,186 @@ static bool write_all(int file, const uint8_t *bytes, size_t length)
 }
 
 /*
- * Writes the file at `place`, which messages call `path`, whole or not at all: the
- * bytes go to a temporary file beside it, which takes its name once they are all on
- * the disk. It has the mode and, where that is allowed, the owner of the earlier
- * file; NULL: there is none.
+ * What is to be written. A plain file is replaced, the one that a link leads to in
+ * place of the link: the bytes go to a temporary file beside it, which takes its
+ * name once they are all on the disk. What is no plain file (a device, a pipe,
+ * standard output) is written in place.
  */
-static bool replace(const char *path, const char *place, const struct stat *earlier,
-                    const uint8_t *bytes, size_t length)
+struct output {
+    const char *path;
+    const uint8_t *bytes;
+    size_t length;
+    struct stat earlier; /* all zeros where there is nothing yet */
+    bool in_place;
+    int file; /* open, where it is written in place */
+    char place[PATH_MAX];
+    char temporary[PATH_MAX]; /* empty where there is none */
+    bool made;                /* the file was not there, and is there empty now */
+    bool written;
+};
+
+/* The length of a path's folder with its slash; 0: it names none. */
+static int folder_length(const char *path)
 {
-    static char temporary[PATH_MAX];
-    const char *slash = strrchr(place, '/');
-    int folder = slash == NULL ? 0 : (int)(slash - place) + 1;
+    const char *slash = strrchr(path, '/');
+    return slash == NULL ? 0 : (int)(slash - path) + 1;
+}
+
+/* Finds where an output goes; tells whether it may be written and is none of the inputs. */
+static bool open_output(struct output *output, const struct input *const *inputs)
+{
+    const char *path = output->path;
+    bool standard = is(path, "-") || is(path, "/dev/stdout");
+    struct stat link;
+
+    /* opened, but not emptied: this tells whether it may be written */
+    output->file = standard ? STDOUT_FILENO : open(path, O_WRONLY | O_NOCTTY);
+    if (output->file < 0 && errno == ENOENT) {
+        if (lstat(path, &link) != 0) {
+            snprintf(output->place, sizeof output->place, "%s", path);
+            return true;
+        }
+        /* a link to a file that is not there yet */
+        output->file = open(path, O_WRONLY | O_CREAT | O_NOCTTY, 0666);
+        output->made = output->file >= 0;
+    }
+    if (standard) {
+        output->path = "standard output";
+    }
+    if (output->file < 0 || fstat(output->file, &output->earlier) != 0) {
+        file_failed("write", output->path, errno);
+        return false;
+    }
+    output->in_place = standard || !S_ISREG(output->earlier.st_mode);
+    if (!output->in_place) {
+        close(output->file);
+        if (realpath(path, output->place) == NULL) {
+            file_failed("write", path, errno);
+            return false;
+        }
+    }
+    return !was_read(output->path, &output->earlier, inputs);
+}
+
+static bool stat_folder(const char *path, struct stat *folder)
+{
+    char name[PATH_MAX];
+    snprintf(name, sizeof name, "%.*s.", folder_length(path), path);
+    return stat(name, folder) == 0;
+}
+
+/* Tells whether two outputs are one file, also one that is not there yet, and says so. */
+static bool one_output(const struct output *one, const struct output *other)
+{
+    struct stat folder, other_folder;
+    bool same = same_file(&one->earlier, &other->earlier) ||
+                (!one->in_place && !other->in_place &&
+                 is(one->place + folder_length(one->place),
+                    other->place + folder_length(other->place)) &&
+                 stat_folder(one->place, &folder) && stat_folder(other->place, &other_folder) &&
+                 folder.st_dev == other_folder.st_dev && folder.st_ino == other_folder.st_ino);
+    if (same) {
+        say_same(one->path, other->path);
+    }
+    return same;
+}
+
+/*
+ * Fills the temporary file of an output. It has the mode and, where that is allowed,
+ * the owner of the earlier file.
+ */
+static bool fill_temporary(struct output *output)
+{
+    const struct stat *earlier = &output->earlier;
+    bool replaces = S_ISREG(earlier->st_mode);
     mode_t mask = umask(0);
     umask(mask);
 
-    snprintf(temporary, sizeof temporary, "%.*sctc-record.part.XXXXXX", folder, place);
-    int file = mkstemp(temporary);
+    snprintf(output->temporary, sizeof output->temporary, "%.*sctc-record.part.XXXXXX",
+             folder_length(output->place), output->place);
+    int file = mkstemp(output->temporary);
     if (file < 0) {
-        file_failed("make a file beside", path, errno);
+        file_failed("make a file beside", output->path, errno);
+        output->temporary[0] = '\0';
         return false;
     }
-    if (earlier != NULL && fchown(file, earlier->st_uid, earlier->st_gid) != 0 &&
+    if (replaces && fchown(file, earlier->st_uid, earlier->st_gid) != 0 &&
         fchown(file, (uid_t)-1, earlier->st_gid) != 0) {
         /* root alone can give files away, and a group only its members */
     }
-    bool done = fchmod(file, earlier != NULL ? earlier->st_mode & 0777 : 0666 & ~mask) == 0 &&
-                write_all(file, bytes, length) && fsync(file) == 0;
+    bool done = fchmod(file, replaces ? earlier->st_mode & 0777 : 0666 & ~mask) == 0 &&
+                write_all(file, output->bytes, output->length) && fsync(file) == 0;
     int cause = errno;
     if (close(file) != 0 && done) {
         done = false;
         cause = errno;
     }
-    if (done && rename(temporary, place) != 0) {
-        done = false;
-        cause = errno;
-    }
     if (!done) {
-        unlink(temporary);
-        file_failed("write", path, cause);
+        file_failed("write", output->path, cause);
     }
     return done;
 }
 
+/* Writes an output in place, or gives its temporary file the name. */
+static bool finish_output(struct output *output)
+{
+    output->written = output->in_place
+                          ? write_all(output->file, output->bytes, output->length) &&
+                                close(output->file) == 0
+                          : rename(output->temporary, output->place) == 0;
+    if (!output->written) {
+        file_failed("write", output->path, errno);
+    }
+    return output->written;
+}
+
+/* Removes what an output that is not written has left. */
+static void clear_output(const struct output *output)
+{
+    if (output->temporary[0] != '\0') {
+        unlink(output->temporary);
+    }
+    if (output->made && output->place[0] != '\0') {
+        unlink(output->place);
+    }
+}
+
 /*
- * Writes an output that is none of the inputs, a list that ends with NULL. A plain
- * file is replaced, the one that a link leads to in place of the link; what is no
- * plain file (a device, a pipe, standard output) is written in place.
+ * Writes outputs, one or two, that are none of the inputs, a list that ends with
+ * NULL. All are opened and all temporary files are filled before any is written;
+ * and what is written in place comes first, since it may still fail for its bytes.
  */
+static bool write_outputs(struct output *outputs, int count, const struct input *const *inputs)
+{
+    bool done = true;
+    for (int i = 0; i < count; i++) {
+        done = done && open_output(outputs + i, inputs);
+    }
+    done = done && (count == 1 || !one_output(outputs, outputs + 1));
+    for (int i = 0; i < count; i++) {
+        done = done && (outputs[i].in_place || fill_temporary(outputs + i));
+    }
+    for (int i = 0; i < count; i++) {
+        done = done && (!outputs[i].in_place || finish_output(outputs + i));
+    }
+    for (int i = 0; i < count; i++) {
+        done = done && (outputs[i].in_place || finish_output(outputs + i));
+    }
+    for (int i = 0; i < count && !done; i++) {
+        if (outputs[i].written) {
+            fprintf(stderr, "ctc-record: %s is written already\n", outputs[i].path);
+        } else {
+            clear_output(outputs + i);
+        }
+    }
+    return done;
+}
+
 static bool write_output(const char *path, const uint8_t *bytes, size_t length,
                          const struct input *const *inputs)
 {
-    bool standard = is(path, "-") || is(path, "/dev/stdout");
-    bool made = false;
-    struct stat earlier;
-
-    /* opened, but not emptied: this tells whether it may be written */
-    int file = standard ? STDOUT_FILENO : open(path, O_WRONLY | O_NOCTTY);
-    if (file < 0 && errno == ENOENT) {
-        if (lstat(path, &earlier) != 0) {
-            return replace(path, path, NULL, bytes, length);
-        }
-        /* a link to a file that is not there yet */
-        file = open(path, O_WRONLY | O_CREAT | O_NOCTTY, 0666);
-        made = true;
-    }
-    if (standard) {
-        path = "standard output";
-    }
-    if (file < 0 || fstat(file, &earlier) != 0) {
-        file_failed("write", path, errno);
-        return false;
-    }
-    if (was_read(path, &earlier, inputs)) {
-        return false;
-    }
-    if (standard || !S_ISREG(earlier.st_mode)) {
-        bool done = write_all(file, bytes, length) && close(file) == 0;
-        if (!done) {
-            file_failed("write", path, errno);
-        }
-        return done;
-    }
-    close(file);
-    char *place = realpath(path, NULL);
-    if (place == NULL) {
-        file_failed("write", path, errno);
-        return false;
-    }
-    bool done = replace(path, place, &earlier, bytes, length);
-    if (made && !done) {
-        unlink(place);
-    }
-    free(place);
-    return done;
+    struct output output = {.path = path, .bytes = bytes, .length = length};
+    return write_outputs(&output, 1, inputs);
 }
 
 static bool read_density(const char *word, uint8_t *density)
@@ -336,6 +440,30 @@ static bool marks_legal(const struct input *marks)
     return true;
 }
 
+/* One reading of a GCR record, with room for a byte more than is legal. */
+struct pass {
+    struct input image, marks;
+    uint8_t image_bytes[CTC_IMAGE_MOST + 1];
+    uint8_t mark_bytes[CTC_MARKS_MOST + 1];
+};
+
+static bool read_pass(struct pass *pass, const char *image_path, const char *marks_path)
+{
+    pass->image = (struct input){.path = image_path, .bytes = pass->image_bytes};
+    pass->marks = (struct input){.path = marks_path, .bytes = pass->mark_bytes};
+    return read_input(&pass->image, sizeof pass->image_bytes) &&
+           read_marks(&pass->marks, sizeof pass->mark_bytes,
+                      ctc_image_count(pass->image.bytes, pass->image.length));
+}
+
+/* Tells whether a pass shows what the library refused, and says where. */
+static bool said_of_pass(const struct pass *pass, uint32_t refusal)
+{
+    return (refusal == CTC_REFUSED_LENGTH &&
+            !lengths_fit(&pass->image, &pass->marks, CTC_DENSITY_GCR)) ||
+           (refusal == CTC_REFUSED_MARK && !marks_legal(&pass->marks));
+}
+
 static int build(uint8_t density, const char *bytes_path, const char *image_path)
 {
     static uint8_t bytes[CTC_COUNT_LIMIT + 1];
@@ -361,32 +489,81 @@ static int build(uint8_t density, const char *bytes_path, const char *image_path
 
 static int restore(const char *image_path, const char *marks_path, const char *bytes_path)
 {
-    static uint8_t image_bytes[CTC_IMAGE_MOST + 1];
-    static uint8_t mark_bytes[CTC_MARKS_MOST + 1];
+    static struct pass pass;
     static uint8_t bytes[CTC_COUNT_LIMIT];
-    struct input image = {.path = image_path, .bytes = image_bytes};
-    struct input marks = {.path = marks_path, .bytes = mark_bytes};
+    const struct input *image = &pass.image, *marks = &pass.marks;
 
-    if (!read_input(&image, sizeof image_bytes)) {
+    if (!read_pass(&pass, image_path, marks_path)) {
         return STATUS_FAILED;
     }
-    size_t count = ctc_image_count(image.bytes, image.length);
-    if (!read_marks(&marks, sizeof mark_bytes, count)) {
-        return STATUS_FAILED;
-    }
-
-    uint32_t refusal =
-        ctc_restore(image.bytes, image.length, marks.bytes, marks.length, bytes, sizeof bytes);
+    uint32_t refusal = ctc_restore(image->bytes, image->length, marks->bytes, marks->length, bytes,
+                                   sizeof bytes);
     if (refusal == CTC_DONE) {
-        const struct input *inputs[] = {&image, &marks, NULL};
+        size_t count = ctc_image_count(image->bytes, image->length);
+        const struct input *inputs[] = {image, marks, NULL};
         return write_output(bytes_path, bytes, count, inputs) ? STATUS_DONE : STATUS_FAILED;
     }
-    /* these two say more, where they find what the library refused */
-    bool said = (refusal == CTC_REFUSED_LENGTH && !lengths_fit(&image, &marks, CTC_DENSITY_GCR)) ||
-                (refusal == CTC_REFUSED_MARK && !marks_legal(&marks));
-    if (!said) {
-        say_refusal(image.path, refusal);
+    if (!said_of_pass(&pass, refusal)) {
+        say_refusal(image->path, refusal);
         fputc('\n', stderr);
+    }
+    return STATUS_FAILED;
+}
+
+/* Says of two whole passes which count or which blockette the library refused. */
+static void say_of_both(const struct pass *first, const struct pass *second, uint32_t refusal)
+{
+    const struct input *one = &first->image, *other = &second->image;
+    size_t blockettes = second->marks.length, place = 0;
+
+    say_refusal(other->path, refusal);
+    if (refusal == CTC_REFUSED_COUNTS) {
+        fprintf(stderr, ": its count is %zu, and that of %s is %zu",
+                ctc_image_count(other->bytes, other->length), one->path,
+                ctc_image_count(one->bytes, one->length));
+    }
+    while (refusal == CTC_REFUSED_UNLIKE && place < blockettes) {
+        size_t start = 2 + CTC_BLOCKETTE_LENGTH * place;
+        size_t behind = blockettes - 1 - place;
+        if (first->marks.bytes[place] == CTC_MARK_GOOD &&
+            second->marks.bytes[place] == CTC_MARK_GOOD &&
+            memcmp(one->bytes + start, other->bytes + start, CTC_BLOCKETTE_LENGTH) != 0) {
+            fprintf(stderr, ": %s blockette %zu is not as in %s", behind < 2 ? "check" : "data",
+                    behind < 2 ? behind : behind - 2, one->path);
+            break;
+        }
+        place++;
+    }
+    fputc('\n', stderr);
+}
+
+/* The paths of the first pass, of the second, and of what is written, image and marks each time. */
+static int merge(char **paths)
+{
+    static struct pass first, second;
+    static uint8_t image[CTC_IMAGE_MOST];
+    static uint8_t marks[CTC_MARKS_MOST];
+
+    if (!read_pass(&first, paths[0], paths[1]) || !read_pass(&second, paths[2], paths[3])) {
+        return STATUS_FAILED;
+    }
+    uint32_t refusal = ctc_merge(first.image.bytes, first.image.length,
+                                 first.marks.bytes, first.marks.length,
+                                 second.image.bytes, second.image.length,
+                                 second.marks.bytes, second.marks.length,
+                                 image, sizeof image, marks, sizeof marks);
+    if (refusal == CTC_DONE) {
+        size_t count = ctc_image_count(image, sizeof image);
+        struct output outputs[] = {
+            {.path = paths[4], .bytes = image, .length = ctc_image_length(count, CTC_DENSITY_GCR)},
+            {.path = paths[5], .bytes = marks, .length = ctc_mark_count(count, CTC_DENSITY_GCR)},
+        };
+        const struct input *inputs[] = {&first.image, &first.marks, &second.image, &second.marks,
+                                        NULL};
+        return write_outputs(outputs, 2, inputs) ? STATUS_DONE : STATUS_FAILED;
+    }
+    if (!said_of_pass(&first, refusal) && !said_of_pass(&second, refusal)) {
+        say_of_both(&first, &second, refusal);
     }
     return STATUS_FAILED;
 }
@@ -502,6 +679,25 @@ static int run(int count, char **words)
         }
         return restore(words[2], words[3], words[4]);
     }
+    if (is(verb, "merge")) {
+        int standard = 0;
+        if (count != 8) {
+            return wrong_usage("merge takes six words");
+        }
+        for (int i = 2; i < 6; i++) {
+            standard += is(words[i], "-");
+        }
+        if (standard > 1) {
+            return wrong_usage("standard input can be one file alone");
+        }
+        if (is(words[6], "-") && is(words[7], "-")) {
+            return wrong_usage("image and marks cannot both be standard output");
+        }
+        if (is(words[7], "good")) {
+            return wrong_usage("good is no file to be written: a file of that name is ./good");
+        }
+        return merge(words + 2);
+    }
     if (is(verb, "show")) {
         if (count != 4 && count != 5) {
             return wrong_usage("show takes two or three words");
@@ -514,7 +710,7 @@ static int run(int count, char **words)
         }
         return show(words[2], density, count == 5 ? words[4] : NULL);
     }
-    return wrong_usage("the first word is build, bytes, restore, show, --help or --version");
+    return wrong_usage("the first word is build, bytes, restore, merge, show, --help or --version");
 }
 
 int main(int count, char **words)

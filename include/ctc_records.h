@@ -3,7 +3,8 @@
  *
  * The builder turns record bytes into the image that goes on tape; the restorer
  * turns a GCR image, some of whose blockettes were read badly, back into the
- * record bytes. Link with librecords.a (x86-64):
+ * record bytes. A merge makes one GCR image out of two passes over a record, in
+ * which different blockettes were read badly. Link with librecords.a (x86-64):
  *
  *     cc -I include tool.c target/staticlib/librecords.a
  *
@@ -31,12 +32,14 @@
  *
  *   - Any length and any byte value is taken: what does not fit is refused.
  *   - A null pointer is allowed exactly where its length is 0.
- *   - The space that a call writes must share no byte with anything else that
- *     is handed to the same call. What a call only reads may overlap.
+ *   - A space that a call writes must share no byte with anything else that is
+ *     handed to the same call, another such space included. What a call only
+ *     reads may overlap.
  *   - A refused call writes nothing. A call that is carried out writes only the
  *     bytes it gives; every other byte of the lent space keeps its value. What
  *     is handed over as const is never changed.
- *   - Where several refusals apply, the lowest number is returned.
+ *   - Where several refusals apply, the one that the function lists first is
+ *     returned.
  *   - Nothing is kept between calls, so several threads may call at once, each
  *     with its own space to be written.
  */
@@ -74,12 +77,14 @@
 #define CTC_MARK_ERROR_LEAST 1
 #define CTC_MARK_ERROR_MOST 9
 
-/* What ctc_build, ctc_restore and ctc_scan return. */
+/* What ctc_build, ctc_restore, ctc_merge and ctc_scan return. */
 #define CTC_DONE 0u
 #define CTC_REFUSED_LENGTH 9u         /* more bytes than the limit, or a wrong length */
 #define CTC_REFUSED_MARK 10u          /* a mark that is neither 1-9 nor 15 */
 #define CTC_REFUSED_SPACE 11u         /* the space to be written is too short */
 #define CTC_REFUSED_UNRESTORABLE 12u  /* two bad blockettes of one parity */
+#define CTC_REFUSED_COUNTS 13u        /* two passes with different counts */
+#define CTC_REFUSED_UNLIKE 14u        /* a blockette good in both passes, and unlike */
 
 /* The report of ctc_scan: three entries of mark, kind and number. */
 #define CTC_REPORT_LENGTH 9
@@ -135,6 +140,46 @@ uint32_t ctc_build(const uint8_t *bytes, size_t bytes_len, uint8_t density,
 uint32_t ctc_restore(const uint8_t *image, size_t image_len,
                      const uint8_t *marks, size_t marks_len,
                      uint8_t *out, size_t out_len);
+
+/*
+ * Merges two passes over a record, each a GCR image with its marks, into one image
+ * with its marks. A blockette, check blockettes included, comes from the first pass
+ * if that marks it good, else from the second if that does, else from the first;
+ * its mark comes with it. So it is bad only where both passes had it bad, and
+ * ctc_restore may give a record that it gives from neither pass alone. Whether the
+ * check blockettes fit is not looked at.
+ *
+ *   first, first_len      the whole image of the first pass, of exactly the length
+ *                         its count asks for
+ *   first_marks, first_marks_len
+ *                         exactly one mark for each of its blockettes, in tape order
+ *   second, second_len, second_marks, second_marks_len
+ *                         the same of the second pass
+ *   image, image_len      the space for the merged image; it may be longer
+ *   marks, marks_len      the space for its marks; it may be longer
+ *
+ * Returns, c being the count of both passes,
+ *   CTC_DONE (0)              the first ctc_image_length(c, GCR) bytes of image are
+ *                             the merged image, the first ctc_mark_count(c, GCR)
+ *                             bytes of marks its marks, the others of both unchanged
+ *   CTC_REFUSED_LENGTH (9)    of a pass, the length of the image is below 2, or is
+ *                             not what the image's own count asks for, or the
+ *                             number of marks is not
+ *   CTC_REFUSED_MARK (10)     a mark of a pass is neither 1-9 nor 15
+ *   CTC_REFUSED_COUNTS (13)   the counts of the passes differ
+ *   CTC_REFUSED_UNLIKE (14)   a blockette is good in both passes, and its bytes in
+ *                             one are not those in the other
+ *   CTC_REFUSED_SPACE (11)    image_len is less than the length of the image, or
+ *                             marks_len less than the number of its marks
+ * Each is looked for in both passes before the next, and 11 comes last. When
+ * refused, all of image and all of marks are unchanged.
+ */
+uint32_t ctc_merge(const uint8_t *first, size_t first_len,
+                   const uint8_t *first_marks, size_t first_marks_len,
+                   const uint8_t *second, size_t second_len,
+                   const uint8_t *second_marks, size_t second_marks_len,
+                   uint8_t *image, size_t image_len,
+                   uint8_t *marks, size_t marks_len);
 
 /*
  * The length of the image of a record of `count` bytes, from 2 to CTC_IMAGE_MOST;

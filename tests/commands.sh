@@ -196,6 +196,12 @@ bytes tape a b
 restore a b
 restore a b c d
 restore - - c
+merge a b c d e
+merge a b c d e f g
+merge - - c d e f
+merge a - c - e f
+merge a b c d - -
+merge a b c d e good
 show a
 show a b
 show - gcr -
@@ -209,6 +215,7 @@ right_words() { # WORDS...: not refused by the words
 check "ctc-record: right words: build" right_words build gcr - -
 check "ctc-record: right words: bytes" right_words bytes mfm a b
 check "ctc-record: right words: restore" right_words restore - good -
+check "ctc-record: right words: merge" right_words merge a good - good - marks
 check "ctc-record: right words: show" right_words show - gcr
 
 # ---- the version, in one place ----

@@ -39,10 +39,10 @@ check() {
 }
 
 # Runs a command; its status goes to $status, what it says to said and errors. The
-# file unwanted is what a command that must fail is told to write.
+# files unwanted and unwanted.marks are what a command that must fail is told to write.
 status=0
 run() {
-    rm -f unwanted
+    rm -f unwanted unwanted.marks
     "$@" >said 2>errors </dev/null
     status=$?
 }
@@ -72,8 +72,8 @@ make_bytes() { # COUNT
     seq 1 20000 | head -c "$1"
 }
 
-spoil() { # FILE PLACE: the blockette at this place in tape order
-    head -c 256 /dev/zero | tr '\0' '#' |
+spoil() { # FILE PLACE [CHARACTER]: the blockette at this place in tape order
+    head -c 256 /dev/zero | tr '\0' "${3:-#}" |
         dd of="$1" bs=1 seek=$((2 + 256 * $2)) conv=notrunc status=none
 }
 
@@ -117,6 +117,10 @@ run "$tool" build gcr record image more
 check "a word too many" usage_refused
 run "$tool" restore image out
 check "restore with a word missing" usage_refused
+run "$tool" merge first good second good unwanted
+check "merge with a word missing" usage_refused
+run "$tool" merge first good second good unwanted unwanted.marks more
+check "merge with a word too many" usage_refused
 run "$tool" show image
 check "show with a word missing" usage_refused
 run "$tool" build GCR record unwanted
@@ -127,6 +131,16 @@ two_standard() { ended 2 'cannot both be standard input' && absent unwanted; }
 check "image and marks both standard input" two_standard
 run "$tool" show - gcr -
 check "image and marks both standard input, shown" two_standard
+merge_standard() { # MESSAGE-PART WORDS...
+    run "$tool" merge "${@:2}"
+    ended 2 "$1" && absent unwanted unwanted.marks
+}
+check "merge: two inputs are standard input" merge_standard 'one file alone' - good - good unwanted unwanted.marks
+check "merge: an image and the other marks are standard input" \
+    merge_standard 'one file alone' - good image - unwanted unwanted.marks
+check "merge: both outputs are standard output" merge_standard 'cannot both be standard output' image good image good - -
+word_written() { merge_standard './good' image good image good unwanted good && absent good; }
+check "merge: the word good as output" word_written
 
 # ---- build ----
 
@@ -311,6 +325,85 @@ check "a byte of the MFM image missing" mfm_short
 run "$tool" bytes mfm one unwanted
 check "an MFM image of one byte" image_without_count
 
+# ---- merge ----
+
+# 2, 1, 0, check 1, check 0 on tape: two even ones bad in the first pass, two odd ones in the second, check 1 in both
+cp image first
+spoil first 0 a
+spoil first 2 a
+spoil first 3 a
+printf '\006\017\004\003\017' >first.marks
+cp image second
+spoil second 1 b
+spoil second 3 b
+printf '\017\011\017\007\017' >second.marks
+cp image expected
+spoil expected 3 a
+merged() { # IMAGE MARKS-IN-HEXADECIMAL
+    ended 0 && cmp -s "$1" merged && [ "$(hexadecimal merged.marks)" = "$2" ] && no_temporary_files
+}
+run "$tool" merge first first.marks second second.marks merged merged.marks
+check "merge two passes" merged expected 0f0f0f030f
+run "$tool" restore merged merged.marks out.merged
+check "restore what was merged" restored record out.merged
+neither_alone() {
+    local pass
+    for pass in first second; do
+        run "$tool" restore "$pass" "$pass.marks" unwanted
+        ended 1 'refusal 12' || return
+    done
+}
+check "neither pass can be restored alone" neither_alone
+run "$tool" merge second second.marks first first.marks merged merged.marks
+spoil expected 3 b
+check "merge them the other way round" merged expected 0f0f0f070f
+run "$tool" merge first first.marks image good merged merged.marks
+check "merge with a pass that is all good" merged image 0f0f0f0f0f
+run "$tool" merge image.limit good image.limit marks.limit merged merged.marks
+check "merge the longest record" merged image.limit "$(printf '0f%.0s' {1..258})"
+run "$tool" merge image.empty good image.empty empty merged merged.marks
+check "merge records of no bytes" merged image.empty ''
+
+head -c 1281 image >image.short
+# refused_merge MESSAGE-PARTS -- WORDS...: no file is written
+refused_merge() {
+    local parts=()
+    while [ "$1" != -- ]; do parts+=("$1") && shift; done
+    run "$tool" merge "${@:2}" unwanted unwanted.marks
+    ended 1 "${parts[@]}" && absent unwanted unwanted.marks && no_temporary_files
+}
+check "merge: a byte of the first image missing" \
+    refused_merge 'image.short: refusal 9' 1282 1281 -- image.short good image good
+check "merge: a byte of the second image missing" \
+    refused_merge 'image.short: refusal 9' 1282 1281 -- image good image.short good
+check "merge: a first mark missing" refused_merge 'marks.short: refusal 9' 'there are 4' -- image marks.short image good
+check "merge: a second mark missing" refused_merge 'marks.short: refusal 9' 'there are 4' -- image good image marks.short
+check "merge: an image of one byte" refused_merge 'one: refusal 9' 'at least 2 bytes' -- image good one good
+check "merge: an image without end" refused_merge '/dev/zero: refusal 9' 'more than 66050' -- image good /dev/zero good
+check "merge: marks without end" refused_merge '/dev/zero: refusal 9' 'more than 258' -- image /dev/zero image good
+check "merge: an MFM image is told as one" \
+    refused_merge 'image.mfm: refusal 9' 'is a whole MFM image' -- image good image.mfm good
+check "merge: a first mark that is none" refused_merge 'marks.10: refusal 10' 'byte 3 is 10' -- image marks.10 image good
+check "merge: a second mark that is none" refused_merge 'marks.10: refusal 10' 'byte 3 is 10' -- image good image marks.10
+check "merge: counts that differ" refused_merge 'image.one: refusal 13' 'count is 1,' 'image is 600' -- image good image.one good
+{ printf '\200\054'; tail -c +3 image; } >image.count # 89, in as many bytes as 600
+check "merge: a length is by its own count" refused_merge 'image.count: refusal 9' 770 1282 -- image good image.count good
+{ printf '\001\053'; tail -c +3 image; } >image.count # 598
+check "merge: counts that differ in as many blockettes" \
+    refused_merge 'image.count: refusal 13' 'count is 598,' -- image good image.count good
+cp image unlike.data
+spoil unlike.data 1
+check "merge: a data blockette good in both and unlike" \
+    refused_merge 'unlike.data: refusal 14' 'data blockette 1 is not as in image' -- image good unlike.data good
+cp image unlike.check
+spoil unlike.check 4
+check "merge: a check blockette good in both and unlike" \
+    refused_merge 'unlike.check: refusal 14' 'check blockette 0 is not as in image' -- image good unlike.check good
+check "merge: a missing image" refused_merge 'cannot open nowhere' -- image good nowhere good
+check "merge: missing marks" refused_merge 'cannot open nowhere' -- image nowhere image good
+run "$tool" merge image good unlike.data good kept kept
+check "a refused merge leaves an earlier file" kept_unchanged
+
 # ---- show ----
 
 run "$tool" show image gcr
@@ -396,6 +489,22 @@ status=$?
 standard_closed() { ended 1 'cannot read standard input' && absent unwanted; }
 check "build from a closed standard input" standard_closed
 
+merge_piped() { # FILE-ON-STANDARD-INPUT WORDS...
+    cp "$1" from
+    piped merge "${@:2}" merged merged.marks
+    merged expected 0f0f0f070f
+}
+check "merge with the first image on standard input" merge_piped second - second.marks first first.marks
+check "merge with the first marks on standard input" merge_piped second.marks second - first first.marks
+check "merge with the second image on standard input" merge_piped first second second.marks - first.marks
+check "merge with the second marks on standard input" merge_piped first.marks second second.marks first -
+piped merge second second.marks first first.marks - merged.marks
+merge_said_image() { said expected && [ "$(hexadecimal merged.marks)" = 0f0f0f070f ]; }
+check "merge to standard output and marks" merge_said_image
+piped merge second second.marks first first.marks merged -
+merge_said_marks() { ended 0 && cmp -s merged expected && [ "$(hexadecimal said)" = 0f0f0f070f ]; }
+check "merge to an image and standard output" merge_said_marks
+
 # ---- an output that is also read ----
 
 # refused_same KEPT...: the last command said that two are one file, and the files are as they were
@@ -453,6 +562,54 @@ check "standard input as output, by its name" refused_same from
 run "${unprivileged[@]}" build gcr /dev/null /dev/null
 check "/dev/null as both, which loses nothing" ended 0
 
+# same_merge WORDS...: the merge of four files and two, of which two are one
+cp same same.second
+cp same same.second.before
+cp same.marks same.second.marks
+cp same.marks same.second.marks.before
+same_merge() {
+    run "$tool" merge "$@"
+    refused_same same same.marks same.second same.second.marks && absent unwanted unwanted.marks
+}
+for output in same same.marks same.second same.second.marks same.link; do
+    check "merge: $output is read, and the image that is written" \
+        same_merge same same.marks same.second same.second.marks "$output" unwanted.marks
+    check "merge: $output is read, and the marks that are written" \
+        same_merge same same.marks same.second same.second.marks unwanted "$output"
+done
+
+# ---- two outputs that are one ----
+
+one_output() { # IMAGE MARKS: both name one file, which is as it was
+    run "$tool" merge image good image good "$1" "$2"
+    ended 1 'are the same file' && [ "$(cat kept)" = 'old contents' ] && absent unwanted && no_temporary_files
+}
+ln -s kept kept.link
+ln kept kept.hard
+ln -s unwanted unwanted.link
+ln -s . here
+check "two outputs are one earlier file" one_output kept kept
+check "two outputs are one earlier file, by another path" one_output kept ./kept
+check "two outputs are one earlier file, by a link" one_output kept kept.link
+check "two outputs are one earlier file, by a hard link" one_output kept.hard kept
+check "two outputs are one new file" one_output unwanted unwanted
+check "two outputs are one new file, by another path" one_output unwanted "$folder/unwanted"
+check "two outputs are one new file, by a link to its folder" one_output here/unwanted unwanted
+check "two outputs are one new file, by a link to it" one_output unwanted unwanted.link
+check "two outputs are one new file, first by a link to it" one_output unwanted.link unwanted
+check "two outputs are one new file, twice by a link to it" one_output unwanted.link unwanted.link
+one_standard_output() { # IMAGE MARKS: a file that standard output appends to
+    "$tool" merge image good image good "$1" "$2" 2>errors >>kept
+    status=$?
+    ended 1 'are the same file' && [ "$(cat kept)" = 'old contents' ] && no_temporary_files
+}
+check "an output is standard output too" one_standard_output - kept
+check "an output is standard output too, by its name" one_standard_output kept /dev/stdout
+rm kept.link kept.hard unwanted.link
+chmod a+r image
+run "${unprivileged[@]}" merge image good image good /dev/null /dev/null
+check "merge: /dev/null as both outputs, which loses nothing" ended 0
+
 # ---- an earlier output ----
 
 mode_of() { stat -c %a "$1"; }
@@ -492,6 +649,18 @@ check "an earlier file that may not be written stays" protected_kept
 long=$(printf 'n%.0s' {1..255})
 run "$tool" build mfm record "$long"
 check "the longest name of a file" restored image.mfm "$long"
+
+merge_replaces() { # both with their modes, the marks by a link
+    cp record earlier
+    cp record earlier.marks
+    chmod 600 earlier
+    chmod 640 earlier.marks
+    ln -sf earlier.marks earlier.link
+    run "$tool" merge second second.marks first first.marks earlier earlier.link
+    ended 0 && cmp -s earlier expected && [ "$(hexadecimal earlier.marks)" = 0f0f0f070f ] && [ -L earlier.link ] &&
+        [ "$(mode_of earlier)" = 600 ] && [ "$(mode_of earlier.marks)" = 640 ] && no_temporary_files
+}
+check "merge replaces both earlier files" merge_replaces
 
 # ---- files ----
 
@@ -543,6 +712,49 @@ ln -s unwanted nowhere.link
 run no_room "$tool" build gcr limit nowhere.link
 disk_full_nowhere() { ended 1 'cannot write nowhere.link' && [ -L nowhere.link ] && absent unwanted; }
 check "a full disk leaves a link to nothing" disk_full_nowhere
+
+# Of two outputs one cannot be written: the other is not written either.
+one_fails() { # MESSAGE-PART IMAGE MARKS
+    rm -f merged merged.marks
+    run "$tool" merge image good image good "$2" "$3"
+    ended 1 "$1" && absent merged merged.marks nowhere && no_temporary_files
+}
+check "merge: an image in a folder that is not there" one_fails nowhere/image nowhere/image merged.marks
+check "merge: marks in a folder that is not there" one_fails nowhere/marks merged nowhere/marks
+check "merge: a folder in place of the image" one_fails a_folder a_folder merged.marks
+check "merge: a folder in place of the marks" one_fails a_folder merged a_folder
+one_fails_kept() { # MESSAGE-PART IMAGE MARKS
+    rm -f merged
+    run "$tool" merge image good image good "$2" "$3"
+    ended 1 "$1" && [ "$(cat kept)" = 'old contents' ] && no_temporary_files
+}
+check "merge: an earlier image stays where the marks fail" one_fails_kept nowhere/marks kept nowhere/marks
+check "merge: earlier marks stay where the image fails" one_fails_kept nowhere/image nowhere/image kept
+run no_room "$tool" merge image.limit good image.limit good merged kept
+merge_disk_full() {
+    ended 1 'cannot write merged' && absent merged && [ "$(cat kept)" = 'old contents' ] && no_temporary_files
+}
+check "merge: a full disk leaves both" merge_disk_full
+merge_device_full() { # WORDS...: as another user, in a folder that is open to it
+    rm -f open_folder/merged
+    run "${unprivileged[@]}" merge image good image good "$@"
+    ended 1 'cannot write /dev/full' && absent open_folder/merged && [ -c /dev/full ] &&
+        ! compgen -G 'open_folder/*.part.*' >/dev/null
+}
+check "merge: a full device for the image" merge_device_full /dev/full open_folder/merged
+check "merge: a full device for the marks" merge_device_full open_folder/merged /dev/full
+# In a folder like /tmp nobody may replace root's file, though it may be written; only root can try that.
+written_already() {
+    [ "$(id -u)" -eq 0 ] || return 0
+    echo 'old contents' >open_folder/of_root
+    chmod 666 open_folder/of_root
+    chmod 1777 open_folder
+    run "${unprivileged[@]}" merge image good image good open_folder/merged open_folder/of_root
+    chmod 777 open_folder
+    ended 1 'cannot write open_folder/of_root' 'open_folder/merged is written already' &&
+        cmp -s open_folder/merged image && [ "$(cat open_folder/of_root)" = 'old contents' ]
+}
+check "merge: marks that cannot be replaced" written_already
 
 printed_to_full() { [ "$status" -eq 1 ] && grep -q 'standard output' errors; }
 "$tool" show image gcr >/dev/full 2>errors
@@ -616,8 +828,8 @@ check "script: no C compiler" without_cc
 
 run env PATH="$folder/with_rt:$PATH" tree/ctc-record
 played() {
-    ended 0 && grep -q 'Built the GCR image' said && grep -q 'bytes are as they were' said &&
-        [ -x tree/target/ctc-record ] && absent rt.calls
+    ended 0 && grep -q 'Built the GCR image' said && grep -q 'Restored it with the marks: .* as they were' said &&
+        grep -q 'Restored what was merged: .* as they were' said && [ -x tree/target/ctc-record ] && absent rt.calls
 }
 check "script: plays its example, without rt where the archive is there" played
 

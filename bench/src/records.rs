@@ -2,6 +2,8 @@
 
 use crate::byte_at_a_time::{by_index, by_iterator};
 use crate::library;
+use records_tests::random::Random;
+use records_tests::{plain, Pass};
 use std::hint::black_box;
 use std::time::Instant;
 
@@ -14,13 +16,36 @@ const CALLS: usize = 20;
 
 type Build = fn(&[u8], u8, &mut [u8]) -> u32;
 type Restore = fn(&[u8], &[u8], &mut [u8]) -> u32;
+type Merge = fn(&Pass, &Pass, &mut [u8], &mut [u8]) -> u32;
 type Call<'a> = Box<dyn Fn(&mut [u8]) -> u32 + 'a>;
 
+struct Program {
+    name: &'static str,
+    build: Build,
+    restore: Restore,
+    merge: Merge,
+}
+
 /// The programs to be timed; the first is the one that the others are compared with.
-const PROGRAMS: [(&str, Build, Restore); 3] = [
-    ("library", library::build, library::restore),
-    ("by index", by_index::build, by_index::restore),
-    ("by iterator", by_iterator::build, by_iterator::restore),
+const PROGRAMS: [Program; 3] = [
+    Program {
+        name: "library",
+        build: library::build,
+        restore: library::restore,
+        merge: library::merge,
+    },
+    Program {
+        name: "by index",
+        build: by_index::build,
+        restore: by_index::restore,
+        merge: by_index::merge,
+    },
+    Program {
+        name: "by iterator",
+        build: by_iterator::build,
+        restore: by_iterator::restore,
+        merge: by_iterator::merge,
+    },
 ];
 
 /// Places of the lent space that take turns: how two buffers lie to each other can double a time.
@@ -49,17 +74,28 @@ impl<'a> Job<'a> {
     }
 
     fn building(name: &'a str, record: &'a [u8], density: u8) -> Self {
-        let with = |(_, build, _): (&str, Build, Restore)| -> Call<'a> {
+        let with = |Program { build, .. }| -> Call<'a> {
             Box::new(move |image| build(black_box(record), black_box(density), image))
         };
         Job::of(name, IMAGE, PROGRAMS.map(with).into())
     }
 
     fn restoring(name: &'a str, image: &'a [u8], marks: &'a [u8]) -> Self {
-        let with = |(_, _, restore): (&str, Build, Restore)| -> Call<'a> {
+        let with = |Program { restore, .. }| -> Call<'a> {
             Box::new(move |out| restore(black_box(image), black_box(marks), out))
         };
         Job::of(name, COUNT, PROGRAMS.map(with).into())
+    }
+
+    /// The space for the marks follows that for the image.
+    fn merging(name: &'a str, [first, second]: &'a [Pass; 2]) -> Self {
+        let with = |Program { merge, .. }| -> Call<'a> {
+            Box::new(move |space| {
+                let (image, marks) = space.split_at_mut(IMAGE);
+                merge(black_box(first), black_box(second), image, marks)
+            })
+        };
+        Job::of(name, IMAGE + PLACES, PROGRAMS.map(with).into())
     }
 
     fn time(&mut self, program: usize, round: usize) {
@@ -74,13 +110,16 @@ impl<'a> Job<'a> {
     }
 }
 
-/// A record with its image, and the same image with one odd and one even blockette spoiled.
+/// A record with its image, the same image with one odd and one even blockette spoiled, and pairs of
+/// passes over it: without errors, and each with blockettes of its own spoiled.
 struct Example {
     record: Vec<u8>,
     image: Vec<u8>,
     good: Vec<u8>,
     spoiled: Vec<u8>,
     two_bad: Vec<u8>,
+    good_passes: [Pass; 2],
+    worn_passes: [Pass; 2],
 }
 
 pub fn random_bytes(count: usize) -> Vec<u8> {
@@ -104,18 +143,35 @@ fn example() -> Example {
         two_bad[place] = mark;
         spoiled[2 + 256 * place..2 + 256 * (place + 1)].fill(0x55);
     }
+    let pass = Pass::good(image.clone());
+    let good_passes = [pass.clone(), pass];
+    let mut worn_passes = good_passes.clone();
+    let mut random = Random::of_test(80);
+    // 20 in each, the last of them in both
+    for place in (0..200).step_by(10) {
+        worn_passes[0].spoil(place, &mut random);
+        worn_passes[1].spoil((place + 5).min(190), &mut random);
+    }
     Example {
         record,
         image,
         good,
         spoiled,
         two_bad,
+        good_passes,
+        worn_passes,
     }
 }
 
 /// All programs must do the same before they are timed.
 fn expect_agreement(example: &Example) {
-    for (program, build, restore) in PROGRAMS {
+    for Program {
+        name: program,
+        build,
+        restore,
+        merge,
+    } in PROGRAMS
+    {
         let mut built = vec![0; IMAGE];
         assert_eq!(build(&example.record, 1, &mut built), 0, "{program}");
         assert!(built == example.image, "{program}: another GCR image");
@@ -131,6 +187,16 @@ fn expect_agreement(example: &Example) {
             let mut out = vec![0; COUNT];
             assert_eq!(restore(image, marks, &mut out), 0, "{program}");
             assert!(out == example.record, "{program}: another record came back");
+        }
+        for [first, second] in [&example.good_passes, &example.worn_passes] {
+            let (mut image, mut marks) = (vec![0; IMAGE], vec![0; PLACES]);
+            let (answer, merged, merged_marks) = plain::merge(first, second, &image, &marks);
+            let given = merge(first, second, &mut image, &mut marks);
+            assert_eq!((given, answer), (0, 0), "{program}");
+            assert!(
+                image == merged && marks == merged_marks,
+                "{program}: another merged record"
+            );
         }
     }
 }
@@ -160,6 +226,8 @@ pub fn print_table() {
             &example.two_bad,
         ),
         Job::restoring("restorer, none bad", &example.image, &example.good),
+        Job::merging("merge, 20 bad in each pass", &example.worn_passes),
+        Job::merging("merge, none bad", &example.good_passes),
     ];
     for round in 0..ROUNDS {
         for job in &mut jobs {
@@ -174,13 +242,14 @@ pub fn print_table() {
          | by index, ns | by iterator, ns |"
     );
     println!("|---|---:|---:|---:|---:|---:|");
-    let [gcr, mfm, spoiled, good] = &jobs;
+    let [gcr, mfm, others @ ..] = &jobs;
     let folds: Vec<f64> = (gcr.least.iter().zip(&mfm.least))
         .map(|(gcr, mfm)| (gcr - mfm).max(1.0))
         .collect();
     print_row(gcr.name, &gcr.least);
     print_row(mfm.name, &mfm.least);
     print_row("check fold (GCR less MFM)", &folds);
-    print_row(spoiled.name, &spoiled.least);
-    print_row(good.name, &good.least);
+    for job in others {
+        print_row(job.name, &job.least);
+    }
 }

@@ -36,9 +36,29 @@ static bool the_limit()
     return back && build(bytes, CTC_DENSITY_GCR, image) == CTC_REFUSED_LENGTH;
 }
 
+// Two passes of a record, each with a bad blockette of its own, become one without errors.
+static bool two_passes()
+{
+    std::vector<std::uint8_t> first(770), second, image(770), first_marks{4, 15, 15}, marks(3);
+    const std::vector<std::uint8_t> second_marks{15, 15, 9}, good(3, CTC_MARK_GOOD);
+    const bool built = build({1, 2, 3, 4, 5}, CTC_DENSITY_GCR, first) == CTC_DONE;
+    const std::vector<std::uint8_t> expected = second = first;
+    const auto merged = [&] {
+        return ctc_merge(first.data(), first.size(), first_marks.data(), first_marks.size(),
+                         second.data(), second.size(), second_marks.data(), second_marks.size(),
+                         image.data(), image.size(), marks.data(), marks.size());
+    };
+    first[2] = second[769] = 0x5A;
+    const bool done = merged() == CTC_DONE && image == expected && marks == good;
+    first_marks[0] = CTC_MARK_GOOD;
+    const bool unlike = merged() == CTC_REFUSED_UNLIKE;
+    first[1] ^= 1;
+    return built && done && unlike && merged() == CTC_REFUSED_COUNTS;
+}
+
 int main()
 {
-    const int passed = five_bytes() + the_limit();
-    std::printf("%d passed, %d failed\n", passed, 2 - passed);
-    return passed == 2 ? 0 : 1;
+    const int passed = five_bytes() + the_limit() + two_passes();
+    std::printf("%d passed, %d failed\n", passed, 3 - passed);
+    return passed == 3 ? 0 : 1;
 }

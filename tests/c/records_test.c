@@ -207,40 +207,44 @@ static void take_back_unchanged(struct lent *lent, const uint8_t *before, const 
 
 /*
  * The calls. Each lends copies in every lay, holds the answers to each other, and
- * leaves in `space` what the call left in its own.
+ * leaves in `space` what the call left in its own; a merge has two such spaces.
  */
 
-static uint8_t after_first[CTC_IMAGE_MOST + 1024];
+struct kept {
+    uint32_t answer;
+    uint8_t after[CTC_IMAGE_MOST + 1024];
+};
+static struct kept kept, kept_marks;
 
 /* Keeps the first lay's answer and holds the others to it. */
-static void settle(enum lay lay, uint32_t *kept, uint32_t given, struct lent *space,
+static void settle(enum lay lay, struct kept *first, uint32_t given, struct lent *space,
                    const char *name)
 {
-    if (space->length > sizeof after_first) {
+    if (space->length > sizeof first->after) {
         must(NULL);
     }
     if (lay == FIRST_LAY) {
-        *kept = given;
+        first->answer = given;
         if (space->length > 0) {
-            memcpy(after_first, space->bytes, space->length);
+            memcpy(first->after, space->bytes, space->length);
         }
     }
-    expect(given == *kept && alike(space->bytes, after_first, space->length),
+    expect(given == first->answer && alike(space->bytes, first->after, space->length),
            "%s: the answer depends on where its space lies", name);
     take_back(space, name);
 }
 
-static void give_after(uint8_t *space, size_t length)
+static uint32_t give_after(const struct kept *first, uint8_t *space, size_t length)
 {
     if (length > 0) {
-        memcpy(space, after_first, length);
+        memcpy(space, first->after, length);
     }
+    return first->answer;
 }
 
 static uint32_t build(const uint8_t *bytes, size_t bytes_len, uint8_t density, uint8_t *space,
                       size_t space_len)
 {
-    uint32_t kept = 0;
     for (enum lay lay = FIRST_LAY; lay < LAYS; lay++) {
         struct lent input = lend(lay, bytes, bytes_len);
         struct lent image = lend(lay, space, space_len);
@@ -248,14 +252,12 @@ static uint32_t build(const uint8_t *bytes, size_t bytes_len, uint8_t density, u
         take_back_unchanged(&input, bytes, "bytes");
         settle(lay, &kept, given, &image, "image space");
     }
-    give_after(space, space_len);
-    return kept;
+    return give_after(&kept, space, space_len);
 }
 
 static uint32_t restore(const uint8_t *image, size_t image_len, const uint8_t *marks,
                         size_t marks_len, uint8_t *space, size_t space_len)
 {
-    uint32_t kept = 0;
     for (enum lay lay = FIRST_LAY; lay < LAYS; lay++) {
         struct lent lent_image = lend(lay, image, image_len);
         struct lent lent_marks = lend(lay, marks, marks_len);
@@ -266,13 +268,44 @@ static uint32_t restore(const uint8_t *image, size_t image_len, const uint8_t *m
         take_back_unchanged(&lent_marks, marks, "marks");
         settle(lay, &kept, given, &out, "output space");
     }
-    give_after(space, space_len);
-    return kept;
+    return give_after(&kept, space, space_len);
+}
+
+/* One reading of a GCR record. */
+struct pass {
+    uint8_t image[CTC_IMAGE_MOST + 1];
+    size_t image_len;
+    uint8_t marks[CTC_MARKS_MOST + 1];
+    size_t marks_len;
+};
+
+static uint32_t merge(const struct pass *first, const struct pass *second, uint8_t *space,
+                      size_t space_len, uint8_t *marks_space, size_t marks_space_len)
+{
+    for (enum lay lay = FIRST_LAY; lay < LAYS; lay++) {
+        struct lent first_image = lend(lay, first->image, first->image_len);
+        struct lent first_marks = lend(lay, first->marks, first->marks_len);
+        struct lent second_image = lend(lay, second->image, second->image_len);
+        struct lent second_marks = lend(lay, second->marks, second->marks_len);
+        struct lent image = lend(lay, space, space_len);
+        struct lent marks = lend(lay, marks_space, marks_space_len);
+        uint32_t given = ctc_merge(first_image.bytes, first_image.length, first_marks.bytes,
+                                   first_marks.length, second_image.bytes, second_image.length,
+                                   second_marks.bytes, second_marks.length, image.bytes,
+                                   image.length, marks.bytes, marks.length);
+        take_back_unchanged(&first_image, first->image, "first image");
+        take_back_unchanged(&first_marks, first->marks, "first marks");
+        take_back_unchanged(&second_image, second->image, "second image");
+        take_back_unchanged(&second_marks, second->marks, "second marks");
+        settle(lay, &kept, given, &image, "image space");
+        settle(lay, &kept_marks, given, &marks, "marks space");
+    }
+    give_after(&kept_marks, marks_space, marks_space_len);
+    return give_after(&kept, space, space_len);
 }
 
 static uint32_t scan(const uint8_t *marks, size_t marks_len, uint8_t *space, size_t space_len)
 {
-    uint32_t kept = 0;
     for (enum lay lay = FIRST_LAY; lay < LAYS; lay++) {
         struct lent input = lend(lay, marks, marks_len);
         struct lent report = lend(lay, space, space_len);
@@ -280,21 +313,20 @@ static uint32_t scan(const uint8_t *marks, size_t marks_len, uint8_t *space, siz
         take_back_unchanged(&input, marks, "marks");
         settle(lay, &kept, given, &report, "report space");
     }
-    give_after(space, space_len);
-    return kept;
+    return give_after(&kept, space, space_len);
 }
 
 static size_t image_count(const uint8_t *image, size_t image_len)
 {
-    size_t kept = 0;
+    size_t count = 0;
     for (enum lay lay = FIRST_LAY; lay < LAYS; lay++) {
         struct lent input = lend(lay, image, image_len);
         size_t given = ctc_image_count(input.bytes, image_len);
         take_back_unchanged(&input, image, "image");
-        kept = lay == FIRST_LAY ? given : kept;
-        expect(given == kept, "image count: it depends on where the image lies");
+        count = lay == FIRST_LAY ? given : count;
+        expect(given == count, "image count: it depends on where the image lies");
     }
-    return kept;
+    return count;
 }
 
 /* ---- what is expected ---- */
@@ -340,6 +372,9 @@ static uint8_t before[CTC_IMAGE_MOST + 1024];
 static uint8_t expected[CTC_IMAGE_MOST + 1024];
 static uint8_t out[CTC_IMAGE_MOST + 1024];
 static uint8_t marks[1024];
+static uint8_t marks_before[1024];
+static uint8_t marks_out[1024];
+static struct pass first, second;
 
 /* Some counts, then those at the edges of every blockette: 256k - 1, 256k and 256k + 1. */
 enum { FEW = 7, MOST_BLOCKETTES = CTC_MARKS_MOST - 2, EDGES = FEW + 3 * MOST_BLOCKETTES - 2 };
@@ -356,12 +391,18 @@ static bool at_an_end(size_t count)
     return count < 1030 || count > CTC_COUNT_LIMIT - 256;
 }
 
-/* The space `now` must be `before` with `given_len` bytes of `given` at its start. */
+/* The space `now` must be `was` with `given_len` bytes of `given` at its start. */
+static bool start_written(const uint8_t *now, const uint8_t *was, size_t length,
+                          const uint8_t *given, size_t given_len)
+{
+    return given_len <= length && alike(now, given, given_len) &&
+           alike(now + given_len, was + given_len, length - given_len);
+}
+
 static bool only_start_written(const uint8_t *now, size_t length, const uint8_t *given,
                                size_t given_len)
 {
-    return given_len <= length && alike(now, given, given_len) &&
-           alike(now + given_len, before + given_len, length - given_len);
+    return start_written(now, before, length, given, given_len);
 }
 
 static void constants(void)
@@ -375,6 +416,7 @@ static void constants(void)
     expect(CTC_MARK_GOOD == 15, "good mark");
     expect(CTC_DONE == 0 && CTC_REFUSED_LENGTH == 9 && CTC_REFUSED_MARK == 10, "refusals");
     expect(CTC_REFUSED_SPACE == 11 && CTC_REFUSED_UNRESTORABLE == 12, "refusals");
+    expect(CTC_REFUSED_COUNTS == 13 && CTC_REFUSED_UNLIKE == 14, "refusals");
     expect(ctc_image_length(CTC_COUNT_LIMIT, CTC_DENSITY_GCR) == CTC_IMAGE_MOST, "longest image");
     expect(ctc_mark_count(CTC_COUNT_LIMIT, CTC_DENSITY_GCR) == CTC_MARKS_MOST, "most marks");
 }
@@ -861,6 +903,323 @@ static void unusual_marks(void)
            "errors after the stop");
 }
 
+/* Both passes read the record of `bytes` without errors. */
+static void read_twice(size_t count)
+{
+    first.image_len = expected_image(bytes, count, CTC_DENSITY_GCR, first.image);
+    first.marks_len = ctc_mark_count(count, CTC_DENSITY_GCR);
+    memset(first.marks, CTC_MARK_GOOD, sizeof first.marks);
+    second = first;
+}
+
+static void spoil(struct pass *pass, size_t place)
+{
+    fill_random(pass->image + 2 + 256 * place, 256);
+    pass->marks[place] = random_error();
+}
+
+/* Merges the two passes in spaces of these lengths, filled before; a refusal must leave both. */
+static uint32_t merge_in(size_t room, size_t marks_room)
+{
+    fill_random(before, room);
+    memcpy(out, before, room);
+    fill_random(marks_before, marks_room);
+    memcpy(marks_out, marks_before, marks_room);
+    uint32_t refusal = merge(&first, &second, out, room, marks_out, marks_room);
+    expect(refusal == CTC_DONE ||
+               (alike(out, before, room) && alike(marks_out, marks_before, marks_room)),
+           "refusal %u wrote", (unsigned)refusal);
+    return refusal;
+}
+
+/* The merged image and marks must be those of `image` and `marks`, and nothing else written. */
+static void expect_merged(size_t room, size_t marks_room)
+{
+    size_t count = ctc_image_count(first.image, 2);
+    expect(merge_in(room, marks_room) == CTC_DONE, "merged %zu", count);
+    expect(only_start_written(out, room, image, first.image_len), "image of %zu", count);
+    expect(start_written(marks_out, marks_before, marks_room, marks, first.marks_len),
+           "marks of %zu", count);
+}
+
+static void null_merge(void)
+{
+    static const uint8_t empty[2] = {0, 0};
+    uint8_t two[2] = {1, 2};
+    fill_random(bytes, 5);
+    read_twice(5);
+    for (int missing = 0; missing < 7; missing++) {
+        memset(out, 0xEE, 771);
+        memset(marks_out, 0xEE, 4);
+        uint32_t answer = missing < 4 ? CTC_REFUSED_LENGTH : missing < 6 ? CTC_REFUSED_SPACE : CTC_DONE;
+        uint32_t given = ctc_merge(missing == 0 ? NULL : first.image, missing == 0 ? 0 : 770,
+                                   missing == 1 ? NULL : first.marks, missing == 1 ? 0 : 3,
+                                   missing == 2 ? NULL : second.image, missing == 2 ? 0 : 770,
+                                   missing == 3 ? NULL : second.marks, missing == 3 ? 0 : 3,
+                                   missing == 4 ? NULL : out, missing == 4 ? 0 : 771,
+                                   missing == 5 ? NULL : marks_out, missing == 5 ? 0 : 4);
+        expect(given == answer, "argument %d", missing);
+        expect((out[0] == 0xEE) == (answer != CTC_DONE) && out[770] == 0xEE, "argument %d", missing);
+        expect((marks_out[0] == 0xEE) == (answer != CTC_DONE) && marks_out[3] == 0xEE,
+               "argument %d", missing);
+    }
+    expect(ctc_merge(empty, 2, NULL, 0, empty, 2, NULL, 0, two, 2, NULL, 0) == CTC_DONE,
+           "records of 0 bytes");
+    expect(two[0] == 0 && two[1] == 0, "two bytes");
+    expect(ctc_merge(NULL, 0, NULL, 0, NULL, 0, NULL, 0, NULL, 0, NULL, 0) == CTC_REFUSED_LENGTH,
+           "nothing at all");
+}
+
+/* What is only read may overlap: here both passes are one, and its marks stand in its image. */
+static void merge_of_what_overlaps(void)
+{
+    static const uint8_t three[3] = {CTC_MARK_GOOD, 3, CTC_MARK_GOOD};
+    size_t length = expected_image(three, 3, CTC_DENSITY_GCR, image);
+    const uint8_t *inside = image + 2;
+    expect(ctc_merge(image, length, inside, 3, image, length, inside, 3, out, length, marks_out, 3) ==
+               CTC_DONE,
+           "merged");
+    expect(alike(out, image, length) && alike(marks_out, inside, 3), "the pass");
+}
+
+/* Good and bad by chance in each pass; what is good in neither comes from the first. */
+static void merges_edges(void)
+{
+    for (size_t i = 0; i < EDGES; i++) {
+        size_t count = edge_count(i);
+        bool all = at_an_end(count);
+        fill_random(bytes, count);
+        read_twice(count);
+        memcpy(image, first.image, first.image_len);
+        memcpy(marks, first.marks, first.marks_len);
+        for (size_t place = 0; place < first.marks_len; place++) {
+            bool bad = between(0, 1), bad_too = between(0, 1);
+            if (bad) {
+                spoil(&first, place);
+            }
+            if (bad_too) {
+                spoil(&second, place);
+            }
+            if (bad && bad_too) {
+                memcpy(image + 2 + 256 * place, first.image + 2 + 256 * place, 256);
+                marks[place] = first.marks[place];
+            }
+        }
+        for (size_t more = 0; more <= (all ? 600 : 0); more += 300) {
+            expect_merged(first.image_len + more, first.marks_len + (600 - more) % 600);
+        }
+    }
+}
+
+static void worked_merge(void)
+{
+    /* tape order: 2, 1, 0, check 1, check 0; each blockette holds one value */
+    static const uint8_t values[3][5] = {
+        {10, 91, 92, 40, 93}, {81, 20, 82, 40, 50}, {10, 20, 92, 40, 50}};
+    static const uint8_t marked[3][5] = {{15, 4, 7, 15, 1}, {9, 15, 3, 15, 15}, {15, 15, 7, 15, 15}};
+    read_twice(600);
+    memcpy(image, first.image, 2);
+    for (size_t place = 0; place < 5; place++) {
+        memset(first.image + 2 + 256 * place, values[0][place], 256);
+        memset(second.image + 2 + 256 * place, values[1][place], 256);
+        memset(image + 2 + 256 * place, values[2][place], 256);
+    }
+    memcpy(first.marks, marked[0], 5);
+    memcpy(second.marks, marked[1], 5);
+    memcpy(marks, marked[2], 5);
+    expect_merged(1282, 5);
+}
+
+/* A byte of the second pass is changed; only where both are good is that a matter. */
+static void merge_refuses_unlike(void)
+{
+    static const size_t counts[] = {1, 600, CTC_COUNT_LIMIT};
+    for (size_t i = 0; i < 3; i++) {
+        fill_random(bytes, counts[i]);
+        read_twice(counts[i]);
+        for (size_t place = 0; place < first.marks_len; place++) {
+            for (size_t turn = 0; turn < (i < 2 ? 12 : 1); turn++) {
+                size_t byte = turn < 4 ? 255 * (place % 2) : turn < 8 ? 255 : between(0, 255);
+                uint8_t *changed = second.image + 2 + 256 * place + byte;
+                unsigned bad = turn % 4;
+                *changed ^= 1;
+                first.marks[place] = bad & 1 ? 9 : CTC_MARK_GOOD;
+                second.marks[place] = bad & 2 ? 1 : CTC_MARK_GOOD;
+                expect(merge_in(first.image_len, first.marks_len) ==
+                           (bad == 0 ? CTC_REFUSED_UNLIKE : CTC_DONE),
+                       "count %zu, place %zu, byte %zu, bad %u", counts[i], place, byte, bad);
+                *changed ^= 1;
+                first.marks[place] = second.marks[place] = CTC_MARK_GOOD;
+            }
+        }
+    }
+}
+
+static void merge_refuses(void)
+{
+    for (unsigned reasons = 0; reasons < 1024; reasons++) {
+        fill_random(bytes, 1100);
+        read_twice(1100);
+        size_t room = first.image_len, marks_room = first.marks_len;
+        if (reasons & 1u) {
+            first.image_len--;
+        }
+        if (reasons & 2u) {
+            second.image_len++;
+        }
+        if (reasons & 4u) {
+            first.marks_len++;
+        }
+        if (reasons & 8u) {
+            second.marks_len--;
+        }
+        if (reasons & 16u) {
+            first.marks[0] = 10;
+        }
+        if (reasons & 32u) {
+            second.marks[0] = 0;
+        }
+        if (reasons & 64u) { /* 1,099 has as many blockettes */
+            expected_image(bytes, 1099, CTC_DENSITY_GCR, first.image);
+            memcpy(first.image + 2, second.image + 2, room - 2);
+        }
+        if (reasons & 128u) { /* a check blockette as well as a data blockette */
+            first.image[2 + 256 * between(1, 6)] ^= 128;
+        }
+        if (reasons & 256u) {
+            room--;
+        }
+        if (reasons & 512u) {
+            marks_room--;
+        }
+        uint32_t answer = reasons & 15u                   ? CTC_REFUSED_LENGTH
+                          : reasons & (16u | 32u)         ? CTC_REFUSED_MARK
+                          : reasons & 64u                 ? CTC_REFUSED_COUNTS
+                          : reasons & 128u                ? CTC_REFUSED_UNLIKE
+                          : reasons & (256u | 512u)       ? CTC_REFUSED_SPACE
+                                                          : CTC_DONE;
+        expect(merge_in(room, marks_room) == answer, "reasons %u", reasons);
+    }
+}
+
+static void merge_refuses_every_mark(void)
+{
+    fill_random(bytes, 300);
+    for (unsigned turn = 0; turn < 512; turn++) {
+        unsigned value = turn / 2;
+        bool legal = (value >= 1 && value <= 9) || value == 15;
+        read_twice(300);
+        (turn % 2 == 0 ? &first : &second)->marks[value % 4] = (uint8_t)value;
+        expect(merge_in(first.image_len, 4) == (legal ? CTC_DONE : CTC_REFUSED_MARK),
+               "mark %u at %u of pass %u", value, value % 4, turn % 2 + 1);
+    }
+}
+
+static void merge_refuses_lengths(void)
+{
+    for (size_t i = 0; i < EDGES; i++) {
+        size_t count = edge_count(i);
+        if (!at_an_end(count)) {
+            continue;
+        }
+        fill_random(bytes, count);
+        read_twice(count);
+        size_t length = first.image_len, mark_count = first.marks_len;
+        for (int turn = 0; turn < 2; turn++) {
+            struct pass *pass = turn == 0 ? &first : &second;
+            const size_t lengths_wrong[] = {length - 1, length + 1, 0, 1, length / 2};
+            for (size_t w = 0; w < sizeof lengths_wrong / sizeof lengths_wrong[0]; w++) {
+                pass->image_len = lengths_wrong[w];
+                expect(merge_in(CTC_IMAGE_MOST, CTC_MARKS_MOST) == CTC_REFUSED_LENGTH,
+                       "count %zu, pass %d, image of %zu", count, turn + 1, lengths_wrong[w]);
+            }
+            pass->image_len = length;
+            const size_t marks_wrong[] = {mark_count - 1, mark_count + 1, 0, 1, 2, CTC_MARKS_MOST};
+            for (size_t w = 0; w < sizeof marks_wrong / sizeof marks_wrong[0]; w++) {
+                /* less than none is nothing to be tried */
+                if (marks_wrong[w] != mark_count && marks_wrong[w] <= sizeof pass->marks) {
+                    pass->marks_len = marks_wrong[w];
+                    expect(merge_in(CTC_IMAGE_MOST, CTC_MARKS_MOST) == CTC_REFUSED_LENGTH,
+                           "count %zu, pass %d, %zu marks", count, turn + 1, marks_wrong[w]);
+                }
+            }
+            pass->marks_len = mark_count;
+        }
+    }
+}
+
+/* Each length is right by its own count, so that the counts alone tell. */
+static void merge_refuses_counts(void)
+{
+    static const size_t counts[] = {0, 1, 255, 256, 257, 600, 601, 65279, 65280, 65281, 65535};
+    enum { COUNTS = sizeof counts / sizeof counts[0] };
+    memset(bytes, 0x5A, sizeof bytes);
+    for (size_t i = 0; i < COUNTS; i++) {
+        for (size_t j = 0; j < COUNTS; j++) {
+            read_twice(counts[j]);
+            struct pass other = second;
+            read_twice(counts[i]);
+            second = other;
+            uint32_t answer = i == j ? CTC_DONE : CTC_REFUSED_COUNTS;
+            expect(merge_in(CTC_IMAGE_MOST, CTC_MARKS_MOST) == answer, "counts %zu and %zu",
+                   counts[i], counts[j]);
+            expect(i == j || merge_in(0, 0) == answer, "no space, counts %zu and %zu", counts[i],
+                   counts[j]);
+        }
+    }
+}
+
+static void merge_spaces(void)
+{
+    for (size_t i = 0; i < EDGES; i++) {
+        size_t count = edge_count(i);
+        read_twice(count);
+        size_t length = first.image_len, mark_count = first.marks_len;
+        expect(merge_in(length - 1, mark_count) == CTC_REFUSED_SPACE, "image of %zu", count);
+        expect(count == 0 || merge_in(length, mark_count - 1) == CTC_REFUSED_SPACE, "marks of %zu",
+               count);
+        if (at_an_end(count)) {
+            expect(merge_in(0, mark_count) == CTC_REFUSED_SPACE, "no image space, %zu", count);
+            expect(count == 0 || merge_in(length, 0) == CTC_REFUSED_SPACE, "no marks space, %zu",
+                   count);
+        }
+    }
+}
+
+/* Two passes that cannot be restored: a record comes back from both. */
+static void merged_round_trips(void)
+{
+    for (size_t turn = 0; turn < 100; turn++) {
+        /* from six data blockettes on, two of each parity can be bad in each pass alone */
+        size_t count = between(1281, turn % 4 == 0 ? CTC_COUNT_LIMIT : 2000);
+        size_t length = ctc_image_length(count, CTC_DENSITY_GCR);
+        fill_random(bytes, count);
+        read_twice(count);
+        expect(build(bytes, count, CTC_DENSITY_GCR, first.image, length) == CTC_DONE, "built");
+        second = first;
+        size_t last = first.marks_len - 1, in_both = between(0, last);
+        for (size_t place = 0; place <= last; place++) {
+            spoil(place / 2 % 2 == turn % 2 ? &first : &second, place);
+        }
+        spoil(&first, in_both);
+        spoil(&second, in_both);
+        expect(restore(first.image, length, first.marks, last + 1, out, count) ==
+                   CTC_REFUSED_UNRESTORABLE,
+               "first pass of %zu", count);
+        expect(restore(second.image, length, second.marks, last + 1, out, count) ==
+                   CTC_REFUSED_UNRESTORABLE,
+               "second pass of %zu", count);
+        expect(merge_in(length, last + 1) == CTC_DONE, "merged %zu", count);
+        memcpy(image, out, length);
+        memcpy(marks, marks_out, last + 1);
+        fill_random(before, count);
+        memcpy(out, before, count);
+        expect(restore(image, length, marks, last + 1, out, count) == CTC_DONE, "restored %zu",
+               count);
+        expect(alike(out, bytes, count), "the record of %zu", count);
+    }
+}
+
 int main(void)
 {
     setvbuf(stdout, NULL, _IOLBF, BUFSIZ); /* a fence loses no line */
@@ -890,6 +1249,17 @@ int main(void)
     run("two bad of one parity", unrestorable);
     run("report spaces", report_spaces);
     run("unusual marks", unusual_marks);
+    run("merge: null arguments", null_merge);
+    run("merge: passes that overlap", merge_of_what_overlaps);
+    run("merge: worked case", worked_merge);
+    run("merges at the edges of blockettes", merges_edges);
+    run("merge refuses, in its order", merge_refuses);
+    run("merge refuses marks", merge_refuses_every_mark);
+    run("merge refuses lengths", merge_refuses_lengths);
+    run("merge refuses counts", merge_refuses_counts);
+    run("merge refuses unlike blockettes", merge_refuses_unlike);
+    run("merge spaces", merge_spaces);
+    run("round trips of two passes", merged_round_trips);
     printf("%d passed, %d failed\n", passed, failed);
     return failed == 0 ? 0 : 1;
 }

@@ -57,3 +57,11 @@ spaceShort = 11
 -- "12 restorer: two bad of one parity"
 abbrev pub unrestorable : ℕ
 unrestorable = 12
+
+-- "13 the counts differ", of two passes (document 02, Wish 5)
+abbrev pub countsDiffer : ℕ
+countsDiffer = 13
+
+-- "14 a blockette is good in both and unlike"
+abbrev pub blockettesUnlike : ℕ
+blockettesUnlike = 14

@@ -32,3 +32,7 @@ pub const MARK_VALUE: u32 = 10;
 pub const SPACE_SHORT: u32 = 11;
 // "restorer: two bad of one parity"
 pub const UNRESTORABLE: u32 = 12;
+// "the counts differ": of two passes
+pub const COUNTS_DIFFER: u32 = 13;
+// "a blockette is good in both and unlike"
+pub const BLOCKETTES_UNLIKE: u32 = 14;

@@ -14,16 +14,11 @@ use lib.ListN.{length, getD, drop, replicate, length-drop, length-replicate, get
 use lib.Seq.{drop-cons}
 use Rattle.common.specs.Pick.{pick}
 use Rattle.common.proofs.PickLaws.{pick-by}
-use Rattle.marks.specs.Marks.{legalMark, legalMarks, isError}
+use Rattle.marks.specs.Marks.{legalMark, legalMarks, isError, Once}
 use Rattle.marks.specs.Scan.{scanFrom, scanMarks}
 use Rattle.marks.specs.declared.Scan.{Scan}
 
 -- ---- marks with at most one error of each parity
-
-abbrev pub Once : List ℕ → Type 0
-Once marks =
-    (i j : ℕ) → i < length marks → j < length marks → isError (getD marks i 0) ≡ true → isError (getD marks j 0) ≡ true →
-    (length marks - 1 - i) % 2 ≡ (length marks - 1 - j) % 2 → i ≡ j
 
 -- an error of a parity at a place is the place
 abbrev pub IsOnly : List ℕ → ℕ → ℕ → ℕ → Type 0

@@ -1,9 +1,11 @@
 -- Marks: "one for each GCR blockette in tape order, 1-9 an error, 15 good" (document 01, Records).
 -- Assumes nothing.
-use Prim.Native.Nat.{ℕ}
+use Prim.Native.Nat.{ℕ, _-_, _%_, _<_}
+use mathlib.Core.Path.{_≡_}
 use mathlib.Core.Bool.{Bool, true, not, _&&_, _||_}
 use mathlib.Core.List.{List, [], _∷_}
 use lib.Dec.{leb, eqb}
+use lib.ListN.{length, getD}
 
 -- ".. 15 good"
 abbrev pub good : ℕ
@@ -21,6 +23,12 @@ legalMarks (mark ∷ marks) = legalMark mark && legalMarks marks
 -- a blockette whose mark is not "good"
 unfoldable pub isError : ℕ → Bool
 isError mark = not (eqb mark good)
+
+-- "at most one odd and one even": two errors of one parity are the same. A number has the parity of how many blockettes follow.
+abbrev pub Once : List ℕ → Type 0
+Once marks =
+    (i j : ℕ) → i < length marks → j < length marks → isError (getD marks i 0) ≡ true → isError (getD marks j 0) ≡ true →
+    (length marks - 1 - i) % 2 ≡ (length marks - 1 - j) % 2 → i ≡ j
 
 -- ".. mark 0", which no blockette comes with
 abbrev pub torn : ℕ

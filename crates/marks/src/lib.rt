@@ -3,7 +3,7 @@ use common::give;
 ghost use mathlib.Core.Path.{_≡_};
 ghost use Prim.Native.Nat.{_≤_};
 ghost use lib.ListN.{length};
-ghost use Rattle.marks.specs.Marks.{legalMark, legalMarks, tornMarks, mostMarks};
+ghost use Rattle.marks.specs.Marks.{legalMark, legalMarks, isError, tornMarks, mostMarks};
 ghost use Rattle.marks.specs.Scan.{scanMarks, defectAt, isFound, findingsOf, findingsTorn, checksAlone};
 
 // The mark of a good blockette.
@@ -48,6 +48,13 @@ fn legal_mark(mark: u8) -> bool
     ensures { λ r. ⌜ r ≡ legalMark mark ⌝ }
 {
     ((1 <= mark) & (mark <= 9)) | (mark == GOOD)
+}
+
+// Whether a mark is that of a bad blockette.
+pub fn is_error(mark: u8) -> bool
+    ensures { λ r. ⌜ r ≡ isError mark ⌝ }
+{
+    mark != GOOD
 }
 
 // Whether every mark is.

@@ -6,16 +6,19 @@ use Prim.Native.Nat.{ℕ, _≤_}
 use native.Mathlib.Omega.{arith}
 use lib.ListN.{length}
 use Rattle.common.specs.Given.{given}
+use Rattle.marks.specs.Marks.{Once}
 use Rattle.records.specs.Count.{limit, countBytes, countOf}
 use Rattle.records.specs.Image.{imageOf, imageLength, markCount}
+use Rattle.records.specs.Whole.{wholeRefusal}
 use Rattle.records.specs.Restore.{restoreRefusal, restoredBytes, restoreInto}
-use Rattle.records.specs.Spoiled.{Spoiled}
+use Rattle.records.specs.Spoiled.{Shown, Spoiled}
 use Rattle.records.proofs.ImageLaws.{limit-16, count-said, image-length, image-holds, marks-fill}
-use Rattle.records.proofs.Restoring.{restored-bytes, restorer-accepts, restorer-gives}
+use Rattle.records.proofs.Restoring.{whole-accepted, restored-bytes, restorer-accepts, restorer-gives}
 
-module _ (bytes image marks : List ℕ) (fits : length bytes ≤ limit) (s : Spoiled (imageOf bytes 1) image marks) where
+-- an image that shows what was built
+module _ (bytes image marks : List ℕ) (fits : length bytes ≤ limit) (s : Shown (imageOf bytes 1) image marks) where
   -- the image says the count of the bytes
-  said : countOf image ≡ length bytes
+  pub said : countOf image ≡ length bytes
   unfolding imageOf countBytes
   said = count-said image (length bytes) (omega (arith, limit-16)) (s .count)
 
@@ -27,20 +30,24 @@ module _ (bytes image marks : List ℕ) (fits : length bytes ≤ limit) (s : Spo
   marked : length marks ≡ markCount (length bytes) 1
   marked = omega (arith, sym (s .marked) ∙ image-length bytes 1 ∙ marks-fill (length bytes))
 
-  -- the restorer does not refuse
-  accepted : (space : ℕ) → length bytes ≤ space → restoreRefusal image marks space ≡ 0
-  accepted space room =
-      restorer-accepts image marks (rw said fits) (rw said long) (rw said marked) (s .legal) (s .once) space (rw said room)
+  -- it passes the test
+  pub shown-accepted : wholeRefusal image marks 1 ≡ 0
+  shown-accepted = whole-accepted image marks (rw said fits) (rw said long) (rw said marked) (s .legal)
 
-  -- the restored bytes are those that it was built from
-  pub restored-are-the-bytes : restoredBytes image marks ≡ bytes
-  restored-are-the-bytes =
-      restored-bytes bytes image marks said (omega (arith, long, image-holds (length bytes) 1)) marked (s .once) (s .good)
+  -- with at most one error of each parity the restorer does not refuse
+  accepted : Once marks → (space : ℕ) → length bytes ≤ space → restoreRefusal image marks space ≡ 0
+  accepted once space room =
+      restorer-accepts image marks (rw said fits) (rw said long) (rw said marked) (s .legal) once space (rw said room)
+
+  -- and the restored bytes are those that it was built from
+  pub restored-are-the-bytes : Once marks → restoredBytes image marks ≡ bytes
+  restored-are-the-bytes once =
+      restored-bytes bytes image marks said (omega (arith, long, image-holds (length bytes) 1)) marked once (s .good)
 
 -- The restorer does not refuse, and gives the bytes at the start of the space.
 pub built-records-are-restored :
     (bytes image marks space : List ℕ) → length bytes ≤ limit → Spoiled (imageOf bytes 1) image marks → length bytes ≤ length space
     → (restoreRefusal image marks (length space) ≡ 0) × (restoreInto image marks space ≡ given bytes space)
 built-records-are-restored bytes image marks space fits s room =
-    let none = accepted bytes image marks fits s (length space) room in
-    (none, restorer-gives image marks space none ∙ ap (λ (l : List ℕ). given l space) (restored-are-the-bytes bytes image marks fits s))
+    let none = accepted bytes image marks fits (s .shown) (s .once) (length space) room in
+    (none, restorer-gives image marks space none ∙ ap (λ (l : List ℕ). given l space) (restored-are-the-bytes bytes image marks fits (s .shown) (s .once)))

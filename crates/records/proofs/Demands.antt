@@ -1,31 +1,41 @@
 -- The theorems of the records, of the C functions themselves. 1: `calls-meet-their-contracts` and `refused-calls-change-nothing`. 2:
 -- `calls-restore-what-was-built`: what `ctc_build` leaves, spoiled as demand 2 says, `ctc_restore` gives back; and that this speaks of something:
--- `every-record-can-be-spoiled-and-restored`. And of records within the limit of before: `earlier-tapes-read-the-same`.
+-- `every-record-can-be-spoiled-and-restored`. Of two passes: `calls-merge-bad-only-where-both-are` and `calls-restore-what-two-passes-show`, and that
+-- this speaks of something: `two-passes-are-restored-where-neither-is`. And of records within the limit of before: `earlier-tapes-read-the-same`.
 -- Assumes nothing.
 pub mod Contracts
-use mathlib.Core.Path.{_≡_, sym, ap, subst, _∙_}
+use mathlib.Core.Path.{_≡_, sym, ap, ap₂, subst, _∙_}
+use mathlib.Core.Bool.{_&&_}
 use mathlib.Core.List.{List}
 use Prim.Native.Nat.{ℕ, _≤_, _<_}
 use native.Mathlib.Omega.{arith}
 use lib.Dec.{ltb, eqb}
 use borrow.Author.Tests.{le-ltb}
-use lib.ListN.{length, take}
+use lib.ListN.{length, take, getD, List·getD-append}
+use lib.Seq.{take-at}
 use Rattle.common.specs.Pick.{pick}
 use Rattle.common.specs.Given.{given}
-use Rattle.common.proofs.PickLaws.{by-test, pick-no, where-refused}
+use Rattle.common.proofs.PickLaws.{by-test, pick-no, where-refused, where-done}
+use Rattle.marks.specs.Marks.{isError, Once}
 use Rattle.marks.specs.Scan.{scanMarks}
+use Rattle.passes.specs.Passes.{mergedMarks}
+use Rattle.passes.proofs.MergedLaws.{marks-length, mark-at, mark-bad}
 use Rattle.records.specs.Count.{limit, countOf}
-use Rattle.records.specs.Image.{imageOf, imageLength}
+use Rattle.records.specs.Image.{imageOf, imageLength, markCount}
 use Rattle.records.specs.Build.{buildRefusal, buildInto}
 use Rattle.records.specs.Whole.{wholeRefusal}
 use Rattle.records.specs.Restore.{restoreRefusal, restoredBytes, restoreInto}
+use Rattle.records.specs.Merge.{Pass, mergeRefusal, mergedImage, mergeImageInto, mergeMarksInto}
 use Rattle.records.specs.Earlier.{earlierLimit, earlierBuildRefusal, earlierBuildInto, earlierWholeRefusal, earlierRestoreRefusal, earlierRestoreInto}
 use Rattle.records.specs.Spoiled.{Spoiled}
 use Rattle.records.specs.Interface.{scanRefusal, scanInto}
+use Rattle.records.proofs.ImageLaws.{image-length}
 use Rattle.records.proofs.BuiltRecordsAreRestored.{built-records-are-restored}
+use Rattle.records.proofs.MergedRecordsAreRestored.{Shows, merged-shows, merging-is-accepted, merged-records-are-restored}
 use Rattle.records.proofs.Spoiling.{IsBad, twoBad, ReallySpoiled, records-are-spoiled}
-use Rattle.records.proofs.Demands.Contracts.{BuildAllows, RestoreAllows, ScanAllows, builds-are-defined, restores-are-defined}
-use Rattle.records.proofs.Demands.Contracts.{scans-are-defined, restores-are-allowed, built-within, built-image, builds-within, Meet, all-met}
+use Rattle.records.proofs.TwoPasses.{firstPass, secondPass, first-shows, second-shows, first-alone, second-alone, both-once}
+use Rattle.records.proofs.Demands.Contracts.{BuildAllows, RestoreAllows, MergeAllows, ScanAllows, builds-are-defined, restores-are-defined, merges-are-defined}
+use Rattle.records.proofs.Demands.Contracts.{marks-left, merged-marks-left, merged-image-left, scans-are-defined, restores-are-allowed, merges-are-allowed, built-within, built-image, builds-within, Meet, all-met}
 
 -- ---- demand 1
 
@@ -39,10 +49,12 @@ pub record RefusedCallsChangeNothing : Type 0 where
       → BuildAllows bytes density space refusal after → (refusal ≡ 0 → ⊥) → after ≡ space
   pub restore : (image marks space : List ℕ) (refusal : ℕ) (after : List ℕ)
       → RestoreAllows image marks space refusal after → (refusal ≡ 0 → ⊥) → after ≡ space
+  pub merge : (first second : Pass) (image marks : List ℕ) (refusal : ℕ) (imageAfter marksAfter : List ℕ)
+      → MergeAllows first second image marks refusal imageAfter marksAfter → (refusal ≡ 0 → ⊥) → (imageAfter ≡ image) × (marksAfter ≡ marks)
   pub scan : (marks space : List ℕ) (refusal : ℕ) (after : List ℕ) → ScanAllows marks space refusal after → (refusal ≡ 0 → ⊥) → after ≡ space
 
 pub refused-calls-change-nothing : RefusedCallsChangeNothing
-unfolding buildInto restoreInto scanRefusal scanInto pick
+unfolding buildInto restoreInto mergeImageInto mergeMarksInto scanRefusal scanInto pick
 refused-calls-change-nothing =
     record {
       build = λ bytes density space refusal after allowed some.
@@ -51,6 +63,11 @@ refused-calls-change-nothing =
       restore = λ image marks space refusal after allowed some.
           let promised = restores-are-defined image marks space refusal after allowed in
           promised .1 ∙ where-refused _ _ _ (λ none. some (promised .0 ∙ none));
+      merge = λ first second image marks refusal imageAfter marksAfter allowed some.
+          let promised = merges-are-defined first second image marks refusal imageAfter marksAfter allowed in (
+            promised .image-after ∙ where-refused _ _ _ (λ none. some (promised .answer ∙ none)),
+            promised .marks-after ∙ where-refused _ _ _ (λ none. some (promised .answer ∙ none)),
+          );
       scan = λ marks space refusal after allowed some.
           let promised = scans-are-defined marks space refusal after allowed in
           by-test (ltb (length space) 9) (λ short. promised .1 ∙ simp short) (λ room. absurd (some (promised .0 ∙ simp room)));
@@ -100,6 +117,122 @@ every-record-can-be-spoiled-and-restored bytes density space out mark₁ mark₂
       builds = made;
       spoiled = subst (λ (l : List ℕ). ReallySpoiled l image marks) (sym (built-image bytes density space built gcr made)) (found .1);
       restores = subst (λ (r : ℕ). RestoreAllows image marks out r (restoreInto image marks out)) answer (restores-are-allowed image marks out);
+    }
+
+-- ---- one record out of two passes
+
+-- Bytes that the builder made an image of in GCR, and two passes over it, each of which shows the built count and the built bytes in every blockette
+-- that it marks good: with room for both, merging answers 0. If the merged marks hold at most one error of each parity, then of what it leaves at
+-- the start of its spaces the restorer, with room for the bytes, answers 0 and gives the bytes.
+pub calls-restore-what-two-passes-show :
+    (bytes : List ℕ) (density : ℕ) (space built : List ℕ) → (density ≡ 0 → ⊥) → BuildAllows bytes density space 0 built
+    → (first second : Pass) → Shows (take (imageLength (length bytes) density) built) first → Shows (take (imageLength (length bytes) density) built) second
+    → (image marks : List ℕ) (refusal : ℕ) (imageAfter marksAfter : List ℕ) → length (first .image) ≤ length image → length (first .marks) ≤ length marks
+    → MergeAllows first second image marks refusal imageAfter marksAfter
+    → (refusal ≡ 0)
+    × (Once (take (length (first .marks)) marksAfter) → (out : List ℕ) (answer : ℕ) (after : List ℕ) → length bytes ≤ length out
+    → RestoreAllows (take (length (first .image)) imageAfter) (take (length (first .marks)) marksAfter) out answer after
+    → (answer ≡ 0) × (after ≡ given bytes out))
+calls-restore-what-two-passes-show
+    bytes density space built gcr builds first second one two image marks refusal imageAfter marksAfter image-room marks-room merges =
+    let within = built-within bytes density space built gcr builds in
+    let is-image = built-image bytes density space built gcr builds in
+    let one′ = subst (λ (l : List ℕ). Shows l first) is-image one in
+    let two′ = subst (λ (l : List ℕ). Shows l second) is-image two in
+    let none = merges-are-defined first second image marks refusal imageAfter marksAfter merges .answer
+    ∙ merging-is-accepted bytes first second within one′ two′ (length image) (length marks) image-room marks-room
+    in
+    let done = subst (λ (r : ℕ). MergeAllows first second image marks r imageAfter marksAfter) none merges in
+    let shows = merged-shows (imageOf bytes 1) first second one′ two′ in
+    let merged-image = merged-image-left first second image marks imageAfter marksAfter done (shows .whole ∙ sym (one′ .whole)) in
+    let merged-marks = merged-marks-left first second image marks imageAfter marksAfter done in (
+      none,
+      λ once out answer after room restores.
+          let given-back = restores-are-defined _ _ out answer after restores in
+          let restored = merged-records-are-restored bytes first second within one′ two′ (subst Once merged-marks once) out room in (
+            given-back .0 ∙ ap₂ (λ (i m : List ℕ). restoreRefusal i m (length out)) merged-image merged-marks ∙ restored .0,
+            given-back .1 ∙ ap₂ (λ (i m : List ℕ). restoreInto i m out) merged-image merged-marks ∙ restored .1,
+          ),
+    )
+
+-- "A merged blockette is bad only if both passes had it bad", and is good exactly if one had it good: at each place, where merging answers 0.
+pub calls-merge-bad-only-where-both-are :
+    (first second : Pass) (image marks imageAfter marksAfter : List ℕ) → MergeAllows first second image marks 0 imageAfter marksAfter
+    → (place : ℕ) → place < length (first .marks)
+    → isError (getD marksAfter place 0) ≡ (isError (getD (first .marks) place 0) && isError (getD (second .marks) place 0))
+unfolding given
+calls-merge-bad-only-where-both-are first second image marks imageAfter marksAfter merges place below =
+    let merged = mergedMarks (first .marks) (second .marks) in
+    let within : place < length merged = omega (arith, marks-length (first .marks) (second .marks)) in
+    ap (λ (l : List ℕ). isError (getD l place 0)) (marks-left first second image marks imageAfter marksAfter merges)
+    ∙ ap isError (List·getD-append merged _ 0 place within ∙ mark-at (first .marks) (second .marks) place below)
+    ∙ mark-bad (getD (first .marks) place 0) (getD (second .marks) place 0)
+
+-- All this can happen: to every record of three blockettes of data, built in GCR, with two passes over it of which the restorer refuses each with 12,
+-- and gives the bytes from what merging leaves of both.
+pub record TwoPassesRestored (bytes : List ℕ) (density : ℕ) (space image marks out : List ℕ) : Type 0 where
+  pub built : List ℕ
+  pub first : Pass
+  pub second : Pass
+  pub imageAfter : List ℕ
+  pub marksAfter : List ℕ
+  pub builds : BuildAllows bytes density space 0 built
+  pub first-shows : Shows (take (imageLength (length bytes) density) built) first
+  pub second-shows : Shows (take (imageLength (length bytes) density) built) second
+  pub first-alone : RestoreAllows (first .image) (first .marks) out 12 out
+  pub second-alone : RestoreAllows (second .image) (second .marks) out 12 out
+  pub merges : MergeAllows first second image marks 0 imageAfter marksAfter
+  pub restores : RestoreAllows (take (length (first .image)) imageAfter) (take (length (first .marks)) marksAfter) out 0 (given bytes out)
+
+-- an answer of the restorer by its equations
+restores-so : (image marks out : List ℕ) (answer : ℕ) (after : List ℕ) {answer′ : ℕ} {after′ : List ℕ} → answer ≡ answer′ → after ≡ after′
+    → RestoreAllows image marks out answer after → RestoreAllows image marks out answer′ after′
+restores-so image marks out answer after {answer′} {after′} a b allowed =
+    subst (λ (l : List ℕ). RestoreAllows image marks out answer′ l) b (subst (λ (r : ℕ). RestoreAllows image marks out r after) a allowed)
+
+refused-alone : (image marks out : List ℕ) → restoreRefusal image marks (length out) ≡ 12 → RestoreAllows image marks out 12 out
+unfolding restoreInto
+refused-alone image marks out refused =
+    restores-so image marks out _ _ refused (where-refused (restoreRefusal image marks (length out)) _ out (λ none. omega arith)) (restores-are-allowed image marks out)
+
+pub two-passes-are-restored-where-neither-is :
+    (bytes : List ℕ) (density : ℕ) (space image marks out : List ℕ) → (density ≡ 0 → ⊥) → markCount (length bytes) 1 ≡ 5 → length bytes ≤ limit
+    → imageLength (length bytes) density ≤ length space → imageLength (length bytes) 1 ≤ length image → 5 ≤ length marks → length bytes ≤ length out
+    → TwoPassesRestored bytes density space image marks out
+two-passes-are-restored-where-neither-is bytes density space image marks out gcr five within fits image-room marks-room room =
+    let first = firstPass bytes in
+    let second = secondPass bytes in
+    let one = first-shows bytes five in
+    let two = second-shows bytes five in
+    let made = builds-within bytes density space within fits in
+    let built = buildInto bytes density space in
+    let is-image = sym (built-image bytes density space built gcr made) in
+    let one′ = subst (λ (l : List ℕ). Shows l first) is-image one in
+    let two′ = subst (λ (l : List ℕ). Shows l second) is-image two in
+    let first-room : length (first .image) ≤ length image = omega (arith, one .whole, image-length bytes 1) in
+    let none = merging-is-accepted bytes first second within one two (length image) (length marks) first-room marks-room in
+    let imageAfter = mergeImageInto first second image (length marks) in
+    let marksAfter = mergeMarksInto first second (length image) marks in
+    let merges = subst (λ (r : ℕ). MergeAllows first second image marks r imageAfter marksAfter) none (merges-are-allowed first second image marks) in
+    let once = subst Once (sym (merged-marks-left first second image marks imageAfter marksAfter merges)) both-once in
+    let given-back = restores-are-allowed (take (length (first .image)) imageAfter) (take (length (first .marks)) marksAfter) out in
+    let restored =
+    calls-restore-what-two-passes-show bytes density space built gcr made first second one′ two′ image marks 0 imageAfter marksAfter first-room marks-room merges
+    .1 once out _ _ room given-back
+    in
+    record {
+      built = built;
+      first = first;
+      second = second;
+      imageAfter = imageAfter;
+      marksAfter = marksAfter;
+      builds = made;
+      first-shows = one′;
+      second-shows = two′;
+      first-alone = refused-alone (first .image) (first .marks) out (first-alone bytes five within (length out) room);
+      second-alone = refused-alone (second .image) (second .marks) out (second-alone bytes five within (length out) room);
+      merges = merges;
+      restores = restores-so _ _ out _ _ (restored .0) (restored .1) given-back;
     }
 
 -- ---- tapes written before the limit was raised

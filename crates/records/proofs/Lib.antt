@@ -1,9 +1,12 @@
 pub mod ImageLaws
 pub mod WholeLaws
+pub mod MergeLaws
 pub mod Mending
 pub mod Restoring
 pub mod BuiltRecordsAreRestored
+pub mod MergedRecordsAreRestored
 pub mod Spoiling
+pub mod TwoPasses
 pub mod Demands
 pub mod RecordCases
 pub mod WrongAnswers

@@ -15,9 +15,9 @@ use Rattle.common.proofs.PickLaws.{pick-yes, pick-no, where-done}
 use Rattle.blockettes.specs.Blockettes.{blocketteAt, othersOf}
 use Rattle.blockettes.proofs.Others.{others-same}
 use Rattle.blockettes.proofs.Checked.{blockette-at, others-are-it}
-use Rattle.marks.specs.Marks.{legalMarks}
+use Rattle.marks.specs.Marks.{legalMarks, Once}
 use Rattle.marks.specs.Scan.{scanMarks}
-use Rattle.marks.proofs.ScanLaws.{Once, Found, ScannedOnce, scanned-once, beside-good, not-found-good}
+use Rattle.marks.proofs.ScanLaws.{Found, ScannedOnce, scanned-once, beside-good, not-found-good}
 use Rattle.records.specs.Count.{limit, countOf}
 use Rattle.records.specs.Image.{blocketteCount, blockettesOf, imageOf, imageLength, markCount}
 use Rattle.records.specs.Whole.{layoutRefusal, wholeRefusal}
@@ -118,7 +118,7 @@ restored-bytes bytes image marks said long marked once good =
 module _ (image marks : List ℕ) (within : countOf image ≤ limit) (long : length image ≡ imageLength (countOf image) 1)
     (marked : length marks ≡ markCount (countOf image) 1) (legal : legalMarks marks ≡ true) where
   -- the test passes
-  whole-accepted : wholeRefusal image marks 1 ≡ 0
+  pub whole-accepted : wholeRefusal image marks 1 ≡ 0
   unfolding wholeRefusal layoutRefusal
   whole-accepted =
       let two : 2 ≤ length image = omega (arith, image-holds (countOf image) 1) in

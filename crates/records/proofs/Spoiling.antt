@@ -13,11 +13,11 @@ use borrow.Author.Tests.{le-leb}
 use Rattle.common.proofs.PickLaws.{both-hold}
 use Rattle.blockettes.specs.Blockettes.{blocketteAt}
 use Rattle.blockettes.proofs.Checked.{blockette-length}
-use Rattle.marks.specs.Marks.{legalMark, legalMarks, isError}
+use Rattle.marks.specs.Marks.{legalMark, legalMarks, isError, Once}
 use Rattle.marks.proofs.ScanLaws.{good-legal, good-once}
 use Rattle.records.specs.Image.{blocketteCount, imageOf, markCount}
 use Rattle.records.specs.Restore.{writtenAt}
-use Rattle.records.specs.Spoiled.{Spoiled, spoiledAt}
+use Rattle.records.specs.Spoiled.{Shown, Spoiled, spoiledAt}
 use Rattle.records.proofs.ImageLaws.{image-length, marks-fill, marks-of}
 use Rattle.records.proofs.Mending.{written-length, written-in, written-elsewhere}
 
@@ -111,23 +111,21 @@ pub spoiled-nowhere : (bytes : List ℕ) → Spoiled (imageOf bytes 1) (imageOf 
 spoiled-nowhere bytes =
     let n = markCount (length bytes) 1 in
     record {
-      whole = refl;
-      count = refl;
-      marked = image-length bytes 1 ∙ marks-fill (length bytes) ∙ ap (λ (k : ℕ). 2 + 256 * k) (sym (length-replicate n 15));
-      legal = good-legal n;
-      good = λ place below fine. refl;
+      shown = record {
+        whole = refl;
+        count = refl;
+        marked = image-length bytes 1 ∙ marks-fill (length bytes) ∙ ap (λ (k : ℕ). 2 + 256 * k) (sym (length-replicate n 15));
+        legal = good-legal n;
+        good = λ place below fine. refl;
+      };
       once = good-once n;
     }
 
--- one blockette more that is spoiled and marked, where its parity has no error yet
-module _ (built image marks new : List ℕ) (place mark : ℕ) (s : Spoiled built image marks) (full : length new ≡ 256) (bad : IsBad mark)
-    (below : place < length marks)
-    (alone : (j : ℕ) → j < length marks → isError (getD marks j 0) ≡ true → (length marks - 1 - j) % 2 ≡ (length marks - 1 - place) % 2 → ⊥) where
+-- one blockette more that holds other bytes and is marked
+module _ (built image marks new : List ℕ) (place mark : ℕ) (s : Shown built image marks) (full : length new ≡ 256) (bad : IsBad mark)
+    (below : place < length marks) where
   inside : (p : ℕ) → p < length marks → 2 + (256 * p + 256) ≤ length image
   inside p h = omega (arith, s .whole, s .marked)
-
-  still-error : (j : ℕ) → (j ≡ place → ⊥) → isError (getD (set marks place mark) j 0) ≡ true → isError (getD marks j 0) ≡ true
-  still-error j other e = sym (ap isError (getD-set-other marks place j mark 0 other)) ∙ e
 
   more-good : (p : ℕ) → p < length marks → getD (set marks place mark) p 0 ≡ 15
       → blocketteAt (drop 2 (spoiledAt image place new)) p ≡ blocketteAt (drop 2 built) p
@@ -143,6 +141,23 @@ module _ (built image marks new : List ℕ) (place mark : ℕ) (s : Spoiled buil
             ∙ s .good p h (sym (getD-set-other marks place p mark 0 other) ∙ fine)
       ]
 
+  pub shown-more : Shown built (spoiledAt image place new) (set marks place mark)
+  shown-more =
+      let as-many : length (set marks place mark) ≡ length marks = length-set marks place mark in
+      record {
+        whole = spoiled-length image new place full (inside place below) ∙ s .whole;
+        count = spoiled-front image new place full (inside place below) ∙ s .count;
+        marked = s .marked ∙ ap (λ (k : ℕ). 2 + 256 * k) (sym as-many);
+        legal = set-legal marks place mark (bad-legal mark bad) (s .legal);
+        good = λ p h fine. more-good p (omega arith) fine;
+      }
+
+-- one error more, where its parity has none yet
+module _ (marks : List ℕ) (place mark : ℕ) (o : Once marks)
+    (alone : (j : ℕ) → j < length marks → isError (getD marks j 0) ≡ true → (length marks - 1 - j) % 2 ≡ (length marks - 1 - place) % 2 → ⊥) where
+  still-error : (j : ℕ) → (j ≡ place → ⊥) → isError (getD (set marks place mark) j 0) ≡ true → isError (getD marks j 0) ≡ true
+  still-error j other e = sym (ap isError (getD-set-other marks place j mark 0 other)) ∙ e
+
   more-once : (i j : ℕ) → i < length marks → j < length marks → isError (getD (set marks place mark) i 0) ≡ true
       → isError (getD (set marks place mark) j 0) ≡ true → (length marks - 1 - i) % 2 ≡ (length marks - 1 - j) % 2 → i ≡ j
   more-once i j hi hj ei ej same =
@@ -155,25 +170,16 @@ module _ (built image marks new : List ℕ) (place mark : ℕ) (s : Spoiled buil
         | no another ↦
             elim (ℕ-discrete j place) [
               | yes second ↦ absurd (alone i hi (still-error i another ei) (omega arith))
-              | no other ↦ s .once i j hi hj (still-error i another ei) (still-error j other ej) same
+              | no other ↦ o i j hi hj (still-error i another ei) (still-error j other ej) same
             ]
       ]
 
-  pub spoiled-more : Spoiled built (spoiledAt image place new) (set marks place mark)
-  spoiled-more =
-      let as-many : length (set marks place mark) ≡ length marks = length-set marks place mark in
-      record {
-        whole = spoiled-length image new place full (inside place below) ∙ s .whole;
-        count = spoiled-front image new place full (inside place below) ∙ s .count;
-        marked = s .marked ∙ ap (λ (k : ℕ). 2 + 256 * k) (sym as-many);
-        legal = set-legal marks place mark (bad-legal mark bad) (s .legal);
-        good = λ p h fine. more-good p (omega arith) fine;
-        once = rw as-many more-once;
-      }
+  pub once-more : Once (set marks place mark)
+  once-more = let as-many : length (set marks place mark) ≡ length marks = length-set marks place mark in rw as-many more-once
 
 -- ---- an odd and an even blockette spoiled
 
-no-error : (n j : ℕ) → j < n → isError (getD (replicate n 15) j 0) ≡ true → ⊥
+pub no-error : (n j : ℕ) → j < n → isError (getD (replicate n 15) j 0) ≡ true → ⊥
 unfolding isError
 no-error n j h e = false≢true (ap isError (sym (getD-replicate n j 15 0 h)) ∙ e)
 
@@ -197,8 +203,11 @@ module _ (bytes first second : List ℕ) (mark₁ mark₂ : ℕ) (some : 0 < len
       let n = markCount (length bytes) 1 in
       let goods : List ℕ = replicate n 15 in
       let long : length goods ≡ n = length-replicate n 15 in
-      spoiled-more (imageOf bytes 1) (imageOf bytes 1) goods first 0 mark₁ (spoiled-nowhere bytes) full₁ bad₁ (omega (arith, three))
-      (λ j h e same. no-error n j (omega arith) e)
+      let before = spoiled-nowhere bytes in
+      record {
+        shown = shown-more (imageOf bytes 1) (imageOf bytes 1) goods first 0 mark₁ (before .shown) full₁ bad₁ (omega (arith, three));
+        once = once-more goods 0 mark₁ (before .once) (λ j h e same. no-error n j (omega arith) e);
+      }
 
   -- Any bytes in the first two blockettes, one odd and one even, with any marks of an error.
   pub two-spoiled : Spoiled (imageOf bytes 1) (twoSpoiled bytes first second) (twoBad bytes mark₁ mark₂)
@@ -206,10 +215,16 @@ module _ (bytes first second : List ℕ) (mark₁ mark₂ : ℕ) (some : 0 < len
       let n = markCount (length bytes) 1 in
       let goods : List ℕ = replicate n 15 in
       let long : length (set goods 0 mark₁) ≡ n = length-set goods 0 mark₁ ∙ length-replicate n 15 in
-      spoiled-more (imageOf bytes 1) (spoiledAt (imageOf bytes 1) 0 first) (set goods 0 mark₁) second 1 mark₂ one-spoiled full₂ bad₂ (omega (arith, three))
-      (λ j h e same.
-      let other : (j ≡ 0 → ⊥) = λ zeroth. omega (arith, three) in
-      no-error n j (omega arith) (sym (ap isError (getD-set-other goods 0 j mark₁ 0 other)) ∙ e))
+      record {
+        shown =
+            shown-more (imageOf bytes 1) (spoiledAt (imageOf bytes 1) 0 first) (set goods 0 mark₁) second 1 mark₂ (one-spoiled .shown) full₂ bad₂
+            (omega (arith, three));
+        once =
+            once-more (set goods 0 mark₁) 1 mark₂ (one-spoiled .once)
+            (λ j h e same.
+            let other : (j ≡ 0 → ⊥) = λ zeroth. omega (arith, three) in
+            no-error n j (omega arith) (sym (ap isError (getD-set-other goods 0 j mark₁ 0 other)) ∙ e));
+      }
 
   -- They hold these bytes.
   room : 2 + (256 * 1 + 256) ≤ length (imageOf bytes 1)
@@ -218,14 +233,14 @@ module _ (bytes first second : List ℕ) (mark₁ mark₂ : ℕ) (some : 0 < len
   pub first-holds : blocketteAt (drop 2 (twoSpoiled bytes first second)) 0 ≡ first
   first-holds =
       let one = spoiledAt (imageOf bytes 1) 0 first in
-      let kept : length one ≡ length (imageOf bytes 1) = one-spoiled .whole in
+      let kept : length one ≡ length (imageOf bytes 1) = one-spoiled .shown .whole in
       spoiled-elsewhere one second 1 full₂ (omega (arith, room)) 0 (λ same. omega arith) (omega (arith, room))
       ∙ spoiled-here (imageOf bytes 1) first 0 full₁ (omega (arith, room))
 
   pub second-holds : blocketteAt (drop 2 (twoSpoiled bytes first second)) 1 ≡ second
   second-holds =
       let one = spoiledAt (imageOf bytes 1) 0 first in
-      let kept : length one ≡ length (imageOf bytes 1) = one-spoiled .whole in
+      let kept : length one ≡ length (imageOf bytes 1) = one-spoiled .shown .whole in
       spoiled-here one second 1 full₂ (omega (arith, room))
 
 -- ---- every record of at least one byte can be spoiled
@@ -237,14 +252,14 @@ pub record ReallySpoiled (built image marks : List ℕ) : Type 0 where
   pub second : blocketteAt (drop 2 image) 1 ≡ blocketteAt (drop 2 built) 1 → ⊥
 
 -- a blockette that is another than this one, in its first byte
-unfoldable another : List ℕ → List ℕ
+unfoldable pub another : List ℕ → List ℕ
 another blockette = replicate 256 ((getD blockette 0 0 + 1) % 256)
 
-another-full : (blockette : List ℕ) → length (another blockette) ≡ 256
+pub another-full : (blockette : List ℕ) → length (another blockette) ≡ 256
 unfolding another
 another-full blockette = length-replicate 256 ((getD blockette 0 0 + 1) % 256)
 
-another-differs : (blockette : List ℕ) → another blockette ≡ blockette → ⊥
+pub another-differs : (blockette : List ℕ) → another blockette ≡ blockette → ⊥
 unfolding another
 another-differs blockette same =
     let first : (getD blockette 0 0 + 1) % 256 ≡ getD blockette 0 0 = ap (λ (l : List ℕ). getD l 0 0) same in omega arith

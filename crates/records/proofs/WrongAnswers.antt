@@ -1,4 +1,4 @@
--- For each of the six C functions, two wrong answers that its contract does not allow. The contract is `Post`, as the toolchain reads it:
+-- For each of the seven C functions, two wrong answers that its contract does not allow. The contract is `Post`, as the toolchain reads it:
 -- what is handed in, what is returned, and what the lent space holds afterwards.
 -- Assumes nothing.
 use mathlib.Core.Path.{_≡_, sym, ap, _∙_}
@@ -10,23 +10,28 @@ use Prim.Native.Nat.{ℕ, _+_, _*_, _≤_, _<_}
 use native.Mathlib.Omega.{arith}
 use lib.Dec.{ltb, eqb}
 use lib.ListN.{length, drop, getD}
-use lib.Seq.{drop-append-seam}
+use lib.Seq.{drop-append-seam, drop-at}
 use borrow.Author.Tests.{eqb-false, lt-ltb, le-ltb, ne-eqb}
 use Rattle.common.specs.Pick.{pick}
 use Rattle.common.specs.Given.{given}
 use Rattle.common.proofs.PickLaws.{by-test, pick-by, pick-yes, pick-no, pick-both, where-done}
 use Rattle.marks.specs.Marks.{isError}
 use Rattle.marks.specs.Scan.{scanFrom, scanMarks, kindOf, numberOf, defectAt, findingsOf}
+use Rattle.passes.specs.Passes.{clashes, mergedMarks}
+use Rattle.passes.proofs.MergedLaws.{marks-length}
 use Rattle.records.specs.Count.{limit, unrotated, countOf}
 use Rattle.records.specs.Image.{blocketteCount, hasBlockettes, imageOf, imageLength, markCount}
 use Rattle.records.specs.Whole.{wholeRefusal}
 use Rattle.records.specs.Build.{buildRefusal, buildInto}
 use Rattle.records.specs.Restore.{restoreRefusal}
+use Rattle.records.specs.Merge.{Pass, passOf, mergeMarksInto}
 use Rattle.records.specs.Interface.{imageLengthWithin, markCountWithin, imageCount, scanReport, scanRefusal, scanInto}
 use Rattle.records.specs.Spoiled.{Spoiled}
+use Rattle.records.proofs.MergeLaws.{mergeable}
 use Rattle.records.proofs.BuiltRecordsAreRestored.{built-records-are-restored}
 use Rattle.records.proofs.interface.ctc_build.Reads as build-reads
 use Rattle.records.proofs.interface.ctc_restore.Reads as restore-reads
+use Rattle.records.proofs.interface.ctc_merge.Reads as merge-reads
 use Rattle.records.proofs.interface.ctc_image_length.Reads as length-reads
 use Rattle.records.proofs.interface.ctc_mark_count.Reads as marks-reads
 use Rattle.records.proofs.interface.ctc_image_count.Reads as count-reads
@@ -72,6 +77,34 @@ module _ (κs : Lfts 3) (image marks out : RefT (List ℕ)) (r : ℕ) (after : L
       → (after ≡ given bytes (now out) → ⊥) → ⊥
   restore-gives-other-bytes bytes fits spoiled room wrong =
       wrong (allowed .1 ∙ built-records-are-restored bytes (now image) (now marks) (now out) fits spoiled room .1)
+
+-- ---- ctc_merge
+
+module _ (κs : Lfts 6) (first first-marks second second-marks image marks : RefT (List ℕ)) (r : ℕ) (image-after marks-after : List ℕ)
+    (allowed : merge-reads.Post κs (first, (first-marks, (second, (second-marks, (image, (marks, tt)))))) r
+    (first, (first-marks, (second, (second-marks, (at-last image image-after, (at-last marks marks-after, tt))))))) where
+  abbrev one : Pass
+  one = passOf (now first) (now first-marks)
+
+  abbrev other : Pass
+  other = passOf (now second) (now second-marks)
+
+  -- a blockette that is good in both and unlike is taken
+  pub merge-takes-unlike-blockettes :
+      clashes (drop 2 (now first)) (now first-marks) (drop 2 (now second)) (now second-marks) ≡ true → r ≡ 0 → ⊥
+  merge-takes-unlike-blockettes unlike done =
+      false≢true (sym (mergeable one other (length (now image)) (length (now marks)) (sym (allowed .0) ∙ done) .no-clash) ∙ unlike)
+
+  -- a byte behind the marks is changed
+  pub merge-writes-behind-the-marks : r ≡ 0 → (drop (length (now first-marks)) marks-after ≡ drop (length (now first-marks)) (now marks) → ⊥) → ⊥
+  unfolding mergeMarksInto given
+  merge-writes-behind-the-marks done wrong =
+      let merged = mergedMarks (now first-marks) (now second-marks) in
+      let long = marks-length (now first-marks) (now second-marks) in
+      wrong
+      (ap (λ (s : List ℕ). drop (length (now first-marks)) s) (allowed .1 .1 ∙ where-done _ _ _ (sym (allowed .0) ∙ done))
+      ∙ drop-at merged (drop (length merged) (now marks)) (length (now first-marks)) long
+      ∙ ap (λ (n : ℕ). drop n (now marks)) long)
 
 -- ---- ctc_image_length
 

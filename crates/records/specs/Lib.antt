@@ -3,6 +3,7 @@ pub mod Image
 pub mod Whole
 pub mod Build
 pub mod Restore
+pub mod Merge
 pub mod Spoiled
 pub mod Interface
 pub mod Earlier

@@ -4,6 +4,7 @@ use crate::count::LIMIT;
 use crate::count::count_of;
 use crate::layout::image_length;
 use crate::layout::mark_count;
+use crate::merge::merge;
 use crate::restore::restore;
 use common::give;
 use common::refusals::DONE;
@@ -13,6 +14,7 @@ ghost use mathlib.Core.Path.{_≡_};
 ghost use lib.ListN.{length};
 ghost use Rattle.records.specs.Build.{buildRefusal, buildInto};
 ghost use Rattle.records.specs.Restore.{restoreRefusal, restoreInto};
+ghost use Rattle.records.specs.Merge.{passOf, mergeRefusal, mergeImageInto, mergeMarksInto};
 ghost use Rattle.records.specs.Interface.{imageLengthWithin, markCountWithin, imageCount, scanReport, scanRefusal, scanInto};
 
 // What is no count: one more than 16 bits hold.
@@ -37,6 +39,23 @@ pub extern "C" fn ctc_restore(image: &[u8], marks: &[u8], out: &mut [u8]) -> u32
     ensures { λ _. ⌜ now (out .exit) ≡ restoreInto (now (image .entry)) (now (marks .entry)) (now (out .entry)) ⌝ }
 {
     restore(image, marks, out)
+}
+
+// Two GCR images and their marks to one.
+#[no_mangle]
+pub extern "C" fn ctc_merge(
+    first: &[u8],
+    first_marks: &[u8],
+    second: &[u8],
+    second_marks: &[u8],
+    image: &mut [u8],
+    marks: &mut [u8],
+) -> u32
+    ensures { λ r. ⌜ r ≡ mergeRefusal (passOf (now (first .entry)) (now («first_marks» .entry))) (passOf (now (second .entry)) (now («second_marks» .entry))) (length (now (image .entry))) (length (now (marks .entry))) ⌝ }
+    ensures { λ _. ⌜ now (image .exit) ≡ mergeImageInto (passOf (now (first .entry)) (now («first_marks» .entry))) (passOf (now (second .entry)) (now («second_marks» .entry))) (now (image .entry)) (length (now (marks .entry))) ⌝ }
+    ensures { λ _. ⌜ now (marks .exit) ≡ mergeMarksInto (passOf (now (first .entry)) (now («first_marks» .entry))) (passOf (now (second .entry)) (now («second_marks» .entry))) (length (now (image .entry))) (now (marks .entry)) ⌝ }
+{
+    merge(first, first_marks, second, second_marks, image, marks)
 }
 
 // The length of an image, 0 where no image has the count.

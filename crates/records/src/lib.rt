@@ -4,5 +4,6 @@ pub mod build;
 pub mod count;
 pub mod interface;
 pub mod layout;
+pub mod merge;
 pub mod restore;
 pub mod whole;

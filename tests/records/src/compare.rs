@@ -1,7 +1,7 @@
 //! One call of the library beside the plain implementation: both must return the same number and
-//! leave every byte of the lent space alike. Each gives the number and the space.
+//! leave every byte of the lent space alike. Each gives the number and the space, a merge its two.
 
-use crate::{library, plain};
+use crate::{library, plain, Merged, Pass};
 
 fn expect_alike(what: &str, given: (u32, Vec<u8>), expected: (u32, Vec<u8>)) -> (u32, Vec<u8>) {
     assert_eq!(
@@ -44,6 +44,27 @@ pub fn restore(image: &[u8], marks: &[u8], space: &[u8]) -> (u32, Vec<u8>) {
         library::restore(image, marks, space),
         plain::restore(image, marks, space),
     )
+}
+
+pub fn merge(first: &Pass, second: &Pass, image_space: &[u8], marks_space: &[u8]) -> Merged {
+    let what = format!(
+        "merge of images of {} and {} bytes, counts {} and {}, marks {:?} and {:?}, spaces of {} and {}",
+        first.image.len(),
+        second.image.len(),
+        plain::image_count(&first.image),
+        plain::image_count(&second.image),
+        first.marks,
+        second.marks,
+        image_space.len(),
+        marks_space.len(),
+    );
+    let (given, given_image, given_marks) = library::merge(first, second, image_space, marks_space);
+    let (wanted, image, marks) = plain::merge(first, second, image_space, marks_space);
+    let of_image = format!("image of the {what}");
+    let of_marks = format!("marks of the {what}");
+    let (refusal, image) = expect_alike(&of_image, (given, given_image), (wanted, image));
+    let (_, marks) = expect_alike(&of_marks, (given, given_marks), (wanted, marks));
+    (refusal, image, marks)
 }
 
 pub fn scan(marks: &[u8], space: &[u8]) -> (u32, Vec<u8>) {

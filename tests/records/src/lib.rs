@@ -8,6 +8,37 @@ pub mod random;
 
 use random::Random;
 
+/// One reading of a GCR record: its image, and how each blockette was read.
+#[derive(Clone)]
+pub struct Pass {
+    pub image: Vec<u8>,
+    pub marks: Vec<u8>,
+}
+
+impl Pass {
+    /// An image that was read without errors.
+    pub fn good(image: Vec<u8>) -> Pass {
+        let marks = vec![plain::GOOD; image.len() / 256];
+        Pass { image, marks }
+    }
+
+    /// Spoils the blockette at `place` in tape order and marks it so.
+    pub fn spoil(&mut self, place: usize, random: &mut Random) {
+        spoil_blockette(&mut self.image, place, random);
+        self.marks[place] = random.error();
+    }
+}
+
+/// What a merge leaves: the refusal or 0, and its two spaces after the call.
+pub type Merged = (u32, Vec<u8>, Vec<u8>);
+
+/// An image of the right length for its count, its other bytes random: no check blockette fits.
+pub fn random_image(count: usize, random: &mut Random) -> Vec<u8> {
+    let mut image = random.bytes(plain::image_length(count, 1));
+    image[..2].copy_from_slice(&plain::count_bytes(count));
+    image
+}
+
 /// Spoils the blockette at `place` in tape order of a GCR image: every byte gets another value.
 pub fn spoil_blockette(image: &mut [u8], place: usize, random: &mut Random) {
     let start = 2 + 256 * place;

@@ -1,6 +1,7 @@
 //! The linked library. Each call lends copies that stand between guard bytes, and panics where a
 //! guard or an input changed; what a function wrote comes back as the whole lent space.
 
+use crate::{Merged, Pass};
 use std::cell::Cell;
 
 /// The functions as C sees them.
@@ -21,6 +22,20 @@ pub mod raw {
             marks_len: usize,
             out: *mut u8,
             out_len: usize,
+        ) -> u32;
+        pub fn ctc_merge(
+            first: *const u8,
+            first_len: usize,
+            first_marks: *const u8,
+            first_marks_len: usize,
+            second: *const u8,
+            second_len: usize,
+            second_marks: *const u8,
+            second_marks_len: usize,
+            image: *mut u8,
+            image_len: usize,
+            marks: *mut u8,
+            marks_len: usize,
         ) -> u32;
         pub fn ctc_image_length(count: usize, density: u8) -> usize;
         pub fn ctc_mark_count(count: usize, density: u8) -> usize;
@@ -136,6 +151,40 @@ pub fn restore(image: &[u8], marks: &[u8], space: &[u8]) -> (u32, Vec<u8>) {
     image_input.expect_unchanged("image", image);
     marks_input.expect_unchanged("marks", marks);
     (refusal, out.after("output space"))
+}
+
+pub fn merge(first: &Pass, second: &Pass, image_space: &[u8], marks_space: &[u8]) -> Merged {
+    let inputs = [&first.image, &first.marks, &second.image, &second.marks];
+    let mut lent = inputs.map(|input| Lent::holding(input));
+    let mut image = Lent::holding(image_space);
+    let mut marks = Lent::holding(marks_space);
+    let [first_image, first_marks, second_image, second_marks] = &mut lent;
+    // SAFETY: the six pointers are valid for their lengths and the spaces are apart
+    let refusal = unsafe {
+        raw::ctc_merge(
+            first_image.pointer(),
+            first_image.length,
+            first_marks.pointer(),
+            first_marks.length,
+            second_image.pointer(),
+            second_image.length,
+            second_marks.pointer(),
+            second_marks.length,
+            image.pointer(),
+            image.length,
+            marks.pointer(),
+            marks.length,
+        )
+    };
+    let names = ["first image", "first marks", "second image", "second marks"];
+    for ((lent, name), input) in lent.iter().zip(names).zip(inputs) {
+        lent.expect_unchanged(name, input);
+    }
+    (
+        refusal,
+        image.after("image space"),
+        marks.after("marks space"),
+    )
 }
 
 pub fn scan(marks: &[u8], space: &[u8]) -> (u32, Vec<u8>) {

@@ -1,12 +1,14 @@
 //! Builder, scan and restorer written from document 01, section Records, with the limit of document
-//! 02, in the plainest way: with blockettes held by their numbers and nothing folded in place. It
-//! knows nothing of the library.
+//! 02, and its merge, in the plainest way: with blockettes held by their numbers and nothing folded in
+//! place. It knows nothing of the library.
 //!
 //! Each function that writes gets the lent space as it is before the call and gives the whole of it
 //! as it must be after the call, so that a comparison covers the bytes that keep their value.
 
 // blockettes go by number here, as they do in the document
 #![allow(clippy::needless_range_loop)]
+
+use crate::{Merged, Pass};
 
 /// "Raise the limit to 65,535"
 pub const LIMIT: usize = 65_535;
@@ -185,20 +187,33 @@ pub fn scan(marks: &[u8], space: &[u8]) -> (u32, Vec<u8>) {
     (0, with_start(space, &scan_report(marks)))
 }
 
+/// "wrong length of image or marks"; an image without a count has no right length.
+fn wrong_length(image: &[u8], marks: &[u8]) -> bool {
+    let count = image_count(image);
+    count > LIMIT || image.len() != image_length(count, 1) || marks.len() != mark_count(count, 1)
+}
+
+/// "1-9 an error, 15 good"
+fn wrong_mark(marks: &[u8]) -> bool {
+    marks.iter().any(|mark| !matches!(mark, 1..=9 | 15))
+}
+
+/// The blockette at a place in tape order of an image.
+fn blockette_at(image: &[u8], place: usize) -> Blockette {
+    let start = 2 + 256 * place;
+    image[start..start + 256].try_into().expect("256 bytes")
+}
+
 /// The restorer: the refusal or 0, and the output space after the call.
 pub fn restore(image: &[u8], marks: &[u8], space: &[u8]) -> (u32, Vec<u8>) {
     let unchanged = space.to_vec();
-    if image.len() < 2 {
+    if wrong_length(image, marks) {
         return (9, unchanged);
     }
-    let count = image_count(image);
-    if count > LIMIT || image.len() != image_length(count, 1) || marks.len() != mark_count(count, 1)
-    {
-        return (9, unchanged);
-    }
-    if marks.iter().any(|mark| !matches!(mark, 1..=9 | 15)) {
+    if wrong_mark(marks) {
         return (10, unchanged);
     }
+    let count = image_count(image);
     if space.len() < count {
         return (11, unchanged);
     }
@@ -208,10 +223,7 @@ pub fn restore(image: &[u8], marks: &[u8], space: &[u8]) -> (u32, Vec<u8>) {
 
     // by number: what the image has, and which ones are bad
     let n = blockettes(count);
-    let at = |place: usize| -> Blockette {
-        let start = 2 + 256 * place;
-        image[start..start + 256].try_into().expect("256 bytes")
-    };
+    let at = |place| blockette_at(image, place);
     let mut data = Vec::new();
     let mut bad = Vec::new();
     for number in 0..n {
@@ -248,4 +260,62 @@ pub fn restore(image: &[u8], marks: &[u8], space: &[u8]) -> (u32, Vec<u8>) {
     }
     bytes.truncate(count);
     (0, with_start(space, &bytes))
+}
+
+/// The image and the marks of two passes over one record, or the refusal.
+fn merged(first: &Pass, second: &Pass) -> Result<(Vec<u8>, Vec<u8>), u32> {
+    let passes = [first, second];
+    // "9, 10, 13, 14, then 11, in that order"
+    if passes
+        .iter()
+        .any(|pass| wrong_length(&pass.image, &pass.marks))
+    {
+        return Err(9);
+    }
+    if passes.iter().any(|pass| wrong_mark(&pass.marks)) {
+        return Err(10);
+    }
+    let count = image_count(&first.image);
+    if count != image_count(&second.image) {
+        return Err(13);
+    }
+    let mut image = count_bytes(count).to_vec();
+    let mut marks = Vec::new();
+    for place in 0..mark_count(count, 1) {
+        let [from_first, from_second] = passes.map(|pass| blockette_at(&pass.image, place));
+        let [first_mark, second_mark] = passes.map(|pass| pass.marks[place]);
+        if first_mark == GOOD && second_mark == GOOD && from_first != from_second {
+            return Err(14);
+        }
+        // "from the first pass if that marks it good, else from the second if that does, else from
+        // the first with its mark"
+        let (blockette, mark) = if first_mark == GOOD {
+            (from_first, GOOD)
+        } else if second_mark == GOOD {
+            (from_second, GOOD)
+        } else {
+            (from_first, first_mark)
+        };
+        image.extend(blockette);
+        marks.push(mark);
+    }
+    Ok((image, marks))
+}
+
+/// The merge of two passes.
+pub fn merge(first: &Pass, second: &Pass, image_space: &[u8], marks_space: &[u8]) -> Merged {
+    let refused = |refusal| (refusal, image_space.to_vec(), marks_space.to_vec());
+    match merged(first, second) {
+        Err(refusal) => refused(refusal),
+        Ok((image, marks))
+            if image_space.len() < image.len() || marks_space.len() < marks.len() =>
+        {
+            refused(11)
+        }
+        Ok((image, marks)) => (
+            0,
+            with_start(image_space, &image),
+            with_start(marks_space, &marks),
+        ),
+    }
 }

@@ -2,6 +2,7 @@
 
 mod builder;
 mod lengths;
+mod merger;
 mod null_pointers;
 mod restorer;
 mod round_trip;

@@ -68,6 +68,85 @@ fn restore_into_no_space() {
     );
 }
 
+/// Each of the six arguments of a merge in turn, its length 0 where it is null.
+#[test]
+fn merge_without_one_of_the_six() {
+    let mut image = [0; 770];
+    let refusal = unsafe { raw::ctc_build(BYTES.as_ptr(), 5, 1, image.as_mut_ptr(), 770) };
+    assert_eq!(refusal, 0);
+    let marks = [15; 3];
+    for (missing, answer) in [(0, 9), (1, 9), (2, 9), (3, 9), (4, 11), (5, 11), (6, 0)] {
+        let mut merged = [0xEE; 771];
+        let mut merged_marks = [0xEE; 4];
+        let lent = |argument, bytes: &[u8]| match argument == missing {
+            true => (null(), 0),
+            false => (bytes.as_ptr(), bytes.len()),
+        };
+        let (first, first_len) = lent(0, &image);
+        let (first_marks, first_marks_len) = lent(1, &marks);
+        let (second, second_len) = lent(2, &image);
+        let (second_marks, second_marks_len) = lent(3, &marks);
+        let (space, space_len) = match missing {
+            4 => (null_mut(), 0),
+            _ => (merged.as_mut_ptr(), 771),
+        };
+        let (marks_space, marks_space_len) = match missing {
+            5 => (null_mut(), 0),
+            _ => (merged_marks.as_mut_ptr(), 4),
+        };
+        let refusal = unsafe {
+            raw::ctc_merge(
+                first,
+                first_len,
+                first_marks,
+                first_marks_len,
+                second,
+                second_len,
+                second_marks,
+                second_marks_len,
+                space,
+                space_len,
+                marks_space,
+                marks_space_len,
+            )
+        };
+        assert_eq!(refusal, answer, "without argument {missing}");
+        if refusal == 0 {
+            assert!(merged[..770] == image && merged[770] == 0xEE);
+            assert_eq!(merged_marks, [15, 15, 15, 0xEE]);
+        } else {
+            assert!(merged == [0xEE; 771] && merged_marks == [0xEE; 4]);
+        }
+    }
+}
+
+/// Records of no bytes have no marks, so that neither marks nor a space for them are needed.
+#[test]
+fn merge_with_no_marks() {
+    let empty = [0, 0];
+    let (pass, none) = (empty.as_ptr(), null());
+    let mut image = [0xEE; 3];
+    let space = image.as_mut_ptr();
+    let into = |space, room| unsafe {
+        raw::ctc_merge(
+            pass,
+            2,
+            none,
+            0,
+            pass,
+            2,
+            none,
+            0,
+            space,
+            room,
+            null_mut(),
+            0,
+        )
+    };
+    assert_eq!((into(space, 3), image), (0, [0, 0, 0xEE]));
+    assert_eq!(into(null_mut(), 0), 11);
+}
+
 #[test]
 fn count_of_no_image() {
     assert_eq!(unsafe { raw::ctc_image_count(null(), 0) }, 65_536);

@@ -2,14 +2,7 @@
 
 use records_tests::plain::{self, LIMIT};
 use records_tests::random::Random;
-use records_tests::{compare, edges, parity, spoil_blockette};
-
-/// An image of the right length for its count, its other bytes random: no check blockette fits.
-fn random_image(count: usize, random: &mut Random) -> Vec<u8> {
-    let mut image = random.bytes(plain::image_length(count, 1));
-    image[..2].copy_from_slice(&plain::count_bytes(count));
-    image
-}
+use records_tests::{compare, edges, parity, random_image, spoil_blockette};
 
 fn good_marks(count: usize) -> Vec<u8> {
     vec![15; plain::mark_count(count, 1)]

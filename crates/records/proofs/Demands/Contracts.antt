@@ -12,19 +12,25 @@ use lib.Seq.{take-at}
 use borrow.Author.Tests.{le-ltb, ltb-false}
 use Rattle.common.specs.Given.{given}
 use Rattle.common.proofs.PickLaws.{pick-no, not-refused, where-done}
+use Rattle.passes.specs.Passes.{mergedMarks}
+use Rattle.passes.proofs.MergedLaws.{marks-length}
 use Rattle.records.specs.Count.{limit}
 use Rattle.records.specs.Image.{imageOf, imageLength}
 use Rattle.records.specs.Build.{buildRefusal, buildInto}
 use Rattle.records.specs.Restore.{restoreRefusal, restoreInto}
+use Rattle.records.specs.Merge.{Pass, passOf, mergeRefusal, mergedImage, mergeImageInto, mergeMarksInto}
 use Rattle.records.specs.Interface.{scanRefusal, scanInto}
 use Rattle.records.proofs.ImageLaws.{image-length, image-alike}
 use Rattle.records.proofs.interface.ctc_build.Reads as build-reads
 use Rattle.records.proofs.interface.ctc_restore.Reads as restore-reads
+use Rattle.records.proofs.interface.ctc_merge.Reads as merge-reads
 use Rattle.records.proofs.interface.ctc_scan.Reads as scan-reads
 use Rattle.records.proofs.interface.ctc_build.Met as build-met
 use Rattle.records.proofs.interface.ctc_build.Statement as build-statement
 use Rattle.records.proofs.interface.ctc_restore.Met as restore-met
 use Rattle.records.proofs.interface.ctc_restore.Statement as restore-statement
+use Rattle.records.proofs.interface.ctc_merge.Met as merge-met
+use Rattle.records.proofs.interface.ctc_merge.Statement as merge-statement
 use Rattle.records.proofs.interface.ctc_image_length.Met as length-met
 use Rattle.records.proofs.interface.ctc_image_length.Statement as length-statement
 use Rattle.records.proofs.interface.ctc_mark_count.Met as marks-met
@@ -57,6 +63,23 @@ pub record RestoreAllows (image marks space : List ℕ) (refusal : ℕ) (after :
       restore-reads.Post lifetimes (image-slice, (marks-slice, (space-slice, tt))) refusal
       (image-slice, (marks-slice, (at-last space-slice after, tt)))
 
+-- two passes, and both spaces before and after
+pub record MergeAllows (first second : Pass) (image marks : List ℕ) (refusal : ℕ) (imageAfter marksAfter : List ℕ) : Type 0 where
+  pub lifetimes : Lfts 6
+  pub first-slice : RefT (List ℕ)
+  pub first-marks-slice : RefT (List ℕ)
+  pub second-slice : RefT (List ℕ)
+  pub second-marks-slice : RefT (List ℕ)
+  pub image-slice : RefT (List ℕ)
+  pub marks-slice : RefT (List ℕ)
+  pub holds-first : passOf (now first-slice) (now first-marks-slice) ≡ first
+  pub holds-second : passOf (now second-slice) (now second-marks-slice) ≡ second
+  pub holds-image : now image-slice ≡ image
+  pub holds-marks : now marks-slice ≡ marks
+  pub promise :
+      merge-reads.Post lifetimes (first-slice, (first-marks-slice, (second-slice, (second-marks-slice, (image-slice, (marks-slice, tt)))))) refusal
+      (first-slice, (first-marks-slice, (second-slice, (second-marks-slice, (at-last image-slice imageAfter, (at-last marks-slice marksAfter, tt))))))
+
 pub record ScanAllows (marks space : List ℕ) (refusal : ℕ) (after : List ℕ) : Type 0 where
   pub lifetimes : Lfts 2
   pub marks-slice : RefT (List ℕ)
@@ -85,6 +108,32 @@ restores-are-defined image marks space refusal after allowed =
           ∙ ap₂ (λ (m o : List ℕ). restoreInto (now (allowed .image-slice)) m o) (allowed .holds-marks) s
           ∙ ap (λ (l : List ℕ). restoreInto l marks space) i,
     )
+
+pub record MergeDefined (first second : Pass) (image marks : List ℕ) (refusal : ℕ) (imageAfter marksAfter : List ℕ) : Type 0 where
+  pub answer : refusal ≡ mergeRefusal first second (length image) (length marks)
+  pub image-after : imageAfter ≡ mergeImageInto first second image (length marks)
+  pub marks-after : marksAfter ≡ mergeMarksInto first second (length image) marks
+
+pub merges-are-defined : (first second : Pass) (image marks : List ℕ) (refusal : ℕ) (imageAfter marksAfter : List ℕ)
+    → MergeAllows first second image marks refusal imageAfter marksAfter → MergeDefined first second image marks refusal imageAfter marksAfter
+merges-are-defined first second image marks refusal imageAfter marksAfter allowed =
+    let i = allowed .holds-image in
+    let m = allowed .holds-marks in
+    let one = allowed .holds-first in
+    let two = allowed .holds-second in
+    let f = passOf (now (allowed .first-slice)) (now (allowed .first-marks-slice)) in
+    let s = passOf (now (allowed .second-slice)) (now (allowed .second-marks-slice)) in
+    record {
+      answer = allowed .promise .0
+          ∙ ap₂ (λ (i m : List ℕ). mergeRefusal f s (length i) (length m)) i m
+          ∙ ap₂ (λ (x y : Pass). mergeRefusal x y (length image) (length marks)) one two;
+      image-after = allowed .promise .1 .0
+          ∙ ap₂ (λ (i m : List ℕ). mergeImageInto f s i (length m)) i m
+          ∙ ap₂ (λ (x y : Pass). mergeImageInto x y image (length marks)) one two;
+      marks-after = allowed .promise .1 .1
+          ∙ ap₂ (λ (i m : List ℕ). mergeMarksInto f s (length i) m) i m
+          ∙ ap₂ (λ (x y : Pass). mergeMarksInto x y (length image) marks) one two;
+    }
 
 pub scans-are-defined : (marks space : List ℕ) (refusal : ℕ) (after : List ℕ) → ScanAllows marks space refusal after
     → (refusal ≡ scanRefusal (length space)) × (after ≡ scanInto marks space)
@@ -123,6 +172,25 @@ restores-are-allowed image marks space =
       promise = (refl, refl);
     }
 
+pub merges-are-allowed : (first second : Pass) (image marks : List ℕ)
+    → MergeAllows first second image marks (mergeRefusal first second (length image) (length marks)) (mergeImageInto first second image (length marks))
+    (mergeMarksInto first second (length image) marks)
+merges-are-allowed first second image marks =
+    record {
+      lifetimes = ([], ([], ([], ([], ([], ([], tt))))));
+      first-slice = somewhere (first .image);
+      first-marks-slice = somewhere (first .marks);
+      second-slice = somewhere (second .image);
+      second-marks-slice = somewhere (second .marks);
+      image-slice = somewhere image;
+      marks-slice = somewhere marks;
+      holds-first = refl;
+      holds-second = refl;
+      holds-image = refl;
+      holds-marks = refl;
+      promise = (refl, (refl, refl));
+    }
+
 -- ---- the builder's answer 0
 
 -- what is known of it in GCR
@@ -151,12 +219,38 @@ builds-within bytes density space within room =
     in
     subst (λ (r : ℕ). BuildAllows bytes density space r (buildInto bytes density space)) accepted (builds-are-allowed bytes density space)
 
+-- ---- merging's answer 0
+
+module _ (first second : Pass) (image marks imageAfter marksAfter : List ℕ)
+    (allowed : MergeAllows first second image marks 0 imageAfter marksAfter) where
+  -- the merged marks stand at the start of their space
+  pub marks-left : marksAfter ≡ given (mergedMarks (first .marks) (second .marks)) marks
+  unfolding mergeMarksInto
+  marks-left =
+      let promised = merges-are-defined first second image marks 0 imageAfter marksAfter allowed in
+      promised .marks-after ∙ where-done _ _ _ (sym (promised .answer))
+
+  pub merged-marks-left : take (length (first .marks)) marksAfter ≡ mergedMarks (first .marks) (second .marks)
+  unfolding given
+  merged-marks-left =
+      ap (λ (l : List ℕ). take (length (first .marks)) l) marks-left
+      ∙ take-at (mergedMarks (first .marks) (second .marks)) _ (length (first .marks)) (marks-length (first .marks) (second .marks))
+
+  -- and the merged image at the start of its own
+  pub merged-image-left : length (mergedImage first second) ≡ length (first .image) → take (length (first .image)) imageAfter ≡ mergedImage first second
+  unfolding mergeImageInto given
+  merged-image-left long =
+      let promised = merges-are-defined first second image marks 0 imageAfter marksAfter allowed in
+      ap (λ (l : List ℕ). take (length (first .image)) l) (promised .image-after ∙ where-done _ _ _ (sym (promised .answer)))
+      ∙ take-at (mergedImage first second) _ (length (first .image)) long
+
 -- ---- the functions
 
 -- each C function meets its contract
 pub record Meet (M : Type 1) : Type 2 where
   pub build : build-statement.statement M
   pub restore : restore-statement.statement M
+  pub merge : merge-statement.statement M
   pub image-length : length-statement.statement M
   pub mark-count : marks-statement.statement M
   pub image-count : count-statement.statement M
@@ -167,6 +261,7 @@ all-met =
     record {
       build = build-met.met;
       restore = restore-met.met;
+      merge = merge-met.met;
       image-length = length-met.met;
       mark-count = marks-met.met;
       image-count = count-met.met;

@@ -1,0 +1,2 @@
+pub mod MergedLaws
+pub mod PassLaws

@@ -1,0 +1,141 @@
+// One record out of two passes, blockette by blockette: which of them are unlike, and the merged blockettes with their marks.
+use blockettes::BLOCKETTE_LENGTH;
+use common::give;
+use marks::is_error;
+ghost use mathlib.Core.Path.{_≡_};
+ghost use Prim.Native.Nat.{_+_, _*_, _≤_, _<_};
+ghost use lib.ListN.{length};
+ghost use Rattle.blockettes.specs.Blockettes.{blocketteLength};
+ghost use Rattle.passes.specs.Passes.{sameBytes, clashAt, clashes, takesSecond, mergedMark, mergedAt, mergedMarks, mergedBlockettes};
+
+// Whether two strings of one length have the same bytes. All are looked at, since a loop without a way out takes many in a step.
+fn same_bytes(a: &[u8], b: &[u8]) -> bool
+    requires { ⌜ length (now b) ≡ length (now a) ⌝ }
+    ensures { λ r. ⌜ r ≡ sameBytes (now (a .entry)) (now (b .entry)) ⌝ }
+{
+    let n = a.len();
+    let mut same = true;
+    let mut at = 0;
+    while at < n {
+        same = same & (a[at] == b[at]);
+        at += 1;
+    }
+    same
+}
+
+// Whether a blockette comes from the second pass: it is bad in the first and good in the second.
+fn takes_second(first_mark: u8, second_mark: u8) -> bool
+    ensures { λ r. ⌜ r ≡ takesSecond «first_mark» «second_mark» ⌝ }
+{
+    is_error(first_mark) & !is_error(second_mark)
+}
+
+// Its mark.
+fn merged_mark(first_mark: u8, second_mark: u8) -> u8
+    ensures { λ r. ⌜ r ≡ mergedMark «first_mark» «second_mark» ⌝ }
+{
+    if takes_second(first_mark, second_mark) {
+        return second_mark;
+    }
+    first_mark
+}
+
+// Whether the blockette at a place is good in both passes and unlike.
+fn clash_at(
+    first: &[u8],
+    first_marks: &[u8],
+    second: &[u8],
+    second_marks: &[u8],
+    place: usize,
+) -> bool
+    requires { ⌜ place < length (now «first_marks») ⌝ }
+    requires { ⌜ length (now «second_marks») ≡ length (now «first_marks») ⌝ }
+    requires { ⌜ length (now first) ≡ blocketteLength * length (now «first_marks») ⌝ }
+    requires { ⌜ length (now second) ≡ blocketteLength * length (now «first_marks») ⌝ }
+    ensures { λ r. ⌜ r ≡ clashAt (now (first .entry)) (now («first_marks» .entry)) (now (second .entry)) (now («second_marks» .entry)) place ⌝ }
+{
+    if is_error(first_marks[place]) | is_error(second_marks[place]) {
+        return false;
+    }
+    let start = BLOCKETTE_LENGTH * place;
+    let end = start + BLOCKETTE_LENGTH;
+    !same_bytes(&first[start..end], &second[start..end])
+}
+
+// Whether any is.
+pub fn clashes(first: &[u8], first_marks: &[u8], second: &[u8], second_marks: &[u8]) -> bool
+    requires { ⌜ length (now «second_marks») ≡ length (now «first_marks») ⌝ }
+    requires { ⌜ length (now first) ≡ blocketteLength * length (now «first_marks») ⌝ }
+    requires { ⌜ length (now second) ≡ blocketteLength * length (now «first_marks») ⌝ }
+    ensures { λ r. ⌜ r ≡ clashes (now (first .entry)) (now («first_marks» .entry)) (now (second .entry)) (now («second_marks» .entry)) ⌝ }
+{
+    let places = first_marks.len();
+    let mut at = 0;
+    while at < places {
+        if clash_at(first, first_marks, second, second_marks, at) {
+            return true;
+        }
+        at += 1;
+    }
+    false
+}
+
+// The merged blockette at a place, which fills its part of the image.
+fn put_merged_at(
+    first: &[u8],
+    first_mark: u8,
+    second: &[u8],
+    second_mark: u8,
+    place: usize,
+    part: &mut [u8],
+)
+    requires { ⌜ length (now second) ≡ length (now first) ⌝ }
+    requires { ⌜ blocketteLength * place + blocketteLength ≤ length (now first) ⌝ }
+    requires { ⌜ length (now part) ≡ blocketteLength ⌝ }
+    ensures { λ _. ⌜ now (part .exit) ≡ mergedAt (now (first .entry)) «first_mark» (now (second .entry)) «second_mark» place ⌝ }
+{
+    let start = BLOCKETTE_LENGTH * place;
+    let end = start + BLOCKETTE_LENGTH;
+    if takes_second(first_mark, second_mark) {
+        give(&second[start..end], part);
+    } else {
+        give(&first[start..end], part);
+    }
+}
+
+// The merged blockettes and their marks, in one pass over both; they fill their spaces.
+pub fn put_merged_blockettes(
+    first: &[u8],
+    first_marks: &[u8],
+    second: &[u8],
+    second_marks: &[u8],
+    image: &mut [u8],
+    marks: &mut [u8],
+)
+    requires { ⌜ length (now «second_marks») ≡ length (now «first_marks») ⌝ }
+    requires { ⌜ length (now first) ≡ blocketteLength * length (now «first_marks») ⌝ }
+    requires { ⌜ length (now second) ≡ blocketteLength * length (now «first_marks») ⌝ }
+    requires { ⌜ length (now image) ≡ blocketteLength * length (now «first_marks») ⌝ }
+    requires { ⌜ length (now marks) ≡ length (now «first_marks») ⌝ }
+    ensures { λ _. ⌜ now (image .exit) ≡ mergedBlockettes (now (first .entry)) (now («first_marks» .entry)) (now (second .entry)) (now («second_marks» .entry)) ⌝ }
+    ensures { λ _. ⌜ now (marks .exit) ≡ mergedMarks (now («first_marks» .entry)) (now («second_marks» .entry)) ⌝ }
+{
+    let n = first_marks.len();
+    let mut at = 0;
+    while at < n {
+        let first_mark = first_marks[at];
+        let second_mark = second_marks[at];
+        let start = BLOCKETTE_LENGTH * at;
+        let end = start + BLOCKETTE_LENGTH;
+        put_merged_at(
+            first,
+            first_mark,
+            second,
+            second_mark,
+            at,
+            &mut image[start..end],
+        );
+        marks[at] = merged_mark(first_mark, second_mark);
+        at += 1;
+    }
+}
