@@ -24,7 +24,7 @@ enum { STATUS_DONE = 0, STATUS_FAILED = 1, STATUS_USAGE = 2 };
 
 /* The root script takes both texts from here, to answer before the library is there. */
 static const char usage[] =
-    "usage: ctc-record build DENSITY BYTES-FILE IMAGE-FILE\n"
+    "usage: ctc-record build DENSITY BYTES-FILE IMAGE-FILE [PLACE]\n"
     "       ctc-record bytes DENSITY IMAGE-FILE BYTES-FILE\n"
     "       ctc-record restore IMAGE-FILE MARKS-FILE BYTES-FILE\n"
     "       ctc-record merge FIRST FIRST-MARKS SECOND SECOND-MARKS IMAGE-FILE MARKS-FILE\n"
@@ -43,6 +43,8 @@ static const char help[] =
     "show     prints the count, the blockettes and the errors of an image.\n"
     "\n"
     "DENSITY     mfm or gcr\n"
+    "PLACE       which byte came with bad parity, counted from 0: those after it are\n"
+    "            written as zeros. Without it, or where it is 65791, none did\n"
     "MARKS-FILE  one byte for each GCR blockette in tape order, check blockettes\n"
     "            included: 15 is good, 1 to 9 is an error. The word good in place of\n"
     "            a file that is read stands for all good; a file of that name is ./good\n"
@@ -93,6 +95,8 @@ static const char *refusal_in_words(uint32_t refusal)
         return "the counts of the two passes differ";
     case CTC_REFUSED_UNLIKE:
         return "a blockette that is good in both passes, and unlike";
+    case CTC_REFUSED_PLACE:
+        return "a place at which there is no byte";
     default:
         return "unknown refusal";
     }
@@ -373,6 +377,16 @@ static const char *density_name(uint8_t density)
     return density == CTC_DENSITY_MFM ? "MFM" : "GCR";
 }
 
+/* Too large a number becomes the largest that there is: the library refuses either. */
+static bool read_place(const char *word, size_t *place)
+{
+    if (*word == '\0' || word[strspn(word, "0123456789")] != '\0') {
+        return false;
+    }
+    *place = (size_t)strtoull(word, NULL, 10);
+    return true;
+}
+
 /*
  * Reads the marks of a record of `count` bytes; the word good stands for marks that
  * are all good.
@@ -464,7 +478,7 @@ static bool said_of_pass(const struct pass *pass, uint32_t refusal)
            (refusal == CTC_REFUSED_MARK && !marks_legal(&pass->marks));
 }
 
-static int build(uint8_t density, const char *bytes_path, const char *image_path)
+static int build(uint8_t density, const char *bytes_path, const char *image_path, size_t place)
 {
     static uint8_t bytes[CTC_COUNT_LIMIT + 1];
     static uint8_t image[CTC_IMAGE_MOST];
@@ -473,11 +487,14 @@ static int build(uint8_t density, const char *bytes_path, const char *image_path
     if (!read_input(&record, sizeof bytes)) {
         return STATUS_FAILED;
     }
-    uint32_t refusal = ctc_build(record.bytes, record.length, density, image, sizeof image);
+    uint32_t refusal =
+        ctc_build(record.bytes, record.length, density, place, image, sizeof image);
     if (refusal != CTC_DONE) {
         say_refusal(record.path, refusal);
         if (refusal == CTC_REFUSED_LENGTH) {
             fprintf(stderr, ": a record has at most %d bytes", CTC_COUNT_LIMIT);
+        } else if (refusal == CTC_REFUSED_PLACE) {
+            fprintf(stderr, ": place %zu, counted from 0, of %zu bytes", place, record.length);
         }
         fputc('\n', stderr);
         return STATUS_FAILED;
@@ -660,15 +677,27 @@ static int run(int count, char **words)
         printf("ctc-record %s\n", CTC_VERSION);
         return STATUS_DONE;
     }
-    if (is(verb, "build") || is(verb, "bytes")) {
-        if (count != 5) {
-            return wrong_usage("build and bytes take three words");
+    if (is(verb, "build")) {
+        size_t place = CTC_NO_PLACE;
+        if (count != 5 && count != 6) {
+            return wrong_usage("build takes three or four words");
         }
         if (!read_density(words[2], &density)) {
             return wrong_usage("DENSITY is mfm or gcr");
         }
-        return is(verb, "build") ? build(density, words[3], words[4])
-                                 : bytes_of(density, words[3], words[4]);
+        if (count == 6 && !read_place(words[5], &place)) {
+            return wrong_usage("PLACE is a number from 0 on");
+        }
+        return build(density, words[3], words[4], place);
+    }
+    if (is(verb, "bytes")) {
+        if (count != 5) {
+            return wrong_usage("bytes takes three words");
+        }
+        if (!read_density(words[2], &density)) {
+            return wrong_usage("DENSITY is mfm or gcr");
+        }
+        return bytes_of(density, words[3], words[4]);
     }
     if (is(verb, "restore")) {
         if (count != 5) {

@@ -50,7 +50,7 @@
 #include <stdint.h>
 
 /* The version of this header and of the library, as the file VERSION has it. */
-#define CTC_VERSION "1.0.0"
+#define CTC_VERSION "2.0.0"
 
 /* The most bytes that a record may have: all that its 16-bit count can say. */
 #define CTC_COUNT_LIMIT 65535
@@ -67,6 +67,9 @@
 
 /* What ctc_image_count gives for an image that is too short to have a count. */
 #define CTC_NO_COUNT 65536
+
+/* The place that says that no byte came with bad parity: 65,535 plus 256. */
+#define CTC_NO_PLACE 65791
 
 /* Densities. Every value other than CTC_DENSITY_MFM counts as GCR. */
 #define CTC_DENSITY_MFM 0
@@ -85,6 +88,7 @@
 #define CTC_REFUSED_UNRESTORABLE 12u  /* two bad blockettes of one parity */
 #define CTC_REFUSED_COUNTS 13u        /* two passes with different counts */
 #define CTC_REFUSED_UNLIKE 14u        /* a blockette good in both passes, and unlike */
+#define CTC_REFUSED_PLACE 15u         /* a place with no byte that is not CTC_NO_PLACE */
 
 /* The report of ctc_scan: three entries of mark, kind and number. */
 #define CTC_REPORT_LENGTH 9
@@ -99,10 +103,14 @@ extern "C" {
 #endif
 
 /*
- * Builds the image of a record.
+ * Builds the image of a record. Where a byte came with bad parity, it is written as it
+ * came and every byte of the record after it as zero; count and length stay, and the
+ * check blockettes are those of what is written.
  *
  *   bytes, bytes_len   the record; its count is bytes_len
  *   density            CTC_DENSITY_MFM, or any other value for GCR
+ *   place              which byte came with bad parity, counted from 0, or
+ *                      CTC_NO_PLACE
  *   image, image_len   the space for the image; it may be longer than the image
  *
  * Returns
@@ -110,10 +118,11 @@ extern "C" {
  *                             bytes of image are the image, the others unchanged
  *   CTC_REFUSED_LENGTH (9)    bytes_len is above CTC_COUNT_LIMIT
  *   CTC_REFUSED_SPACE (11)    image_len is less than the length of the image
+ *   CTC_REFUSED_PLACE (15)    place is neither below bytes_len nor CTC_NO_PLACE
  * When refused, all of image is unchanged.
  */
 uint32_t ctc_build(const uint8_t *bytes, size_t bytes_len, uint8_t density,
-                   uint8_t *image, size_t image_len);
+                   size_t place, uint8_t *image, size_t image_len);
 
 /*
  * Restores the bytes of a record from its GCR image. A bad data blockette is

@@ -65,8 +65,7 @@ stands_on() { # CRATE
     done
     printf '%s\n' "${found[@]}"
 }
-stands_on records >records.crates
-stands_on session >session.crates
+for crate in records session trial; do stands_on "$crate" >"$crate.crates"; done
 
 # in place of all tests, so that .ci/run of the copy comes to an end
 printf '#!/bin/sh\necho 3 passed, 0 failed\n' >tree/tests/run
@@ -87,9 +86,9 @@ all=\$(sed -n 's/^\\([a-z_]*\\):.*/\\1/p' crates.txt)
 case \$1 in
 fmt) ;;
 staticlib)
-    proved \$(grep -vx records '$folder/records.crates')
-    made '$archive' target/staticlib/librecords.a
-    echo 'rt: target/staticlib/librecords.a has the functions of records that are marked #[no_mangle] pub extern "C"'
+    proved \$(grep -vx "\$2" "$folder/\$2.crates")
+    made '$archive' "target/staticlib/lib\$2.a"
+    echo "rt: target/staticlib/lib\$2.a has the functions of \$2 that are marked #[no_mangle] pub extern \"C\""
     ;;
 check)
     proved \$(cat '$folder/session.crates')
@@ -167,7 +166,7 @@ for command in session ctc-record .ci/run bench/run tests/fuzz; do
 done
 check "session: two files" refuses "one file at a time" session sessions/example.session sessions/example.session
 check "fuzz: two words" refuses "one word at most" tests/fuzz 1 2
-check "build: a word that is none" refuses "library or session" tools/build wrong
+check "build: a word that is none" refuses "library, session or trial" tools/build wrong
 
 # The script has the tool's rules: the same answer without the library as the tool gives.
 same_as_tool() { # WORDS...
@@ -190,8 +189,13 @@ burn gcr a b
 build
 build gcr a
 build gcr a b c
+build gcr a b -1
+build gcr a b 1x
+build gcr a b 1 c
 build GCR a b
+build GCR a b c
 bytes mfm a
+bytes mfm a b 1
 bytes tape a b
 restore a b
 restore a b c d
@@ -212,7 +216,9 @@ right_words() { # WORDS...: not refused by the words
     without_rt tree/ctc-record "$@"
     ended 1 'rt is not in PATH'
 }
+check "ctc-record: wrong words before anything is proved: an empty place" same_as_tool build gcr a b ''
 check "ctc-record: right words: build" right_words build gcr - -
+check "ctc-record: right words: build with a place" right_words build gcr - - 65791
 check "ctc-record: right words: bytes" right_words bytes mfm a b
 check "ctc-record: right words: restore" right_words restore - good -
 check "ctc-record: right words: merge" right_words merge a good - good - marks
@@ -237,13 +243,14 @@ progress_whole() { # FILE CRATES
     last=$(grep -oE 'crate [0-9]+ of [0-9]+' "$1" | tail -n 1)
     [ "$last" = "crate $2 of $2" ] || no "the last is '$last', of $2"
 }
-builds() { # library|session CRATES
+builds() { # library|session|trial CRATES
     fresh
     with_rt tree/tools/build "$1"
     ended 0 && progress_whole errors "$2"
 }
 check "the progress of the library ends at its total" builds library "$(wc -l <records.crates)"
 check "the progress of the session program ends at its total" builds session "$(wc -l <session.crates)"
+check "the progress of the trial library ends at its total" builds trial "$(wc -l <trial.crates)"
 
 no_time_announced() {
     fresh
@@ -253,7 +260,7 @@ no_time_announced() {
 }
 check "times are those of docs/LANDINGS.md" no_time_announced
 
-built_with() { # library|session RT-CALL
+built_with() { # library|session|trial RT-CALL
     fresh
     with_rt tree/tools/build "$1"
     ended 0 "kit one" || return
@@ -272,6 +279,7 @@ built_with() { # library|session RT-CALL
 }
 check "another kit builds the library anew" built_with library "staticlib records"
 check "another kit builds the session program anew" built_with session "check session"
+check "another kit builds the trial library anew" built_with trial "staticlib trial"
 not_built_here() {
     fresh
     with_rt tree/tools/build library
@@ -354,6 +362,14 @@ ci_ends() { # REDIRECTION
 }
 check ".ci/run ends with its count" ci_ends empty
 check ".ci/run ends with its count, standard input closed" ci_ends closed
+ci_builds() {
+    fresh
+    with_rt bash tree/.ci/run
+    ended 0 || return
+    [ "$(grep -v '^fmt' rt.calls | paste -sd ,)" = "ci,staticlib records,check session,staticlib trial" ] ||
+        no "rt was asked for $(paste -sd , rt.calls)"
+}
+check ".ci/run builds all that the tests need" ci_builds
 ci_fails() {
     fresh
     printf '#!/bin/sh\necho 2 passed, 1 failed\nexit 1\n' >tree/tests/run

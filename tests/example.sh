@@ -113,8 +113,10 @@ run "$tool" burn gcr record image
 check "an unknown word" usage_refused
 run "$tool" build gcr record
 check "a word missing" usage_refused
-run "$tool" build gcr record image more
+run "$tool" build gcr record image 1 more
 check "a word too many" usage_refused
+run "$tool" bytes gcr image record 1
+check "bytes with a word too many" usage_refused
 run "$tool" restore image out
 check "restore with a word missing" usage_refused
 run "$tool" merge first good second good unwanted
@@ -189,6 +191,50 @@ check "build the longest record in MFM" limit_built_mfm
 run "$tool" build gcr long image.long
 long_built() { ended 0 && [ "$(wc -c <image.long)" -eq 17154 ]; }
 check "build a record of 16,385 bytes" long_built
+
+# The byte at a place is written as it came, and zeros after it.
+bad_built() { # PLACE
+    { head -c $(($1 + 1)) record && head -c $((599 - $1)) /dev/zero; } >record.bad
+    run "$tool" build mfm record image.bad "$1"
+    ended 0 && { head -c 2 image.mfm && cat record.bad; } | cmp -s - image.bad || return
+    run "$tool" build gcr record image.bad "$1"
+    ended 0 || return
+    run "$tool" build gcr record.bad image.expected
+    ended 0 && cmp -s image.bad image.expected
+}
+for place in 0 1 255 256 511 512 598 599; do
+    check "build with a bad byte at place $place" bad_built "$place"
+done
+bad_at_limit() {
+    run "$tool" build mfm limit image.bad 65534
+    ended 0 && cmp -s image.bad image.limit.mfm
+}
+check "build with the last byte of the longest record bad" bad_at_limit
+no_place() { # DENSITY EXPECTED
+    run "$tool" build "$1" record image.bad 65791
+    ended 0 && cmp -s image.bad "$2"
+}
+check "the place that stands for none, in MFM" no_place mfm image.mfm
+check "the place that stands for none, in GCR" no_place gcr image
+place_refused() { # FILE PLACE MESSAGE-PART
+    run "$tool" build gcr "$1" unwanted "$2"
+    ended 1 "$1: refusal 15" "$3" && absent unwanted
+}
+check "the place behind the last byte" place_refused record 600 'place 600, counted from 0, of 600 bytes'
+check "a place where there are no bytes" place_refused empty 0 'place 0, counted from 0, of 0 bytes'
+check "a place before the one for none" place_refused record 65790 'place 65790'
+check "a place behind the one for none" place_refused record 65792 'place 65792'
+check "a place above all numbers" place_refused record 99999999999999999999999 'of 600 bytes'
+place_word() { # WORD
+    run "$tool" build gcr record unwanted "$1"
+    ended 2 'PLACE is a number from 0 on' 'usage: ctc-record build' && absent unwanted
+}
+for word in '' more -1 +1 ' 1' '1 ' 1x 0x1; do
+    check "a place that is no number: '$word'" place_word "$word"
+done
+run "$tool" build gcr above unwanted 99999
+both_wrong() { ended 1 'above: refusal 9' && absent unwanted; }
+check "a record above the limit comes before its place" both_wrong
 
 run "$tool" build gcr above unwanted
 above_refused() { ended 1 'above: refusal 9' 'at most 65535 bytes' && absent unwanted; }

@@ -1,6 +1,7 @@
 //! The library's builder, restorer and merge, on slices.
 
 use records_tests::library::raw;
+use records_tests::plain::NO_PLACE;
 use records_tests::Pass;
 
 pub fn build(bytes: &[u8], density: u8, image: &mut [u8]) -> u32 {
@@ -10,6 +11,7 @@ pub fn build(bytes: &[u8], density: u8, image: &mut [u8]) -> u32 {
             bytes.as_ptr(),
             bytes.len(),
             density,
+            NO_PLACE,
             image.as_mut_ptr(),
             image.len(),
         )

@@ -1,6 +1,7 @@
 // The header from C++: constants, and calls that link.
 #include "ctc_records.h"
 
+#include <cstddef>
 #include <cstdint>
 #include <cstdio>
 #include <vector>
@@ -8,11 +9,12 @@
 static_assert(CTC_COUNT_LIMIT == 65535, "the most bytes");
 static_assert(CTC_MARKS_MOST == 258, "the most marks");
 static_assert(CTC_IMAGE_MOST == 66050, "the longest image");
+static_assert(CTC_NO_PLACE == 65791, "no place");
 
 static std::uint32_t build(const std::vector<std::uint8_t> &bytes, std::uint8_t density,
-                           std::vector<std::uint8_t> &image)
+                           std::vector<std::uint8_t> &image, std::size_t place = CTC_NO_PLACE)
 {
-    return ctc_build(bytes.data(), bytes.size(), density, image.data(), image.size());
+    return ctc_build(bytes.data(), bytes.size(), density, place, image.data(), image.size());
 }
 
 static bool five_bytes()
@@ -20,6 +22,15 @@ static bool five_bytes()
     const std::vector<std::uint8_t> expected{0x80, 0x02, 1, 2, 3, 4, 5};
     std::vector<std::uint8_t> image(ctc_image_length(5, CTC_DENSITY_MFM));
     return build({1, 2, 3, 4, 5}, CTC_DENSITY_MFM, image) == CTC_DONE && image == expected;
+}
+
+// The third byte came with bad parity; a sixth there is not.
+static bool bad_parity()
+{
+    const std::vector<std::uint8_t> bytes{1, 2, 3, 4, 5}, expected{0x80, 0x02, 1, 2, 3, 0, 0};
+    std::vector<std::uint8_t> image(ctc_image_length(5, CTC_DENSITY_MFM));
+    return build(bytes, CTC_DENSITY_MFM, image, 2) == CTC_DONE && image == expected &&
+           build(bytes, CTC_DENSITY_MFM, image, 5) == CTC_REFUSED_PLACE && image == expected;
 }
 
 // The longest record comes back, and one byte more is refused.
@@ -58,7 +69,7 @@ static bool two_passes()
 
 int main()
 {
-    const int passed = five_bytes() + the_limit() + two_passes();
-    std::printf("%d passed, %d failed\n", passed, 3 - passed);
-    return passed == 3 ? 0 : 1;
+    const int passed = five_bytes() + bad_parity() + the_limit() + two_passes();
+    std::printf("%d passed, %d failed\n", passed, 4 - passed);
+    return passed == 4 ? 0 : 1;
 }

@@ -10,7 +10,7 @@
  *
  * 49 wrong rules were put in on trial, one at a time, 28 of them about the limit,
  * long counts and high numbers: both runs found each, the fuzzer within seven seconds.
- * Of 17 wrong merges the fixed run found each.
+ * Of 17 wrong merges and 17 wrong rules of a bad byte's place the fixed run found each.
  */
 #define _DEFAULT_SOURCE /* for MAP_ANONYMOUS */
 
@@ -26,7 +26,7 @@
 
 /* ---- the rules of documents 01 and 02 ---- */
 
-enum { LIMIT = 65535, BLOCKETTE = 256, GOOD = 15, REPORT = 9, NO_COUNT = 65536 };
+enum { LIMIT = 65535, BLOCKETTE = 256, GOOD = 15, REPORT = 9, NO_COUNT = 65536, NO_PLACE = 65791 };
 /* The longest record has 256 blockettes, the last one short of a byte, and two check blockettes. */
 enum { IMAGE_MOST = 2 + BLOCKETTE * (256 + 2) };
 enum {
@@ -36,7 +36,8 @@ enum {
     SHORT_SPACE = 11,
     UNRESTORABLE = 12,
     OTHER_COUNT = 13,
-    UNLIKE = 14
+    UNLIKE = 14,
+    NO_SUCH_PLACE = 15
 };
 
 static size_t data_blockettes(size_t count)
@@ -99,8 +100,8 @@ static void add_parity(uint8_t *sum, uint8_t *image, size_t n, size_t parity, si
     }
 }
 
-static uint32_t rule_build(const uint8_t *bytes, size_t count, uint8_t density, uint8_t *space,
-                           size_t room)
+static uint32_t rule_build(const uint8_t *bytes, size_t count, uint8_t density, size_t place,
+                           uint8_t *space, size_t room)
 {
     if (count > LIMIT) {
         return WRONG_LENGTH;
@@ -109,9 +110,12 @@ static uint32_t rule_build(const uint8_t *bytes, size_t count, uint8_t density, 
     if (room < length) {
         return SHORT_SPACE;
     }
+    if (place >= count && place != NO_PLACE) {
+        return NO_SUCH_PLACE;
+    }
     memset(space, 0, length);
     put_count(space, count);
-    for (size_t i = 0; i < count; i++) {
+    for (size_t i = 0; i < count && i <= place; i++) { /* what follows a bad byte stays zeros */
         space[2 + i] = bytes[i];
     }
     if (density != 0 && count != 0) {
@@ -238,7 +242,7 @@ struct buffer {
 struct call {
     enum function function;
     struct buffer buffers[ARGUMENTS];
-    size_t count, other_count;
+    size_t count, other_count, place;
     uint8_t density;
 };
 
@@ -293,7 +297,8 @@ static size_t ask_library(const struct call *call, const struct buffer *lent)
     const struct buffer *other_space = lent + OTHER_SPACE;
     switch (call->function) {
     case BUILD:
-        return ctc_build(first->bytes, first->length, call->density, space->bytes, space->length);
+        return ctc_build(first->bytes, first->length, call->density, call->place, space->bytes,
+                         space->length);
     case RESTORE:
         return ctc_restore(first->bytes, first->length, second->bytes, second->length,
                            space->bytes, space->length);
@@ -319,7 +324,7 @@ static size_t ask_rules(const struct call *call, uint8_t *space, uint8_t *other_
     size_t room = call->buffers[SPACE].length;
     switch (call->function) {
     case BUILD:
-        return rule_build(first->bytes, first->length, call->density, space, room);
+        return rule_build(first->bytes, first->length, call->density, call->place, space, room);
     case RESTORE:
         return rule_restore(first->bytes, first->length, second->bytes, second->length, space,
                             room);
@@ -526,6 +531,26 @@ static size_t next_place(struct source *source, size_t count)
     }
 }
 
+/* The place of a bad byte of so many: none, one of them, the first ones behind, or far above. */
+static size_t next_bad(struct source *source, size_t count)
+{
+    uint8_t kind = next_byte(source);
+    switch (kind % 8) {
+    case 0:
+    case 1:
+        return NO_PLACE;
+    case 2:
+        return count + kind / 8 % 3;
+    case 3:
+        return NO_PLACE + kind / 8 % 3 - 1;
+    case 4: /* some would do without their highest bit */
+        return ((size_t)1 << (17 + kind / 8)) +
+               (next_byte(source) % 2 == 0 ? NO_PLACE : next_number(source));
+    default:
+        return count == 0 ? 0 : next_place(source, count);
+    }
+}
+
 /* Good marks, but for three at the most: an error, a value at the edge of those, or any. */
 static void next_marks(struct source *source, uint8_t *marks, size_t count)
 {
@@ -545,7 +570,7 @@ static void next_image(struct source *source, uint8_t *image, size_t count)
     static uint8_t record[MOST];
     uint8_t kind = next_byte(source);
     fill(source, record, count);
-    if (rule_build(record, count, 1, image, MOST) != DONE || kind % 2 == 0) {
+    if (rule_build(record, count, 1, NO_PLACE, image, MOST) != DONE || kind % 2 == 0) {
         put_count(image, count);
         fill(source, image + 2, BLOCKETTE * all_blockettes(count));
     }
@@ -657,6 +682,9 @@ static struct call next_call(struct source *source)
         bool is_right = read_right && i != SPACE && i != OTHER_SPACE;
         call.buffers[i].length = is_right ? right[i] : next_length(source, right[i]);
     }
+    if (call.function == BUILD) {
+        call.place = next_bad(source, call.buffers[FIRST].length);
+    }
     if (!numbers) {
         next_contents(source, &call, right);
     }
@@ -692,14 +720,14 @@ int LLVMFuzzerTestOneInput(const uint8_t *data, size_t size)
 
 #else
 
-enum { CALLS = 14000, KINDS = 15 };
+enum { CALLS = 14000, KINDS = 16 };
 
 /* Calls of each function by their kind of answer: the refusal, or, of a number, whether there is one. */
 static size_t calls[FUNCTIONS][KINDS];
 static size_t wrong[FUNCTIONS];
 
 static const unsigned kinds_needed[FUNCTIONS] = {
-    [BUILD] = 1u << DONE | 1u << WRONG_LENGTH | 1u << SHORT_SPACE,
+    [BUILD] = 1u << DONE | 1u << WRONG_LENGTH | 1u << SHORT_SPACE | 1u << NO_SUCH_PLACE,
     [RESTORE] = 1u << DONE | 1u << WRONG_LENGTH | 1u << WRONG_MARK | 1u << SHORT_SPACE |
                 1u << UNRESTORABLE,
     [SCAN] = 1u << DONE | 1u << SHORT_SPACE,

@@ -242,17 +242,23 @@ static uint32_t give_after(const struct kept *first, uint8_t *space, size_t leng
     return first->answer;
 }
 
-static uint32_t build(const uint8_t *bytes, size_t bytes_len, uint8_t density, uint8_t *space,
-                      size_t space_len)
+static uint32_t build_with(size_t place, const uint8_t *bytes, size_t bytes_len, uint8_t density,
+                           uint8_t *space, size_t space_len)
 {
     for (enum lay lay = FIRST_LAY; lay < LAYS; lay++) {
         struct lent input = lend(lay, bytes, bytes_len);
         struct lent image = lend(lay, space, space_len);
-        uint32_t given = ctc_build(input.bytes, bytes_len, density, image.bytes, space_len);
+        uint32_t given = ctc_build(input.bytes, bytes_len, density, place, image.bytes, space_len);
         take_back_unchanged(&input, bytes, "bytes");
         settle(lay, &kept, given, &image, "image space");
     }
     return give_after(&kept, space, space_len);
+}
+
+static uint32_t build(const uint8_t *bytes, size_t bytes_len, uint8_t density, uint8_t *space,
+                      size_t space_len)
+{
+    return build_with(CTC_NO_PLACE, bytes, bytes_len, density, space, space_len);
 }
 
 static uint32_t restore(const uint8_t *image, size_t image_len, const uint8_t *marks,
@@ -412,11 +418,13 @@ static void constants(void)
     expect(CTC_MARKS_MOST == 258, "most marks");
     expect(edge_count(EDGES - 1) == CTC_COUNT_LIMIT, "the last edge");
     expect(CTC_NO_COUNT == 65536, "no count");
+    expect(CTC_NO_PLACE == 65791, "no place");
     expect(CTC_DENSITY_MFM == 0 && CTC_DENSITY_GCR == 1, "densities");
     expect(CTC_MARK_GOOD == 15, "good mark");
     expect(CTC_DONE == 0 && CTC_REFUSED_LENGTH == 9 && CTC_REFUSED_MARK == 10, "refusals");
     expect(CTC_REFUSED_SPACE == 11 && CTC_REFUSED_UNRESTORABLE == 12, "refusals");
     expect(CTC_REFUSED_COUNTS == 13 && CTC_REFUSED_UNLIKE == 14, "refusals");
+    expect(CTC_REFUSED_PLACE == 15, "refusals");
     expect(ctc_image_length(CTC_COUNT_LIMIT, CTC_DENSITY_GCR) == CTC_IMAGE_MOST, "longest image");
     expect(ctc_mark_count(CTC_COUNT_LIMIT, CTC_DENSITY_GCR) == CTC_MARKS_MOST, "most marks");
 }
@@ -466,10 +474,13 @@ static void null_bytes(void)
 {
     for (unsigned density = 0; density < 3; density++) {
         uint8_t four[4] = {1, 2, 3, 4};
-        expect(ctc_build(NULL, 0, (uint8_t)density, four, 4) == CTC_DONE, "built");
+        expect(ctc_build(NULL, 0, (uint8_t)density, CTC_NO_PLACE, four, 4) == CTC_DONE, "built");
         expect(four[0] == 0 && four[1] == 0 && four[2] == 3 && four[3] == 4, "two bytes of 0");
         four[0] = 1;
-        expect(ctc_build(NULL, 0, (uint8_t)density, four, 1) == CTC_REFUSED_SPACE, "one byte");
+        expect(ctc_build(NULL, 0, (uint8_t)density, CTC_NO_PLACE, four, 1) == CTC_REFUSED_SPACE,
+               "one byte");
+        expect(ctc_build(NULL, 0, (uint8_t)density, 0, four, 4) == CTC_REFUSED_PLACE,
+               "no byte has a place");
         expect(four[0] == 1, "nothing written");
     }
 }
@@ -478,11 +489,17 @@ static void null_image_space(void)
 {
     const uint8_t five[5] = {1, 2, 3, 4, 5};
     for (unsigned density = 0; density < 3; density++) {
-        expect(ctc_build(five, 5, (uint8_t)density, NULL, 0) == CTC_REFUSED_SPACE, "five bytes");
-        expect(ctc_build(NULL, 0, (uint8_t)density, NULL, 0) == CTC_REFUSED_SPACE, "both null");
-        expect(ctc_build(bytes, CTC_COUNT_LIMIT + 1, (uint8_t)density, NULL, 0) ==
-                   CTC_REFUSED_LENGTH,
-               "9 before 11");
+        /* a place of a byte, none, and neither: 11 before 15, and 9 before 11 */
+        static const size_t places[] = {0, CTC_NO_PLACE, SIZE_MAX};
+        for (size_t i = 0; i < 3; i++) {
+            expect(ctc_build(five, 5, (uint8_t)density, places[i], NULL, 0) == CTC_REFUSED_SPACE,
+                   "five bytes");
+            expect(ctc_build(NULL, 0, (uint8_t)density, places[i], NULL, 0) == CTC_REFUSED_SPACE,
+                   "both null");
+            expect(ctc_build(bytes, CTC_COUNT_LIMIT + 1, (uint8_t)density, places[i], NULL, 0) ==
+                       CTC_REFUSED_LENGTH,
+                   "9 before 11");
+        }
     }
 }
 
@@ -643,6 +660,69 @@ static void builder_refuses(void)
                 expect(alike(image, before, rooms[r]), "nothing written");
             }
         }
+    }
+}
+
+/* Builds with a bad byte and holds it to what is expected of a record with zeros behind it. */
+static void build_bad(size_t place, size_t count, uint8_t density, size_t more)
+{
+    static uint8_t written[CTC_COUNT_LIMIT];
+    memset(written, 0, count);
+    memcpy(written, bytes, place + 1);
+    size_t length = expected_image(written, count, density, expected);
+    fill_random(before, length + more);
+    memcpy(image, before, length + more);
+    expect(build_with(place, bytes, count, density, image, length + more) == CTC_DONE,
+           "place %zu of %zu", place, count);
+    expect(only_start_written(image, length + more, expected, length),
+           "place %zu of %zu, density %u, %zu bytes more", place, count, density, more);
+}
+
+static void bad_parity(void)
+{
+    static const size_t small[] = {1, 2, 3, 255, 256, 257, 513};
+    for (uint8_t density = 0; density < 2; density++) {
+        for (size_t i = 0; i < sizeof small / sizeof small[0]; i++) {
+            fill_random(bytes, small[i]);
+            for (size_t place = 0; place < small[i]; place++) {
+                build_bad(place, small[i], density, place % 2);
+            }
+        }
+        fill_random(bytes, CTC_COUNT_LIMIT);
+        for (size_t i = 0; i < EDGES; i++) { /* places at the edges of the longest record's */
+            if (edge_count(i) < CTC_COUNT_LIMIT) {
+                build_bad(edge_count(i), CTC_COUNT_LIMIT, density, 0);
+            }
+        }
+    }
+}
+
+static void builder_refuses_places(void)
+{
+    fill_random(bytes, sizeof bytes);
+    for (uint8_t density = 0; density < 3; density++) {
+        for (size_t i = 0; i < EDGES; i++) {
+            size_t count = edge_count(i);
+            size_t length = expected_image(bytes, count, density, expected);
+            const size_t places[] = {count, count + 1, CTC_NO_PLACE - 1, CTC_NO_PLACE + 1,
+                                     (size_t)UINT32_MAX + 1, (size_t)UINT32_MAX + 1 + CTC_NO_PLACE,
+                                     SIZE_MAX};
+            size_t tried = at_an_end(count) ? sizeof places / sizeof places[0] : 1;
+            fill_random(before, length);
+            memcpy(image, before, length);
+            for (size_t p = 0; p < tried; p++) {
+                expect(build_with(places[p], bytes, count, density, image, length) ==
+                           CTC_REFUSED_PLACE,
+                       "place %zu of %zu", places[p], count);
+                expect(build_with(places[p], bytes, count, density, image, length - 1) ==
+                           CTC_REFUSED_SPACE,
+                       "11 before 15, place %zu of %zu", places[p], count);
+            }
+            expect(alike(image, before, length), "nothing written");
+        }
+        expect(build_with(SIZE_MAX, bytes, CTC_COUNT_LIMIT + 1, density, image, CTC_IMAGE_MOST) ==
+                   CTC_REFUSED_LENGTH,
+               "9 before 15");
     }
 }
 
@@ -1240,6 +1320,8 @@ int main(void)
     run("worked case: one byte 5A", worked_one_byte);
     run("images at the edges of blockettes", builds_edges);
     run("builder refuses", builder_refuses);
+    run("bad parity", bad_parity);
+    run("builder refuses places", builder_refuses_places);
     run("restorer refuses, lowest first", restorer_refuses);
     run("restorer refuses marks", restorer_refuses_every_mark);
     run("restorer refuses lengths", restorer_refuses_lengths);

@@ -1,13 +1,13 @@
 -- Parts of a slice: one that ends with the slice at the latest, and a space filled in two parts.
 -- Assumes nothing.
 use mathlib.Core.Path.{_≡_, sym, ap, ap₂, _∙_}
-use Prim.Native.Nat.{ℕ, _+_, _-_, _≤_, _<_, min}
+use Prim.Native.Nat.{ℕ, zero, suc, _+_, _-_, _≤_, _<_, min}
 use native.Mathlib.Nat.{lt-of-not-le, le-of-eq}
 use native.Mathlib.Decide.{decLe}
 use native.Mathlib.Omega.{arith}
-use mathlib.Core.List.{List, _++_, append-nil}
+use mathlib.Core.List.{List, [], _∷_, _++_, append-nil}
 use lib.ListN.{length, take, drop, length-drop, length-take, length-append, drop-of-length-le}
-use lib.Seq.{take-all, take-at, take-nil, drop-drop}
+use lib.Seq.{take-all, take-at, take-nil, take-take, drop-drop}
 use borrow.Rule.Slice.PartMut.{putMid}
 
 module _ {A : Type 0} where
@@ -34,6 +34,13 @@ module _ {A : Type 0} where
             let passed : length l ≤ start = omega arith in
             ap (λ (n : ℕ). take n (drop from l)) none ∙ sym (take-nil k) ∙ sym (ap (take k) (drop-of-length-le l passed))
       ]
+
+  -- a part of a front part
+  pub part-of-front : (l : List A) (start k n : ℕ) → start + k ≤ n → take k (drop start (take n l)) ≡ take k (drop start l)
+  part-of-front l zero k n h = take-take k n l (omega arith)
+  part-of-front [] (suc start) k n h = ap (λ (x : List A). take k (drop (suc start) x)) (take-nil n)
+  part-of-front (x ∷ xs) (suc start) k zero h = absurd (omega arith)
+  part-of-front (x ∷ xs) (suc start) k (suc n) h = part-of-front xs start k n (omega arith)
 
   -- a space whose first a elements were filled and then the others
   pub two-parts : (space first last : List A) (a : ℕ) → length first ≡ a

@@ -65,3 +65,7 @@ countsDiffer = 13
 -- "14 a blockette is good in both and unlike"
 abbrev pub blockettesUnlike : ℕ
 blockettesUnlike = 14
+
+-- "15 a place that is neither in the host bytes nor the value for none" (document 02, Wish 6)
+abbrev pub noSuchPlace : ℕ
+noSuchPlace = 15

@@ -1,4 +1,5 @@
-// The refusals of the calls: document 01's numbers and words ("Turned back"). Where more than one holds, the lowest is given.
+// The refusals of the calls: the papers' numbers and words (document 01, "Turned back"; document 02). Where more than one of document 01's holds, the
+// lowest is given; where those of document 02 stand, their wishes say.
 
 // Not refused.
 pub const DONE: u32 = 0;
@@ -36,3 +37,5 @@ pub const UNRESTORABLE: u32 = 12;
 pub const COUNTS_DIFFER: u32 = 13;
 // "a blockette is good in both and unlike"
 pub const BLOCKETTES_UNLIKE: u32 = 14;
+// "a place that is neither in the host bytes nor the value for none"
+pub const NO_SUCH_PLACE: u32 = 15;

@@ -14,6 +14,7 @@ use Rattle.marks.specs.Marks.{legalMark, legalMarks, isError, tornMarks}
 use Rattle.marks.specs.Scan.{scanFrom, scanMarks, kindOf, numberOf, defectAt, isFound, findingsOf, checksAlone}
 use Rattle.records.specs.Count.{limit, rotated, countBytes, unrotated, countOf}
 use Rattle.records.specs.Image.{blocketteCount, hasBlockettes, blockettesOf, bodyOf, imageOf, imageLength, markCount}
+use Rattle.records.specs.Place.{noPlace, isPlace, asCame, writtenBytes}
 use Rattle.records.specs.Whole.{layoutRefusal, wholeRefusal}
 use Rattle.transfers.specs.Expected.{wholeCode, expectedWhole, expectedSupplied, expectedOf, countRefusal, emptyRefusal, imageRefusal}
 use Rattle.operations.specs.Operation.{movesTape, isSkip, isSearch, takesMark}
@@ -36,7 +37,7 @@ use Rattle.link.specs.Link.{wholeLength, appendByte, loadXor, isGoodString, fir
 use Rattle.link.specs.Loads.{loadWord, carryOutLoad}
 use Rattle.controller.specs.Controller.{fresh}
 use Rattle.controller.specs.Stores.{endWith, settle, endOperation, motionOrder, pastTest, orderMove, begin, follow, clearOutcome, carryOutOn, carryOut}
-use Rattle.transfers.specs.Data.{checkBytes, recordBytes, runsShort, dataRefusal, dataWords, settleData}
+use Rattle.transfers.specs.Data.{hostOf, checkBytes, neededBytes, badByte, runsShort, dataRefusal, dataWords, settleData}
 use Rattle.transfers.specs.Results.{markAgainst, resultRefusal, isGone, marksRead, codeReported, finalCode, readsGcr, recordCount, usedCount, verdictOf, readCount, readBytes, deliveredBytes, tornBytes, bytesRead, fitting, resultCheck, resultTertiary, resultQuintary, wroteWell, resultCount, resultBits, withRetry, resultWords, resultGap, settleResult}
 use Rattle.controller.specs.Records.{Answer, dataDone, resultDone}
 use Rattle.link.specs.Damaged.{soundDrive, soundDrives, soundBody, soundLead, soundPart, soundString, soundCount, soundHeld, soundPhase, isSound}
@@ -79,7 +80,15 @@ gcrRead image marks =
 abbrev gcrWrite : ℕ → List Call
 gcrWrite value =
     report 1 0x22 ∷ store 0x39 0x00 0x00 0x00 0x0D 0x50 ++ store 0x59 0x00 0x00 0x00 0x01 0x3C
-    ++ byte 0x06 ∷ hostData (value ∷ []) (replicate 770 0) (replicate 512 0) ∷ []
+    ++ byte 0x06 ∷ hostData (hostOf (value ∷ []) noPlace) (replicate 770 0) (replicate 512 0) ∷ []
+
+-- an MFM write of three bytes on drive 1, two host bytes thrown away before them, with the data call's place
+abbrev mfmWrite : List ℕ → ℕ → List Call
+mfmWrite host place =
+    report 1 0x22 ∷ store 0x59 0x00 0x02 0x00 0x03 0x3C ++ byte 0x06 ∷ hostData (hostOf host place) (replicate 6 9) (replicate 512 0) ∷ []
+
+abbrev sixBytes : List ℕ
+sixBytes = 0x11 ∷ 0x22 ∷ 0x33 ∷ 0x44 ∷ 0x55 ∷ 0x66 ∷ []
 
 -- a record of 600 bytes, and its image with the count bytes and the first blockette torn
 abbrev sixHundred : List ℕ
@@ -128,6 +137,21 @@ pub record BenchCases : Type 0 where
   pub torn-primary : primaryNow (left tornRead) ≡ record { b0 = 0xA1; b1 = 0x35; b2 = 0x07; b3 = 0x22 }
   -- and the check blockettes from which the host restores it: the odd one is blockette 1, the even one blockettes 2 and 0
   pub torn-check : played tornRead .check ≡ replicate 256 2 ++ replicate 88 2 ++ replicate 168 1
+  -- "The byte itself is written as it came, every record byte after it is zero, and bit 16 is set." (document 02, Wish 6)
+  pub bad-byte : played (mfmWrite sixBytes 3) .space ≡ 0x80 ∷ 0x01 ∷ 0x33 ∷ 0x44 ∷ 0x00 ∷ 9 ∷ []
+  pub bad-bit : primaryNow (left (mfmWrite sixBytes 3)) ≡ record { b0 = 0x81; b1 = 0x00; b2 = 0x80; b3 = 0x22 }
+  -- "A bad byte among those thrown away makes the whole record zeros and sets that bit too."
+  pub bad-thrown-away : played (mfmWrite sixBytes 1) .space ≡ 0x80 ∷ 0x01 ∷ 0x00 ∷ 0x00 ∷ 0x00 ∷ 9 ∷ []
+  pub bad-thrown-bit : primaryNow (left (mfmWrite sixBytes 1)) ≡ record { b0 = 0x81; b1 = 0x00; b2 = 0x80; b3 = 0x22 }
+  -- "A place past the bytes that the store needs counts as none.", and so does 65,791
+  pub bad-past : played (mfmWrite sixBytes 5) .space ≡ 0x80 ∷ 0x01 ∷ 0x33 ∷ 0x44 ∷ 0x55 ∷ 9 ∷ []
+  pub bad-past-bit : primaryNow (left (mfmWrite sixBytes 5)) ≡ record { b0 = 0x81; b1 = 0x00; b2 = 0x00; b3 = 0x22 }
+  pub none-bad : played (mfmWrite sixBytes noPlace) .space ≡ 0x80 ∷ 0x01 ∷ 0x33 ∷ 0x44 ∷ 0x55 ∷ 9 ∷ []
+  -- "Underflow is flagged only where the host ran out before any bad byte."
+  pub short-after-bad : primaryNow (left (mfmWrite (0x11 ∷ 0x22 ∷ 0x33 ∷ []) 2)) ≡ record { b0 = 0x81; b1 = 0x00; b2 = 0x80; b3 = 0x22 }
+  pub short-alone : primaryNow (left (mfmWrite (0x11 ∷ 0x22 ∷ 0x33 ∷ []) noPlace)) ≡ record { b0 = 0x81; b1 = 0x00; b2 = 0x20; b3 = 0x22 }
+  -- "Refused: 15 a place that is neither in the host bytes nor the value for none"
+  pub no-such-place : played (mfmWrite sixBytes 6) .reply .refusal ≡ 15
   -- "It needs GCR, otherwise code 02"
   pub supplied-in-mfm : left (report 1 0x22 ∷ store 0x49 0x80 0x00 0x02 0x58 0xF7) .outcome .result .code ≡ 0x02
 
@@ -140,7 +164,7 @@ unfolding pick given filled _⊕_ xorAll blocketteAt numbered ofParity foldParit
     primaryNow sendWord sendInterrupt complete wholeLength appendByte loadXor isGoodString firstByte lastByte nextByte yesToSend giveUp noToSend
     asksInterrupt noToGo yesToGo collectByte answerToSend answerToGo tickAfterReview idleTick loadWord carryOutLoad storeOf namesDrive namedDrive
     askedFor endWith settle withTrack motionOrder pastTest orderMove begin clearOutcome namesUnknown selectedBy testOf courseOf follow
-    carryOutOn carryOut checkBytes thrownAway heldCount suppliedCount recordBytes runsShort dataRefusal dataDone dataFor resultFor takesMark isSkip isSearch markAgainst
+    carryOutOn carryOut checkBytes thrownAway heldCount suppliedCount isPlace asCame writtenBytes neededBytes badByte runsShort dataRefusal dataDone dataFor resultFor takesMark isSkip isSearch markAgainst
     wholeCode expectedWhole expectedSupplied expectedOf resultRefusal movesTape isGone marksRead codeReported finalCode readsGcr resultTertiary resultQuintary resultCheck readBytes fitting
     wroteWell resultCount resultBits withRetry endOperation resultDone isFound findingsOf checksAlone dataWords settleData recordCount usedCount verdictOf readCount
     deliveredBytes tornBytes bytesRead resultWords resultGap settleResult soundDrive soundDrives soundBody soundLead soundPart soundString soundCount soundHeld soundPhase
@@ -171,5 +195,15 @@ bench-cases =
       torn-count = refl;
       torn-primary = refl;
       torn-check = refl;
+      bad-byte = refl;
+      bad-bit = refl;
+      bad-thrown-away = refl;
+      bad-thrown-bit = refl;
+      bad-past = refl;
+      bad-past-bit = refl;
+      none-bad = refl;
+      short-after-bad = refl;
+      short-alone = refl;
+      no-such-place = refl;
       supplied-in-mfm = refl;
     }

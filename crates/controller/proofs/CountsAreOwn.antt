@@ -33,7 +33,7 @@ use Rattle.link.specs.declared.state.Turn.{Turn}
 use Rattle.link.specs.State.{storeOf, offered, startBody, withFlags, withCurrentDrive, currentDrive, resetState}
 use Rattle.link.specs.Link.{yesToGo}
 use Rattle.transfers.specs.declared.verdict.Verdict.{Verdict}
-use Rattle.transfers.specs.Data.{dataWords, settleData}
+use Rattle.transfers.specs.Data.{Host, dataWords, settleData}
 use Rattle.transfers.specs.Results.{Result, resultRefusal, isGone, findingsRead, codeReported, recordCount, usedCount, verdictOf, wroteWell, resultCount, resultBits, withRetry, resultWords, settleResult}
 use Rattle.transfers.proofs.ResultLaws.{supplied-none, final-zero, reported-zero}
 use Rattle.controller.specs.declared.controller.Controller.{Controller}
@@ -214,7 +214,7 @@ stores-case b s lead last own before =
 
 -- whatever drive is written
 written :
-    (b : Body) (held : Store) (drive : Drive) (host space check : List ℕ)
+    (b : Body) (held : Store) (drive : Drive) (host : Host) (space check : List ℕ)
     → Keeps (stated b (DataAwaited held)) (exchanged (hostData host space check) (dataDone b drive held host space check))
 unfolding dataDone settleData dataWords orderMove lastStore carriesOut isTaken notRefused ownRecord recordAfter InHand HeldUpToDate SentUpToDate pick
 written b held drive host space check last own before =

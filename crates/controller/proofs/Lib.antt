@@ -1,4 +1,5 @@
 pub mod DamageLaws
+pub mod AnswerLaws
 pub mod BenchCases
 pub mod Courses
 pub mod Steps

@@ -37,7 +37,7 @@ use Rattle.link.specs.declared.state.Action.the-variants.{Nothing}
 use Rattle.link.specs.declared.state.Turn.{Turn}
 use Rattle.link.specs.State.{storeOf, offered, startBody, withSelected, withFlags, withCurrentDrive, currentDrive, resetState}
 use Rattle.link.specs.Link.{yesToGo}
-use Rattle.transfers.specs.Data.{settleData}
+use Rattle.transfers.specs.Data.{Host, settleData}
 use Rattle.transfers.specs.Results.{Result, settleResult}
 use Rattle.controller.specs.declared.controller.Controller.{Controller}
 use Rattle.controller.specs.Controller.{fresh, carried}
@@ -273,7 +273,7 @@ stores-case b s lead a before =
 
 -- whatever drive's density the image has
 written :
-    (b : Body) (held : Store) (drive : Drive) (host space check : List ℕ)
+    (b : Body) (held : Store) (drive : Drive) (host : Host) (space check : List ℕ)
     → Complying (stated b (DataAwaited held)) (exchanged (hostData host space check) (dataDone b drive held host space check))
 unfolding dataDone noted notRefused callNoted Pending pick
 written b held drive host space check a before =

@@ -32,6 +32,7 @@ use Rattle.link.specs.State.{storeOf, offered, startBody, withFlags, withOutcom
 use Rattle.link.specs.Link.{noToGo, yesToGo}
 use Rattle.operations.specs.After.{withCode}
 use Rattle.transfers.specs.Results.{Result, resultRefusal, settleResult}
+use Rattle.transfers.specs.Data.{Host}
 use Rattle.controller.specs.declared.controller.Controller.{Controller}
 use Rattle.controller.specs.declared.controller.Reply.{Reply}
 use Rattle.controller.specs.Controller.{fresh, carried}
@@ -178,7 +179,7 @@ no-case b held reset refuses owed same = absurd refuses
 
 -- whatever drive is written
 written :
-    (b : Body) (held : Store) (drive : Drive) (host space check : List ℕ)
+    (b : Body) (held : Store) (drive : Drive) (host : Host) (space check : List ℕ)
     → Dues (stated b (DataAwaited held)) (exchanged (hostData host space check) (dataDone b drive held host space check))
 unfolding dataDone orderMove owes owedAfter notRefused Due holdsStoreIn pick
 written b held drive host space check owed same = same

@@ -26,7 +26,7 @@ use Rattle.link.specs.Bytes.{ack, loadLead}
 use Rattle.link.specs.State.{storeOf, offered, resetState}
 use Rattle.link.specs.Link.{answerToGo, yesToGo, noToGo}
 use Rattle.link.specs.Damaged.{isSound}
-use Rattle.transfers.specs.Data.{dataRefusal}
+use Rattle.transfers.specs.Data.{Host, dataRefusal}
 use Rattle.transfers.specs.Results.{Result, resultRefusal}
 use Rattle.controller.specs.declared.controller.Controller.{Controller}
 use Rattle.controller.specs.declared.controller.Reply.{Reply}
@@ -121,7 +121,7 @@ OfNo P =
 -- a data call or a result comes where it is awaited
 abbrev pub OfData : Claim → Type 0
 OfData P =
-    (b : Body) (held : Store) (host space check : List ℕ)
+    (b : Body) (held : Store) (host : Host) (space check : List ℕ)
     → let c = stated b (DataAwaited held) in P c (exchanged (hostData host space check) (dataIn c b host space check (DataAwaited held)))
 
 abbrev pub OfResults : Claim → Type 0
@@ -145,7 +145,7 @@ pub record Kinds (P : Claim) : Type 0 where
 
 -- a data call and a result while they are awaited: refused, or done for the drive
 module _ (P : Claim) (refusals : OfRefusals P) (b : Body) (held : Store) (drive : Drive) where
-  module _ (host space check : List ℕ) where
+  module _ (host : Host) (space check : List ℕ) where
     abbrev written : Answer → Type 0
     written answer = P (stated b (DataAwaited held)) (exchanged (hostData host space check) answer)
 
@@ -154,7 +154,7 @@ module _ (P : Claim) (refusals : OfRefusals P) (b : Body) (held : Store) (drive 
         → written (dataFor (stated b (DataAwaited held)) b drive held host space check)
     unfolding lentSpace lentCheck dataFor
     data-for done =
-        pick-by written (eqb (dataRefusal drive held (length space) (length check)) 0) (λ good. done)
+        pick-by written (eqb (dataRefusal drive held (length (host .bytes)) (host .place) (length space) (length check)) 0) (λ good. done)
         (λ some. refusals (stated b (DataAwaited held)) _ _ space check some refl refl)
 
   module _ (operation : Operation) (r : Result) (space check : List ℕ) where
@@ -227,7 +227,7 @@ module _ (P : Claim) (kinds : Kinds P) where
     taken-in (ResultAwaited operation held) = refuses (stated b (ResultAwaited operation held)) _ 2 refl refl refl
     taken-in (EndOffered interrupt) = refuses (stated b (EndOffered interrupt)) _ 2 refl refl refl
 
-    module _ (host space check : List ℕ) where
+    module _ (host : Host) (space check : List ℕ) where
       data-in :
           (phase : Phase)
           → P (stated b phase) (exchanged (hostData host space check) (dataIn (stated b phase) b host space check phase))

@@ -2,13 +2,13 @@
 -- contract is `Allows` (Demands/Contracts.antt), as the toolchain reads it from the function.
 -- Assumes nothing.
 use mathlib.Core.Path.{_≡_, refl, sym, ap, subst, _∙_}
-use mathlib.Core.Bool.{Bool, true, false, _||_, false≢true, true≢false, and-false}
+use mathlib.Core.Bool.{Bool, true, false, not, _&&_, _||_, false≢true, true≢false, and-false}
 use mathlib.Core.List.{List}
 use Prim.Native.Nat.{ℕ, _+_, _≤_, _<_}
 use native.Mathlib.Omega.{arith}
 use lib.Dec.{leb, ltb, eqb}
 use lib.ListN.{length, length-take}
-use borrow.Author.Tests.{eqb-false, eqb-true, not-false, le-leb, leb-false}
+use borrow.Author.Tests.{eqb-false, eqb-true, ne-eqb, not-false, le-leb, le-ltb, leb-false}
 use Rattle.common.specs.Pick.{pick}
 use Rattle.common.proofs.PickLaws.{pick-by, not-refused}
 use Rattle.marks.specs.Scan.{scanMarks}
@@ -23,10 +23,11 @@ use Rattle.status.proofs.DriveLaws.{put-other, by-four}
 use Rattle.operations.specs.declared.operation.Operation.the-variants.{Read}
 use Rattle.operations.specs.declared.store.Store.{Store}
 use Rattle.operations.specs.Codes.{illegalDrive, unrecoverable}
-use Rattle.operations.specs.Store.{asksInterrupt, namesDrive, namedDrive, namesUnknown, heldCount, suppliedCount}
+use Rattle.operations.specs.Store.{asksInterrupt, namesDrive, namedDrive, namesUnknown, thrownAway, heldCount, suppliedCount}
+use Rattle.records.specs.Place.{isPlace}
 use Rattle.records.proofs.ImageLaws.{image-length, image-holds}
-use Rattle.common.proofs.GivenLaws.{filled-length}
-use Rattle.transfers.specs.Data.{recordBytes, dataRefusal, settleData}
+use Rattle.records.proofs.PlaceLaws.{written-length}
+use Rattle.transfers.specs.Data.{Host, recordBytes, dataRefusal, neededBytes, badByte, runsShort, dataWords, settleData}
 use Rattle.transfers.specs.Results.{resultOf, resultRefusal, isGone, marksRead, codeReported, finalCode, verdictOf, wroteWell, resultBits, withRetry, resultWords, settleResult}
 use Rattle.link.specs.declared.state.Collected.{Collected}
 use Rattle.link.specs.declared.state.Kind.{Kind}
@@ -46,7 +47,7 @@ use Rattle.link.specs.Damaged.{isSound}
 use Rattle.controller.specs.declared.controller.Controller.{Controller}
 use Rattle.controller.specs.declared.controller.Reply.{Reply}
 use Rattle.controller.specs.Controller.{fresh}
-use Rattle.controller.specs.Stores.{settle, endWith, endOperation, carryOut}
+use Rattle.controller.specs.Stores.{settle, endWith, orderMove, endOperation, carryOut}
 use Rattle.controller.specs.Records.{Answer, dataDone, resultDone}
 use Rattle.controller.specs.Machine.{byteIn, brokenIn, tickIn, byteCall, brokenCall, tickCall, carryOutString, takenIn, takenCall, reportNoted, reportCall, resetCall, dataFor, dataIn, dataCall, resultFor, resultIn, resultCall, Call, step}
 use Rattle.controller.specs.Machine.Call.{byte, taken, broken, report, hostData, result, tick, reset}
@@ -219,11 +220,21 @@ report-of-drive-4 c n value high =
 -- ---- data
 
 -- a record has the bytes that its store says
-record-length : (store : Store) (host : List ℕ) → length (recordBytes store host) ≡ heldCount store
-unfolding recordBytes
-record-length store host = filled-length _ (heldCount store) (simp length-take (omega arith))
+record-length : (store : Store) (host : Host) → length (recordBytes store host) ≡ heldCount store
+record-length store host = written-length (host .bytes) (host .place) (thrownAway store) (heldCount store)
 
-module _ (c : Controller) (b : Body) (drive : Drive) (store : Store) (host space check : List ℕ) where
+-- bit 18 goes by what bit 16 does not
+one-bit : (parity underflow short bad : Bool) → parity ≡ false → underflow ≡ false → (parity || bad) ≡ true → (underflow || (short && not bad)) ≡ true → ⊥
+one-bit true underflow short bad p u e f = false≢true (sym p)
+one-bit false true short bad p u e f = false≢true (sym u)
+one-bit false false short false p u e f = false≢true e
+one-bit false false true true p u e f = false≢true f
+one-bit false false false true p u e f = false≢true f
+
+abbrev bothBits : Answer → Type 0
+bothBits a = (a .reply .controller .body .outcome .parity ≡ true) × (a .reply .controller .body .outcome .underflow ≡ true)
+
+module _ (c : Controller) (b : Body) (drive : Drive) (store : Store) (host : Host) (space check : List ℕ) where
   abbrev short : Answer → Type 0
   short a = (a .reply .refusal ≡ 0) × (a .bytes < 2 + heldCount store) → ⊥
 
@@ -231,20 +242,43 @@ module _ (c : Controller) (b : Body) (drive : Drive) (store : Store) (host space
   unfolding dataFor dataDone settleData
   data-for-short =
       let bytes = recordBytes store host in
-      pick-by short (eqb (dataRefusal drive store (length space) (length check)) 0)
+      pick-by short (eqb (dataRefusal drive store (length (host .bytes)) (host .place) (length space) (length check)) 0)
       (λ good w. omega (arith, w .1, image-length bytes (drive .density), image-holds (length bytes) (drive .density), record-length store host))
       (λ refused w. eqb-false _ 0 refused (w .0))
+
+  -- at most one of both bits
+  data-for-bits : c .body ≡ b → b .outcome .parity ≡ false → b .outcome .underflow ≡ false → bothBits (dataFor c b drive store host space check) → ⊥
+  unfolding dataFor dataDone settleData dataWords runsShort orderMove
+  data-for-bits same no-parity no-underflow =
+      pick-by (λ (a : Answer). bothBits a → ⊥)
+      (eqb (dataRefusal drive store (length (host .bytes)) (host .place) (length space) (length check)) 0)
+      (λ good w. one-bit (b .outcome .parity) (b .outcome .underflow) (ltb (length (host .bytes)) (neededBytes store)) (badByte store (host .place))
+      no-parity no-underflow (w .0) (w .1)) (λ refused w. false≢true (sym no-parity ∙ ap (λ (x : Body). x .outcome .parity) (sym same) ∙ w .0))
+
+  -- the place is looked at
+  data-for-place : length (host .bytes) ≤ host .place → (host .place ≡ 65791 → ⊥) → dataFor c b drive store host space check .reply .refusal ≡ 0 → ⊥
+  unfolding dataFor dataDone dataRefusal isPlace
+  data-for-place behind some =
+      pick-by (λ (a : Answer). a .reply .refusal ≡ 0 → ⊥)
+      (eqb (dataRefusal drive store (length (host .bytes)) (host .place) (length space) (length check)) 0)
+      (λ good none.
+      let checked = not-refused _ _ _ (λ r. omega arith) (eqb-true _ 0 good) in
+      let room = not-refused _ _ _ (λ r. omega arith) (checked .1) in
+      let found = not-refused _ _ _ (λ r. omega arith) (room .1) in
+      let lost : not (isPlace (length (host .bytes)) (host .place)) ≡ true = simp (le-ltb (host .place) (length (host .bytes)) behind, ne-eqb (host .place) 65791 some) in
+      false≢true (sym (found .0) ∙ lost))
+      (λ refused none. eqb-false _ 0 refused none)
 
   -- the space is as it was
   data-for-refused : (dataFor c b drive store host space check .reply .refusal ≡ 0 → ⊥) → dataFor c b drive store host space check .space ≡ space
   unfolding dataFor dataDone
   data-for-refused =
-      pick-by (λ (a : Answer). (a .reply .refusal ≡ 0 → ⊥) → a .space ≡ space) (eqb (dataRefusal drive store (length space) (length check)) 0)
+      pick-by (λ (a : Answer). (a .reply .refusal ≡ 0 → ⊥) → a .space ≡ space) (eqb (dataRefusal drive store (length (host .bytes)) (host .place) (length space) (length check)) 0)
       (λ good some. absurd (some refl)) (λ refused some. refl)
 
 -- fewer bytes are given than the count and the bytes of the record
 pub data-image-cut-short :
-    (b : Body) (store : Store) (host space check : List ℕ)
+    (b : Body) (store : Store) (host : Host) (space check : List ℕ)
     → Excludes (at b (DataAwaited store)) (hostData host space check) (λ a. (a .reply .refusal ≡ 0) × (a .bytes < 2 + heldCount store))
 unfolding step dataCall dataIn
 data-image-cut-short b store host space check =
@@ -252,9 +286,29 @@ data-image-cut-short b store host space check =
     (pick-by (λ (a : Answer). (a .reply .refusal ≡ 0) × (a .bytes < 2 + heldCount store) → ⊥) (isSound b (DataAwaited store))
     (λ sane. data-for-short _ b _ store host space check) (λ hurt w. nonzero 1 refl (w .0)))
 
+-- bits 16 and 18 are both set, where neither was before
+pub data-bad-byte-and-underflow :
+    (b : Body) (store : Store) (host : Host) (space check : List ℕ) → b .outcome .parity ≡ false → b .outcome .underflow ≡ false
+    → Excludes (at b (DataAwaited store)) (hostData host space check) bothBits
+unfolding step dataCall dataIn
+data-bad-byte-and-underflow b store host space check no-parity no-underflow =
+    excluded _ _ _
+    (pick-by (λ (a : Answer). bothBits a → ⊥) (isSound b (DataAwaited store))
+    (λ sane. data-for-bits _ b _ store host space check refl no-parity no-underflow) (λ hurt w. false≢true (sym no-parity ∙ w .0)))
+
+-- a place that is not in the host bytes, and is not 65,791, is taken
+pub data-place-behind-the-bytes :
+    (b : Body) (store : Store) (host : Host) (space check : List ℕ) → length (host .bytes) ≤ host .place → (host .place ≡ 65791 → ⊥)
+    → Excludes (at b (DataAwaited store)) (hostData host space check) (λ a. a .reply .refusal ≡ 0)
+unfolding step dataCall dataIn
+data-place-behind-the-bytes b store host space check behind some =
+    excluded _ _ _
+    (pick-by (λ (a : Answer). a .reply .refusal ≡ 0 → ⊥) (isSound b (DataAwaited store))
+    (λ sane. data-for-place _ b _ store host space check behind some) (λ hurt. nonzero 1 refl))
+
 -- the same, whatever the phase
 data-in-refused :
-    (c : Controller) (b : Body) (host space check : List ℕ) (phase : Phase)
+    (c : Controller) (b : Body) (host : Host) (space check : List ℕ) (phase : Phase)
     → (dataIn c b host space check phase .reply .refusal ≡ 0 → ⊥)
     → dataIn c b host space check phase .space ≡ space
 unfolding dataIn
@@ -268,7 +322,7 @@ data-in-refused c b host space check (EndOffered interrupt) = λ some. refl
 
 -- a refused call writes into the space
 pub data-refused-but-written :
-    (c : Controller) (host space check : List ℕ) → Excludes c (hostData host space check) (λ a. (a .reply .refusal ≡ 0 → ⊥) × (a .space ≡ space → ⊥))
+    (c : Controller) (host : Host) (space check : List ℕ) → Excludes c (hostData host space check) (λ a. (a .reply .refusal ≡ 0 → ⊥) × (a .space ≡ space → ⊥))
 unfolding step dataCall
 data-refused-but-written c host space check =
     excluded _ _ _

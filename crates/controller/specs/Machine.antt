@@ -27,7 +27,7 @@ use Rattle.link.specs.Link.{collectByte, answerToSend, answerToGo, giveUp, noTo
 use Rattle.link.specs.Loads.{carryOutLoad}
 use Rattle.controller.specs.Controller.{carried, refused}
 use Rattle.controller.specs.Stores.{carryOut}
-use Rattle.transfers.specs.Data.{dataRefusal}
+use Rattle.transfers.specs.Data.{Host, dataRefusal}
 use Rattle.transfers.specs.Results.{Result, resultRefusal}
 use Rattle.controller.specs.Records.{Answer, dataDone, resultDone}
 use Rattle.link.specs.Damaged.{isSound}
@@ -117,13 +117,13 @@ abbrev pub unchanged : ℕ → Controller → List ℕ → List ℕ → Answer
 unchanged number c space check = record { reply = refused number c; bytes = 0; space = space; check = check }
 
 -- the data call of a write, by the drive that it writes
-unfoldable pub dataFor : Controller → Body → Drive → Store → List ℕ → List ℕ → List ℕ → Answer
+unfoldable pub dataFor : Controller → Body → Drive → Store → Host → List ℕ → List ℕ → Answer
 dataFor c b drive store host space check =
-    pick (eqb (dataRefusal drive store (length space) (length check)) 0) (dataDone b drive store host space check)
-    (unchanged (dataRefusal drive store (length space) (length check)) c space check)
+    let refusal = dataRefusal drive store (length (host .bytes)) (host .place) (length space) (length check) in
+    pick (eqb refusal 0) (dataDone b drive store host space check) (unchanged refusal c space check)
 
 -- "3 data or result not awaited"
-unfoldable pub dataIn : Controller → Body → List ℕ → List ℕ → List ℕ → Phase → Answer
+unfoldable pub dataIn : Controller → Body → Host → List ℕ → List ℕ → Phase → Answer
 dataIn c b host space check (DataAwaited store) = dataFor c b (currentDrive b) store host space check
 dataIn c b host space check (Collecting s) = unchanged transferNotAwaited c space check
 dataIn c b host space check (AckOffered s) = unchanged transferNotAwaited c space check
@@ -132,8 +132,8 @@ dataIn c b host space check (GoOffered store) = unchanged transferNotAwaited c s
 dataIn c b host space check (ResultAwaited operation store) = unchanged transferNotAwaited c space check
 dataIn c b host space check (EndOffered interrupt) = unchanged transferNotAwaited c space check
 
--- the data call, with the space it is lent and the check store
-unfoldable pub dataCall : Controller → List ℕ → List ℕ → List ℕ → Answer
+-- the data call, with the space it is lent and the check store: "The data call takes that place" (document 02, Wish 6)
+unfoldable pub dataCall : Controller → Host → List ℕ → List ℕ → Answer
 dataCall c host space check = pick (isSound (c .body) (c .phase)) (dataIn c (c .body) host space check (c .phase)) (unchanged stateDamaged c space check)
 
 -- the result of an operation, by the drive that carried it out
@@ -164,7 +164,7 @@ pub data Call : Type 0 where
   taken : Call
   broken : Call
   report : ℕ → ℕ → Call
-  hostData : List ℕ → List ℕ → List ℕ → Call
+  hostData : Host → List ℕ → List ℕ → Call
   result : Result → List ℕ → List ℕ → Call
   tick : Call
   reset : Call

@@ -11,7 +11,7 @@ use Rattle.operations.specs.declared.operation.Operation.the-variants.{Write}
 use Rattle.operations.specs.declared.store.Store.{Store}
 use Rattle.transfers.specs.declared.after.Words.{Words}
 use Rattle.transfers.specs.declared.after.After.{After}
-use Rattle.transfers.specs.Data.{writeImage, dataCheck, settleData}
+use Rattle.transfers.specs.Data.{Host, writeImage, dataCheck, settleData}
 use Rattle.transfers.specs.Results.{Result, resultInto, resultCheckInto, settleResult}
 use Rattle.link.specs.declared.state.Body.{Body}
 use Rattle.link.specs.State.{withOutcome, withWords, withCurrentDrive, currentDrive}
@@ -44,7 +44,7 @@ abbrev pub withAfter : Body → After → Body
 withAfter b after = withCurrentDrive (withStatus b (after .words)) (withGap (currentDrive b) (after .gap))
 
 -- "the data call builds the image and orders the move", by the density of the drive
-unfoldable pub dataDone : Body → Drive → Store → List ℕ → List ℕ → List ℕ → Answer
+unfoldable pub dataDone : Body → Drive → Store → Host → List ℕ → List ℕ → Answer
 dataDone b drive store host space check =
     let written = settleData (wordsOf b) drive store host in
     let image = writeImage store host (drive .density) in

@@ -23,6 +23,7 @@ use Rattle.link.specs.declared.state.Action.the-variants.{Nothing, Byte, Text, 
 use Rattle.operations.specs.Store.{namesDrive, namedDrive, askedFor}
 use Rattle.link.specs.Bytes.{ack}
 use Rattle.controller.specs.Controller.{fresh}
+use Rattle.transfers.specs.Data.{Host}
 use Rattle.transfers.specs.Results.{Result}
 use Rattle.controller.specs.Machine.{Call, Exchange}
 use Rattle.controller.specs.Machine.Call.{byte, taken, broken, report, hostData, result, tick, reset}
@@ -35,12 +36,13 @@ unfoldable pub isOf : ℕ → Store → Bool
 isOf d store = namesDrive store && eqb (namedDrive store) d
 
 -- "its history ..: its reports not refused; stores carried out that name it (operation and operand); of these each GO answer (yes or no),
--- data call (host bytes) and result (code, mark flag, late flags, image, marks, length of host space)"
+-- data call (host bytes) and result (code, mark flag, late flags, image, marks, length of host space)"; "A drive's history includes the place" (document
+-- 02, Wish 6)
 pub data Event : Type 0 where
   reportCame : ℕ → Event
   storeCame : ℕ → ℕ → ℕ → ℕ → ℕ → Event
   goAnswered : Bool → Event
-  dataCame : List ℕ → Event
+  dataCame : Host → Event
   resultCame : Result → ℕ → Event
 
 -- "operation and operand": the asking of an interrupt is left out

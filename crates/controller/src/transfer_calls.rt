@@ -29,7 +29,7 @@ ghost use Prim.Native.Nat.{_≤_};
 ghost use lib.ListN.{length};
 ghost use Rattle.records.specs.Count.{limit};
 ghost use Rattle.operations.specs.Store.{heldCount, suppliedCount};
-ghost use Rattle.transfers.specs.Data.{dataRefusal};
+ghost use Rattle.transfers.specs.Data.{hostOf, dataRefusal};
 ghost use Rattle.transfers.specs.Results.{resultOf, resultWith, resultRefusal};
 ghost use Rattle.controller.specs.Controller.{refusedTransfer};
 ghost use Rattle.controller.specs.Records.{answered, wordsOf, withStatus, withAfter, dataDone, resultDone};
@@ -77,15 +77,16 @@ fn data_done(
     drive: Drive,
     store: Store,
     host: &[u8],
+    place: usize,
     space: &mut [u8],
     check: &mut [u8],
 ) -> Transfer
     requires { ⌜ heldCount store ≤ limit ⌝ }
-    requires { ⌜ dataRefusal drive store (length (now space)) (length (now check)) ≡ 0 ⌝ }
-    ensures { λ r. ⌜ answered r (now (space .exit)) (now (check .exit)) ≡ dataDone b drive store (now (host .entry)) (now (space .entry)) (now (check .entry)) ⌝ }
+    requires { ⌜ dataRefusal drive store (length (now host)) place (length (now space)) (length (now check)) ≡ 0 ⌝ }
+    ensures { λ r. ⌜ answered r (now (space .exit)) (now (check .exit)) ≡ dataDone b drive store (hostOf (now (host .entry)) place) (now (space .entry)) (now (check .entry)) ⌝ }
 {
     let words = words_of(b);
-    let written = settle_data(words, drive, store, host, space, check);
+    let written = settle_data(words, drive, store, host, place, space, check);
     let told = written.words;
     let reply = carried(order_move(with_status(b, told), Operation::Write, store));
     Transfer {
@@ -138,9 +139,10 @@ fn refused_transfer(number: u32, c: Controller) -> Transfer
 }
 
 impl Controller {
-    // The host's bytes for a write. The image stands at the start of the space afterwards.
-    pub fn data(self, host: &[u8], space: &mut [u8], check: &mut [u8]) -> Transfer
-        ensures { λ r. ⌜ answered r (now (space .exit)) (now (check .exit)) ≡ dataCall self (now (host .entry)) (now (space .entry)) (now (check .entry)) ⌝ }
+    // The host's bytes for a write, and the place of the one that came with bad parity, or NO_PLACE. The image stands at the start of the space
+    // afterwards.
+    pub fn data(self, host: &[u8], place: usize, space: &mut [u8], check: &mut [u8]) -> Transfer
+        ensures { λ r. ⌜ answered r (now (space .exit)) (now (check .exit)) ≡ dataCall self (hostOf (now (host .entry)) place) (now (space .entry)) (now (check .entry)) ⌝ }
     {
         if is_damaged(self) {
             return refused_transfer(STATE_DAMAGED, self);
@@ -150,11 +152,11 @@ impl Controller {
             return refused_transfer(TRANSFER_NOT_AWAITED, self);
         };
         let written = drive_of(self.body.drives, self.body.selected);
-        let refusal = data_refusal(written, store, space.len(), check.len());
+        let refusal = data_refusal(written, store, host.len(), place, space.len(), check.len());
         if refusal != 0 {
             return refused_transfer(refusal, self);
         }
-        data_done(self.body, written, store, host, space, check)
+        data_done(self.body, written, store, host, place, space, check)
     }
 
     // What came of an operation. The bytes that are delivered stand at the start of the host space afterwards.

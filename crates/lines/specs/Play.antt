@@ -7,6 +7,8 @@ use Rattle.transfers.specs.Results.{resultOf}
 use Rattle.controller.specs.declared.controller.Controller.{Controller}
 use Rattle.controller.specs.declared.controller.Reply.{Reply}
 use Rattle.controller.specs.Records.{Answer}
+use Rattle.records.specs.Place.{noPlace}
+use Rattle.transfers.specs.Data.{hostOf}
 use Rattle.controller.specs.Machine.{byteCall, takenCall, brokenCall, reportCall, dataCall, resultCall, tickCall, resetCall}
 use Rattle.lines.specs.Line.{Line, unreadable, byte, taken, broken, report, hostData, result, tick, reset}
 use Rattle.lines.specs.Print.{answerText, unreadableText}
@@ -43,14 +45,15 @@ transferLeft a = record {
 unfoldable pub withRest : Left → List ℕ → Left
 withRest l rest = record { controller = l .controller; space = l .space ++ rest; check = l .check; text = l .text }
 
--- a line's answer. "An unreadable line prints ?,-,, and changes nothing." A data call is lent the whole space, a result as much as it says.
+-- a line's answer. "An unreadable line prints ?,-,, and changes nothing." A data call is lent the whole space, a result as much as it says. Of a place
+-- for a bad host byte: "The session program hands in none." (document 02, Wish 6)
 unfoldable pub lineLeft : Controller → Line → List ℕ → List ℕ → Left
 lineLeft c unreadable space check = record { controller = c; space = space; check = check; text = unreadableText }
 lineLeft c (byte b) space check = replyLeft (byteCall c b) space check
 lineLeft c taken space check = replyLeft (takenCall c) space check
 lineLeft c broken space check = replyLeft (brokenCall c) space check
 lineLeft c (report drive b) space check = replyLeft (reportCall c drive b) space check
-lineLeft c (hostData host) space check = transferLeft (dataCall c host space check)
+lineLeft c (hostData host) space check = transferLeft (dataCall c (hostOf host noPlace) space check)
 lineLeft c (result code mark late image marks lent) space check =
     withRest (transferLeft (resultCall c (resultOf code mark late image marks) (take lent space) check)) (drop lent space)
 lineLeft c tick space check = replyLeft (tickCall c) space check
@@ -85,5 +88,5 @@ fieldsAnswer c f bytes marks space check =
 -- the answer to a call
 unfoldable pub callAnswer : Controller → Call → List ℕ → List ℕ → List ℕ → List ℕ → Answer
 callAnswer c (Plain call) bytes marks space check = record { reply = plainReply c call; bytes = 0; space = space; check = check }
-callAnswer c (HostData count) bytes marks space check = dataCall c (take count bytes) space check
+callAnswer c (HostData count) bytes marks space check = dataCall c (hostOf (take count bytes) noPlace) space check
 callAnswer c (Result fields) bytes marks space check = fieldsAnswer c fields bytes marks space check

@@ -13,6 +13,7 @@ use common::least;
 use controller::controller::Controller;
 use controller::controller::Reply;
 use controller::controller::Transfer;
+use records::place::NO_PLACE;
 ghost use mathlib.Core.Path.{_≡_};
 ghost use Prim.Native.Nat.{ℕ, _+_, _*_, _≤_};
 ghost use mathlib.Core.List.{List};
@@ -92,7 +93,7 @@ fn call_answer(
         }
         Call::HostData(count) => {
             let end = least(count, bytes.len());
-            c.data(&bytes[..end], space, check)
+            c.data(&bytes[..end], NO_PLACE, space, check)
         }
         Call::Result(fields) => fields_answer(c, fields, bytes, marks, space, check),
     }

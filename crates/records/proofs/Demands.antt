@@ -5,7 +5,7 @@
 -- Assumes nothing.
 pub mod Contracts
 use mathlib.Core.Path.{_≡_, sym, ap, ap₂, subst, _∙_}
-use mathlib.Core.Bool.{_&&_}
+use mathlib.Core.Bool.{true, false, not, _&&_}
 use mathlib.Core.List.{List}
 use Prim.Native.Nat.{ℕ, _≤_, _<_}
 use native.Mathlib.Omega.{arith}
@@ -22,7 +22,8 @@ use Rattle.passes.specs.Passes.{mergedMarks}
 use Rattle.passes.proofs.MergedLaws.{marks-length, mark-at, mark-bad}
 use Rattle.records.specs.Count.{limit, countOf}
 use Rattle.records.specs.Image.{imageOf, imageLength, markCount}
-use Rattle.records.specs.Build.{buildRefusal, buildInto}
+use Rattle.records.specs.Place.{noPlace, isPlace}
+use Rattle.records.specs.Build.{buildRefusal, builtBytes, buildInto}
 use Rattle.records.specs.Whole.{wholeRefusal}
 use Rattle.records.specs.Restore.{restoreRefusal, restoredBytes, restoreInto}
 use Rattle.records.specs.Merge.{Pass, mergeRefusal, mergedImage, mergeImageInto, mergeMarksInto}
@@ -30,6 +31,7 @@ use Rattle.records.specs.Earlier.{earlierLimit, earlierBuildRefusal, ear
 use Rattle.records.specs.Spoiled.{Spoiled}
 use Rattle.records.specs.Interface.{scanRefusal, scanInto}
 use Rattle.records.proofs.ImageLaws.{image-length}
+use Rattle.records.proofs.PlaceLaws.{written-length, built-as-came}
 use Rattle.records.proofs.BuiltRecordsAreRestored.{built-records-are-restored}
 use Rattle.records.proofs.MergedRecordsAreRestored.{Shows, merged-shows, merging-is-accepted, merged-records-are-restored}
 use Rattle.records.proofs.Spoiling.{IsBad, twoBad, ReallySpoiled, records-are-spoiled}
@@ -45,8 +47,8 @@ calls-meet-their-contracts = all-met
 
 -- "buffers unchanged": where an answer that the contract allows is a refusal, the lent space is as it was
 pub record RefusedCallsChangeNothing : Type 0 where
-  pub build : (bytes : List ℕ) (density : ℕ) (space : List ℕ) (refusal : ℕ) (after : List ℕ)
-      → BuildAllows bytes density space refusal after → (refusal ≡ 0 → ⊥) → after ≡ space
+  pub build : (bytes : List ℕ) (density place : ℕ) (space : List ℕ) (refusal : ℕ) (after : List ℕ)
+      → BuildAllows bytes density place space refusal after → (refusal ≡ 0 → ⊥) → after ≡ space
   pub restore : (image marks space : List ℕ) (refusal : ℕ) (after : List ℕ)
       → RestoreAllows image marks space refusal after → (refusal ≡ 0 → ⊥) → after ≡ space
   pub merge : (first second : Pass) (image marks : List ℕ) (refusal : ℕ) (imageAfter marksAfter : List ℕ)
@@ -57,8 +59,8 @@ pub refused-calls-change-nothing : RefusedCallsChangeNothing
 unfolding buildInto restoreInto mergeImageInto mergeMarksInto scanRefusal scanInto pick
 refused-calls-change-nothing =
     record {
-      build = λ bytes density space refusal after allowed some.
-          let promised = builds-are-defined bytes density space refusal after allowed in
+      build = λ bytes density place space refusal after allowed some.
+          let promised = builds-are-defined bytes density place space refusal after allowed in
           promised .1 ∙ where-refused _ _ _ (λ none. some (promised .0 ∙ none));
       restore = λ image marks space refusal after allowed some.
           let promised = restores-are-defined image marks space refusal after allowed in
@@ -75,47 +77,60 @@ refused-calls-change-nothing =
 
 -- ---- demand 2
 
--- Bytes that the builder made an image of in GCR, the image at the start of the space that it left, spoiled with at most one odd and one even
--- blockette bad and those alone marked: of image and marks the restorer, with room for the bytes, answers 0 and gives the bytes at the start of
--- its space, and leaves the rest of it as it was.
+-- "A record's own bytes in demand 2 are those written" (document 02, Wish 6): all that came, or those up to the bad one and then zeros. Of bytes that the
+-- builder made an image of in GCR, the image at the start of the space that it left, spoiled with at most one odd and one even blockette bad and those
+-- alone marked: of image and marks the restorer, with room for the bytes, answers 0 and gives those written at the start of its space, and leaves the
+-- rest of it as it was.
 pub calls-restore-what-was-built :
-    (bytes : List ℕ) (density : ℕ) (space built : List ℕ) → (density ≡ 0 → ⊥) → BuildAllows bytes density space 0 built
+    (bytes : List ℕ) (density place : ℕ) (space built : List ℕ) → (density ≡ 0 → ⊥) → BuildAllows bytes density place space 0 built
     → (image marks : List ℕ) → Spoiled (take (imageLength (length bytes) density) built) image marks
     → (out : List ℕ) (refusal : ℕ) (after : List ℕ) → length bytes ≤ length out → RestoreAllows image marks out refusal after
-    → (refusal ≡ 0) × (after ≡ given bytes out)
-calls-restore-what-was-built bytes density space built gcr builds image marks spoiled out refusal after room restores =
+    → (refusal ≡ 0) × (after ≡ given (builtBytes bytes place) out)
+calls-restore-what-was-built bytes density place space built gcr builds image marks spoiled out refusal after room restores =
+    let written = builtBytes bytes place in
     let promised = restores-are-defined image marks out refusal after restores in
-    let same = subst (λ (l : List ℕ). Spoiled l image marks) (built-image bytes density space built gcr builds) spoiled in
-    let restored = built-records-are-restored bytes image marks out (built-within bytes density space built gcr builds) same room in
+    let same = subst (λ (l : List ℕ). Spoiled l image marks) (built-image bytes density place space built gcr builds) spoiled in
+    let room′ : length written ≤ length out = rw (written-length bytes place 0 (length bytes)) room in
+    let restored = built-records-are-restored written image marks out (built-within bytes density place space built gcr builds) same room′ in
     (promised .0 ∙ restored .0, promised .1 ∙ restored .1)
 
--- All this can happen: to every record of at least one byte within the limit, built in GCR and restored in any spaces with room for it, with an odd
--- and an even blockette that hold other bytes than were built and have any marks of an error.
-pub record BuiltSpoiledRestored (bytes : List ℕ) (density : ℕ) (space marks out : List ℕ) : Type 0 where
+-- Where no byte is bad, those written are the bytes themselves.
+pub without-a-bad-byte-all-are-written : (bytes : List ℕ) → length bytes ≤ limit → builtBytes bytes noPlace ≡ bytes
+unfolding limit
+without-a-bad-byte-all-are-written bytes within = built-as-came bytes noPlace (omega arith)
+
+-- All this can happen: to every record of at least one byte within the limit, built in GCR with any place and restored in any spaces with room for it,
+-- with an odd and an even blockette that hold other bytes than were built and have any marks of an error.
+pub record BuiltSpoiledRestored (bytes : List ℕ) (density place : ℕ) (space marks out : List ℕ) : Type 0 where
   pub built : List ℕ
   pub image : List ℕ
   pub after : List ℕ
-  pub builds : BuildAllows bytes density space 0 built
+  pub builds : BuildAllows bytes density place space 0 built
   pub spoiled : ReallySpoiled (take (imageLength (length bytes) density) built) image marks
   pub restores : RestoreAllows image marks out 0 after
 
 pub every-record-can-be-spoiled-and-restored :
-    (bytes : List ℕ) (density : ℕ) (space out : List ℕ) (mark₁ mark₂ : ℕ) → (density ≡ 0 → ⊥) → 0 < length bytes → length bytes ≤ limit
-    → imageLength (length bytes) density ≤ length space → length bytes ≤ length out → IsBad mark₁ → IsBad mark₂
-    → BuiltSpoiledRestored bytes density space (twoBad bytes mark₁ mark₂) out
-every-record-can-be-spoiled-and-restored bytes density space out mark₁ mark₂ gcr some within fits room bad₁ bad₂ =
-    let built = buildInto bytes density space in
-    let made = builds-within bytes density space within fits in
-    let marks = twoBad bytes mark₁ mark₂ in
-    let found = records-are-spoiled bytes mark₁ mark₂ some bad₁ bad₂ in
+    (bytes : List ℕ) (density place : ℕ) (space out : List ℕ) (mark₁ mark₂ : ℕ) → (density ≡ 0 → ⊥) → 0 < length bytes → length bytes ≤ limit
+    → isPlace (length bytes) place ≡ true → imageLength (length bytes) density ≤ length space → length bytes ≤ length out → IsBad mark₁ → IsBad mark₂
+    → BuiltSpoiledRestored bytes density place space (twoBad (builtBytes bytes place) mark₁ mark₂) out
+every-record-can-be-spoiled-and-restored bytes density place space out mark₁ mark₂ gcr some within is-place fits room bad₁ bad₂ =
+    let written = builtBytes bytes place in
+    let long = written-length bytes place 0 (length bytes) in
+    let some′ : 0 < length written = rw long some in
+    let within′ : length written ≤ limit = rw long within in
+    let room′ : length written ≤ length out = rw long room in
+    let built = buildInto bytes density place space in
+    let made = builds-within bytes density place space within fits is-place in
+    let marks = twoBad written mark₁ mark₂ in
+    let found = records-are-spoiled written mark₁ mark₂ some′ bad₁ bad₂ in
     let image = found .0 in
-    let answer = built-records-are-restored bytes image marks out within (found .1 .spoiled) room .0 in
+    let answer = built-records-are-restored written image marks out within′ (found .1 .spoiled) room′ .0 in
     record {
       built = built;
       image = image;
       after = restoreInto image marks out;
       builds = made;
-      spoiled = subst (λ (l : List ℕ). ReallySpoiled l image marks) (sym (built-image bytes density space built gcr made)) (found .1);
+      spoiled = subst (λ (l : List ℕ). ReallySpoiled l image marks) (sym (built-image bytes density place space built gcr made)) (found .1);
       restores = subst (λ (r : ℕ). RestoreAllows image marks out r (restoreInto image marks out)) answer (restores-are-allowed image marks out);
     }
 
@@ -123,33 +138,35 @@ every-record-can-be-spoiled-and-restored bytes density space out mark₁ mark₂
 
 -- Bytes that the builder made an image of in GCR, and two passes over it, each of which shows the built count and the built bytes in every blockette
 -- that it marks good: with room for both, merging answers 0. If the merged marks hold at most one error of each parity, then of what it leaves at
--- the start of its spaces the restorer, with room for the bytes, answers 0 and gives the bytes.
+-- the start of its spaces the restorer, with room for the bytes, answers 0 and gives those written.
 pub calls-restore-what-two-passes-show :
-    (bytes : List ℕ) (density : ℕ) (space built : List ℕ) → (density ≡ 0 → ⊥) → BuildAllows bytes density space 0 built
+    (bytes : List ℕ) (density place : ℕ) (space built : List ℕ) → (density ≡ 0 → ⊥) → BuildAllows bytes density place space 0 built
     → (first second : Pass) → Shows (take (imageLength (length bytes) density) built) first → Shows (take (imageLength (length bytes) density) built) second
     → (image marks : List ℕ) (refusal : ℕ) (imageAfter marksAfter : List ℕ) → length (first .image) ≤ length image → length (first .marks) ≤ length marks
     → MergeAllows first second image marks refusal imageAfter marksAfter
     → (refusal ≡ 0)
     × (Once (take (length (first .marks)) marksAfter) → (out : List ℕ) (answer : ℕ) (after : List ℕ) → length bytes ≤ length out
     → RestoreAllows (take (length (first .image)) imageAfter) (take (length (first .marks)) marksAfter) out answer after
-    → (answer ≡ 0) × (after ≡ given bytes out))
+    → (answer ≡ 0) × (after ≡ given (builtBytes bytes place) out))
 calls-restore-what-two-passes-show
-    bytes density space built gcr builds first second one two image marks refusal imageAfter marksAfter image-room marks-room merges =
-    let within = built-within bytes density space built gcr builds in
-    let is-image = built-image bytes density space built gcr builds in
+    bytes density place space built gcr builds first second one two image marks refusal imageAfter marksAfter image-room marks-room merges =
+    let written = builtBytes bytes place in
+    let within = built-within bytes density place space built gcr builds in
+    let is-image = built-image bytes density place space built gcr builds in
     let one′ = subst (λ (l : List ℕ). Shows l first) is-image one in
     let two′ = subst (λ (l : List ℕ). Shows l second) is-image two in
     let none = merges-are-defined first second image marks refusal imageAfter marksAfter merges .answer
-    ∙ merging-is-accepted bytes first second within one′ two′ (length image) (length marks) image-room marks-room
+    ∙ merging-is-accepted written first second within one′ two′ (length image) (length marks) image-room marks-room
     in
     let done = subst (λ (r : ℕ). MergeAllows first second image marks r imageAfter marksAfter) none merges in
-    let shows = merged-shows (imageOf bytes 1) first second one′ two′ in
+    let shows = merged-shows (imageOf written 1) first second one′ two′ in
     let merged-image = merged-image-left first second image marks imageAfter marksAfter done (shows .whole ∙ sym (one′ .whole)) in
     let merged-marks = merged-marks-left first second image marks imageAfter marksAfter done in (
       none,
       λ once out answer after room restores.
           let given-back = restores-are-defined _ _ out answer after restores in
-          let restored = merged-records-are-restored bytes first second within one′ two′ (subst Once merged-marks once) out room in (
+          let room′ : length written ≤ length out = rw (written-length bytes place 0 (length bytes)) room in
+          let restored = merged-records-are-restored written first second within one′ two′ (subst Once merged-marks once) out room′ in (
             given-back .0 ∙ ap₂ (λ (i m : List ℕ). restoreRefusal i m (length out)) merged-image merged-marks ∙ restored .0,
             given-back .1 ∙ ap₂ (λ (i m : List ℕ). restoreInto i m out) merged-image merged-marks ∙ restored .1,
           ),
@@ -170,19 +187,19 @@ calls-merge-bad-only-where-both-are first second image marks imageAfter marksAft
 
 -- All this can happen: to every record of three blockettes of data, built in GCR, with two passes over it of which the restorer refuses each with 12,
 -- and gives the bytes from what merging leaves of both.
-pub record TwoPassesRestored (bytes : List ℕ) (density : ℕ) (space image marks out : List ℕ) : Type 0 where
+pub record TwoPassesRestored (bytes : List ℕ) (density place : ℕ) (space image marks out : List ℕ) : Type 0 where
   pub built : List ℕ
   pub first : Pass
   pub second : Pass
   pub imageAfter : List ℕ
   pub marksAfter : List ℕ
-  pub builds : BuildAllows bytes density space 0 built
+  pub builds : BuildAllows bytes density place space 0 built
   pub first-shows : Shows (take (imageLength (length bytes) density) built) first
   pub second-shows : Shows (take (imageLength (length bytes) density) built) second
   pub first-alone : RestoreAllows (first .image) (first .marks) out 12 out
   pub second-alone : RestoreAllows (second .image) (second .marks) out 12 out
   pub merges : MergeAllows first second image marks 0 imageAfter marksAfter
-  pub restores : RestoreAllows (take (length (first .image)) imageAfter) (take (length (first .marks)) marksAfter) out 0 (given bytes out)
+  pub restores : RestoreAllows (take (length (first .image)) imageAfter) (take (length (first .marks)) marksAfter) out 0 (given (builtBytes bytes place) out)
 
 -- an answer of the restorer by its equations
 restores-so : (image marks out : List ℕ) (answer : ℕ) (after : List ℕ) {answer′ : ℕ} {after′ : List ℕ} → answer ≡ answer′ → after ≡ after′
@@ -196,28 +213,35 @@ refused-alone image marks out refused =
     restores-so image marks out _ _ refused (where-refused (restoreRefusal image marks (length out)) _ out (λ none. omega arith)) (restores-are-allowed image marks out)
 
 pub two-passes-are-restored-where-neither-is :
-    (bytes : List ℕ) (density : ℕ) (space image marks out : List ℕ) → (density ≡ 0 → ⊥) → markCount (length bytes) 1 ≡ 5 → length bytes ≤ limit
-    → imageLength (length bytes) density ≤ length space → imageLength (length bytes) 1 ≤ length image → 5 ≤ length marks → length bytes ≤ length out
-    → TwoPassesRestored bytes density space image marks out
-two-passes-are-restored-where-neither-is bytes density space image marks out gcr five within fits image-room marks-room room =
-    let first = firstPass bytes in
-    let second = secondPass bytes in
-    let one = first-shows bytes five in
-    let two = second-shows bytes five in
-    let made = builds-within bytes density space within fits in
-    let built = buildInto bytes density space in
-    let is-image = sym (built-image bytes density space built gcr made) in
+    (bytes : List ℕ) (density place : ℕ) (space image marks out : List ℕ) → (density ≡ 0 → ⊥) → markCount (length bytes) 1 ≡ 5 → length bytes ≤ limit
+    → isPlace (length bytes) place ≡ true → imageLength (length bytes) density ≤ length space → imageLength (length bytes) 1 ≤ length image
+    → 5 ≤ length marks → length bytes ≤ length out → TwoPassesRestored bytes density place space image marks out
+two-passes-are-restored-where-neither-is bytes density place space image marks out gcr five within is-place fits image-room marks-room room =
+    let written = builtBytes bytes place in
+    let long = written-length bytes place 0 (length bytes) in
+    let five′ : markCount (length written) 1 ≡ 5 = rw long five in
+    let within′ : length written ≤ limit = rw long within in
+    let room′ : length written ≤ length out = rw long room in
+    let first = firstPass written in
+    let second = secondPass written in
+    let one = first-shows written five′ in
+    let two = second-shows written five′ in
+    let made = builds-within bytes density place space within fits is-place in
+    let built = buildInto bytes density place space in
+    let is-image = sym (built-image bytes density place space built gcr made) in
     let one′ = subst (λ (l : List ℕ). Shows l first) is-image one in
     let two′ = subst (λ (l : List ℕ). Shows l second) is-image two in
-    let first-room : length (first .image) ≤ length image = omega (arith, one .whole, image-length bytes 1) in
-    let none = merging-is-accepted bytes first second within one two (length image) (length marks) first-room marks-room in
+    let image-room′ : imageLength (length written) 1 ≤ length image = rw long image-room in
+    let first-room : length (first .image) ≤ length image = omega (arith, one .whole, image-length written 1) in
+    let none = merging-is-accepted written first second within′ one two (length image) (length marks) first-room marks-room in
     let imageAfter = mergeImageInto first second image (length marks) in
     let marksAfter = mergeMarksInto first second (length image) marks in
     let merges = subst (λ (r : ℕ). MergeAllows first second image marks r imageAfter marksAfter) none (merges-are-allowed first second image marks) in
     let once = subst Once (sym (merged-marks-left first second image marks imageAfter marksAfter merges)) both-once in
     let given-back = restores-are-allowed (take (length (first .image)) imageAfter) (take (length (first .marks)) marksAfter) out in
     let restored =
-    calls-restore-what-two-passes-show bytes density space built gcr made first second one′ two′ image marks 0 imageAfter marksAfter first-room marks-room merges
+    calls-restore-what-two-passes-show bytes density place space built gcr made first second one′ two′ image marks 0 imageAfter marksAfter first-room marks-room
+    merges
     .1 once out _ _ room given-back
     in
     record {
@@ -229,8 +253,8 @@ two-passes-are-restored-where-neither-is bytes density space image marks out gcr
       builds = made;
       first-shows = one′;
       second-shows = two′;
-      first-alone = refused-alone (first .image) (first .marks) out (first-alone bytes five within (length out) room);
-      second-alone = refused-alone (second .image) (second .marks) out (second-alone bytes five within (length out) room);
+      first-alone = refused-alone (first .image) (first .marks) out (first-alone written five′ within′ (length out) room′);
+      second-alone = refused-alone (second .image) (second .marks) out (second-alone written five′ within′ (length out) room′);
       merges = merges;
       restores = restores-so _ _ out _ _ (restored .0) (restored .1) given-back;
     }
@@ -242,14 +266,18 @@ within-both : (c rest : ℕ) → c ≤ earlierLimit → pick (ltb limit c) 9 res
 unfolding limit
 within-both c rest h = pick-no 9 rest (le-ltb limit c (omega arith)) ∙ sym (pick-no 9 rest (le-ltb earlierLimit c h))
 
+none-is-a-place : (handed : ℕ) → not (isPlace handed noPlace) ≡ false
+unfolding isPlace
+none-is-a-place handed = by-test (ltb noPlace handed) (λ inside. simp inside) (λ behind. simp behind)
+
 whole-as-before : (image marks : List ℕ) → countOf image ≤ earlierLimit → wholeRefusal image marks 1 ≡ earlierWholeRefusal image marks
 unfolding wholeRefusal
 whole-as-before image marks h = ap (λ (n : ℕ). pick (ltb (length image) 2) 9 n) (within-both (countOf image) _ h)
 
--- Of a record of at most 16,384 bytes, and of an image that says such a count, builder and restorer answer and leave what they did before.
+-- Of a record of at most 16,384 bytes with no bad byte, and of an image that says such a count, builder and restorer answer and leave what they did before.
 pub record EarlierTapesReadTheSame : Type 0 where
   pub build : (bytes : List ℕ) (density : ℕ) (space : List ℕ) (refusal : ℕ) (after : List ℕ)
-      → BuildAllows bytes density space refusal after → length bytes ≤ earlierLimit
+      → BuildAllows bytes density noPlace space refusal after → length bytes ≤ earlierLimit
       → (refusal ≡ earlierBuildRefusal (length bytes) density (length space)) × (after ≡ earlierBuildInto bytes density space)
   pub restore : (image marks space : List ℕ) (refusal : ℕ) (after : List ℕ)
       → RestoreAllows image marks space refusal after → countOf image ≤ earlierLimit
@@ -260,9 +288,14 @@ unfolding buildRefusal buildInto restoreRefusal restoreInto
 earlier-tapes-read-the-same =
     record {
       build = λ bytes density space refusal after allowed few.
-          let promised = builds-are-defined bytes density space refusal after allowed in
-          let same = within-both (length bytes) (pick (ltb (length space) (imageLength (length bytes) density)) 11 0) few in
-          (promised .0 ∙ same, promised .1 ∙ ap (λ (n : ℕ). pick (eqb n 0) (given (imageOf bytes density) space) space) same);
+          let promised = builds-are-defined bytes density noPlace space refusal after allowed in
+          let short = ltb (length space) (imageLength (length bytes) density) in
+          let same = ap (λ (n : ℕ). pick (ltb limit (length bytes)) 9 (pick short 11 n)) (pick-no 15 0 (none-is-a-place (length bytes)))
+          ∙ within-both (length bytes) (pick short 11 0) few in
+          let all : builtBytes bytes noPlace ≡ bytes = built-as-came bytes noPlace (omega arith) in (
+            promised .0 ∙ same,
+            promised .1 ∙ ap₂ (λ (n : ℕ) (b : List ℕ). pick (eqb n 0) (given (imageOf b density) space) space) same all,
+          );
       restore = λ image marks space refusal after allowed few.
           let promised = restores-are-defined image marks space refusal after allowed in
           let same = ap (λ (n : ℕ). pick (eqb n 0) (pick (ltb (length space) (countOf image)) 11 (pick (ltb (scanMarks marks .stop) (length marks)) 12 0)) n)

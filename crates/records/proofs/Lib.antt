@@ -1,4 +1,5 @@
 pub mod ImageLaws
+pub mod PlaceLaws
 pub mod WholeLaws
 pub mod MergeLaws
 pub mod Mending

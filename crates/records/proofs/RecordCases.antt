@@ -13,7 +13,8 @@ use Rattle.marks.specs.Marks.{isError}
 use Rattle.marks.specs.Scan.{scanFrom, scanMarks, kindOf, numberOf, defectAt}
 use Rattle.records.specs.Count.{limit, rotated, countBytes}
 use Rattle.records.specs.Image.{blocketteCount, hasBlockettes, blockettesOf, bodyOf, imageOf, imageLength, markCount}
-use Rattle.records.specs.Build.{buildRefusal}
+use Rattle.records.specs.Place.{noPlace, isPlace, asCame, writtenBytes}
+use Rattle.records.specs.Build.{buildRefusal, builtBytes}
 
 -- an error, and none
 abbrev error : ℕ → ℕ → ℕ → Defect
@@ -50,17 +51,25 @@ pub record RecordCases : Type 0 where
   -- "c = 1, byte 5A: the 257th check byte is 5A": behind the count, one blockette and check blockette 1
   pub check-257 : getD (imageOf (0x5A ∷ []) 1) (2 + 256 + 256) 0 ≡ 0x5A
   -- "The bench case of 16,385 now offers GO." (document 02, Wish 3): of the builder, within the limit, with a blockette more; 65,536 is 9
-  pub longest-before : buildRefusal 16384 1 16898 ≡ 0
-  pub longer : buildRefusal 16385 1 17154 ≡ 0
-  pub longest : buildRefusal 65535 1 66050 ≡ 0
-  pub too-long : buildRefusal 65536 1 66050 ≡ 9
+  pub longest-before : buildRefusal 16384 1 noPlace 16898 ≡ 0
+  pub longer : buildRefusal 16385 1 noPlace 17154 ≡ 0
+  pub longest : buildRefusal 65535 1 noPlace 66050 ≡ 0
+  pub too-long : buildRefusal 65536 1 noPlace 66050 ≡ 9
   -- 65,535 bytes are 256 blockettes, numbered in one byte, with 258 marks
   pub most-blockettes : blocketteCount 65535 ≡ 256
   pub most-marks : markCount 65535 1 ≡ 258
+  -- "The byte itself is written as it came, every record byte after it is zero" (document 02, Wish 6); with none, all are written
+  pub second-bad : builtBytes (0x11 ∷ 0x22 ∷ 0x33 ∷ 0x44 ∷ []) 1 ≡ 0x11 ∷ 0x22 ∷ 0 ∷ 0 ∷ []
+  pub last-bad : builtBytes (0x11 ∷ 0x22 ∷ 0x33 ∷ 0x44 ∷ []) 3 ≡ 0x11 ∷ 0x22 ∷ 0x33 ∷ 0x44 ∷ []
+  pub none-bad : builtBytes (0x11 ∷ 0x22 ∷ 0x33 ∷ 0x44 ∷ []) noPlace ≡ 0x11 ∷ 0x22 ∷ 0x33 ∷ 0x44 ∷ []
+  -- "15 a place that is neither in the host bytes nor the value for none, after 11"
+  pub place-behind : buildRefusal 4 0 4 6 ≡ 15
+  pub space-first : buildRefusal 4 0 4 5 ≡ 11
+  pub last-place : buildRefusal 4 0 3 6 ≡ 0
 
 pub record-cases : RecordCases
 unfolding pick filled _⊕_ xorAll blocketteAt numbered ofParity foldParity checkOf isError scanFrom scanMarks kindOf numberOf defectAt
-    limit rotated countBytes blocketteCount hasBlockettes blockettesOf bodyOf imageOf imageLength markCount buildRefusal
+    limit rotated countBytes blocketteCount hasBlockettes blockettesOf bodyOf imageOf imageLength markCount isPlace asCame writtenBytes buildRefusal
 record-cases =
     record {
       count-5 = refl;
@@ -83,4 +92,10 @@ record-cases =
       too-long = refl;
       most-blockettes = refl;
       most-marks = refl;
+      second-bad = refl;
+      last-bad = refl;
+      none-bad = refl;
+      place-behind = refl;
+      space-first = refl;
+      last-place = refl;
     }

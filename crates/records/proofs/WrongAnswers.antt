@@ -2,7 +2,7 @@
 -- what is handed in, what is returned, and what the lent space holds afterwards.
 -- Assumes nothing.
 use mathlib.Core.Path.{_≡_, sym, ap, _∙_}
-use mathlib.Core.Bool.{true, false≢true}
+use mathlib.Core.Bool.{true, not, false≢true}
 use mathlib.Core.List.{List, [], _∷_}
 use contract.Lifetimes.{Lfts}
 use denote.Ref.{RefT, now, at-last}
@@ -13,20 +13,23 @@ use lib.ListN.{length, drop, getD}
 use lib.Seq.{drop-append-seam, drop-at}
 use borrow.Author.Tests.{eqb-false, lt-ltb, le-ltb, ne-eqb}
 use Rattle.common.specs.Pick.{pick}
-use Rattle.common.specs.Given.{given}
-use Rattle.common.proofs.PickLaws.{by-test, pick-by, pick-yes, pick-no, pick-both, where-done}
+use Rattle.common.specs.Given.{given, filled}
+use Rattle.common.proofs.PickLaws.{by-test, pick-by, pick-yes, pick-no, pick-both, not-refused, where-done}
 use Rattle.marks.specs.Marks.{isError}
 use Rattle.marks.specs.Scan.{scanFrom, scanMarks, kindOf, numberOf, defectAt, findingsOf}
 use Rattle.passes.specs.Passes.{clashes, mergedMarks}
 use Rattle.passes.proofs.MergedLaws.{marks-length}
-use Rattle.records.specs.Count.{limit, unrotated, countOf}
-use Rattle.records.specs.Image.{blocketteCount, hasBlockettes, imageOf, imageLength, markCount}
+use Rattle.records.specs.Count.{limit, rotated, countBytes, unrotated, countOf}
+use Rattle.records.specs.Image.{blocketteCount, hasBlockettes, bodyOf, imageOf, imageLength, markCount}
 use Rattle.records.specs.Whole.{wholeRefusal}
-use Rattle.records.specs.Build.{buildRefusal, buildInto}
+use Rattle.records.specs.Place.{isPlace, asCame, writtenBytes}
+use Rattle.records.specs.Build.{buildRefusal, builtBytes, buildInto}
 use Rattle.records.specs.Restore.{restoreRefusal}
 use Rattle.records.specs.Merge.{Pass, passOf, mergeMarksInto}
 use Rattle.records.specs.Interface.{imageLengthWithin, markCountWithin, imageCount, scanReport, scanRefusal, scanInto}
 use Rattle.records.specs.Spoiled.{Spoiled}
+use Rattle.records.proofs.ImageLaws.{image-length}
+use Rattle.records.proofs.PlaceLaws.{written-length}
 use Rattle.records.proofs.MergeLaws.{mergeable}
 use Rattle.records.proofs.BuiltRecordsAreRestored.{built-records-are-restored}
 use Rattle.records.proofs.interface.ctc_build.Reads as build-reads
@@ -39,8 +42,8 @@ use Rattle.records.proofs.interface.ctc_scan.Reads as scan-reads
 
 -- ---- ctc_build
 
-module _ (κs : Lfts 2) (bytes image : RefT (List ℕ)) (density r : ℕ) (after : List ℕ)
-    (allowed : build-reads.Post κs (bytes, (density, (image, tt))) r (bytes, (density, (at-last image after, tt)))) where
+module _ (κs : Lfts 2) (bytes image : RefT (List ℕ)) (density place r : ℕ) (after : List ℕ)
+    (allowed : build-reads.Post κs (bytes, (density, (place, (image, tt)))) r (bytes, (density, (place, (at-last image after, tt))))) where
   -- more than 65,535 bytes are taken
   pub build-takes-too-many-bytes : limit < length (now bytes) → r ≡ 0 → ⊥
   unfolding buildRefusal
@@ -49,13 +52,47 @@ module _ (κs : Lfts 2) (bytes image : RefT (List ℕ)) (density r : ℕ) (after
 
   -- a byte behind the image is changed
   pub build-writes-behind-the-image :
-      r ≡ 0 → (drop (length (imageOf (now bytes) density)) after ≡ drop (length (imageOf (now bytes) density)) (now image) → ⊥) → ⊥
+      r ≡ 0 → (drop (imageLength (length (now bytes)) density) after ≡ drop (imageLength (length (now bytes)) density) (now image) → ⊥) → ⊥
   unfolding buildInto given
   build-writes-behind-the-image done wrong =
-      let made = imageOf (now bytes) density in
+      let made = imageOf (builtBytes (now bytes) place) density in
+      let needed = imageLength (length (now bytes)) density in
+      let long : length made ≡ needed =
+      image-length (builtBytes (now bytes) place) density
+      ∙ ap (λ (n : ℕ). imageLength n density) (written-length (now bytes) place 0 (length (now bytes)))
+      in
       wrong
-      (ap (λ (s : List ℕ). drop (length made) s) (allowed .1 ∙ where-done _ _ _ (sym (allowed .0) ∙ done))
-      ∙ drop-append-seam made (drop (length made) (now image)))
+      (ap (λ (s : List ℕ). drop needed s) (allowed .1 ∙ where-done _ _ _ (sym (allowed .0) ∙ done))
+      ∙ drop-at made (drop (length made) (now image)) needed long
+      ∙ ap (λ (n : ℕ). drop n (now image)) long)
+
+  -- a place that is not in the bytes, and is not 65,791, is taken
+  pub build-takes-a-place-behind-the-bytes : length (now bytes) ≤ place → (place ≡ 65791 → ⊥) → r ≡ 0 → ⊥
+  unfolding buildRefusal isPlace
+  build-takes-a-place-behind-the-bytes behind some done =
+      let few = not-refused _ _ _ (λ z. omega arith) (sym (allowed .0) ∙ done) in
+      let room = not-refused _ _ _ (λ z. omega arith) (few .1) in
+      let found = not-refused _ _ _ (λ z. omega arith) (room .1) in
+      let lost : not (isPlace (length (now bytes)) place) ≡ true = simp (le-ltb place (length (now bytes)) behind, ne-eqb place 65791 some) in
+      false≢true (sym (found .0) ∙ lost)
+
+  -- of two bytes of an MFM record, the first of which is bad
+  module _ (a b : ℕ) (two : now bytes ≡ a ∷ b ∷ []) (mfm : density ≡ 0) (first : place ≡ 0) (done : r ≡ 0) where
+    one-came : after ≡ given (0 ∷ 1 ∷ a ∷ 0 ∷ []) (now image)
+    unfolding buildInto imageOf bodyOf hasBlockettes countBytes rotated writtenBytes asCame filled pick
+    one-came =
+        let made : imageOf (builtBytes (now bytes) place) density ≡ 0 ∷ 1 ∷ a ∷ 0 ∷ [] = simp (two, mfm, first) in
+        allowed .1 ∙ where-done _ _ _ (sym (allowed .0) ∙ done) ∙ ap (λ (i : List ℕ). given i (now image)) made
+
+    -- the bad byte itself is zeroed
+    pub build-zeroes-the-bad-byte : (getD after 2 0 ≡ a → ⊥) → ⊥
+    unfolding given
+    build-zeroes-the-bad-byte wrong = wrong (ap (λ (s : List ℕ). getD s 2 0) one-came)
+
+    -- the byte after it is written as it came
+    pub build-keeps-what-follows-the-bad-byte : (b ≡ 0 → ⊥) → getD after 3 0 ≡ b → ⊥
+    unfolding given
+    build-keeps-what-follows-the-bad-byte some wrong = some (sym wrong ∙ ap (λ (s : List ℕ). getD s 3 0) one-came)
 
 -- ---- ctc_restore
 

@@ -1,20 +1,29 @@
--- The builder: "bytes and a density (any but 0 is GCR) to an image" (document 01, Loads, restorer, session).
+-- The builder: "bytes and a density (any but 0 is GCR) to an image" (document 01, Loads, restorer, session), and a place (document 02, Wish 6).
 -- Assumes nothing.
 use Prim.Native.Nat.{ℕ}
+use mathlib.Core.Bool.{not}
 use mathlib.Core.List.{List}
 use lib.Dec.{ltb, eqb}
 use lib.ListN.{length}
 use Rattle.common.specs.Pick.{pick}
 use Rattle.common.specs.Given.{given}
-use Rattle.common.specs.Refusals.{done, wrongLength, spaceShort}
+use Rattle.common.specs.Refusals.{done, wrongLength, spaceShort, noSuchPlace}
 use Rattle.records.specs.Count.{limit}
 use Rattle.records.specs.Image.{imageOf, imageLength}
+use Rattle.records.specs.Place.{isPlace, writtenBytes}
 
--- "9 count above 16,384 ..; 11 the .. builder's image space .. short", lowest first
-unfoldable pub buildRefusal : ℕ → ℕ → ℕ → ℕ
-buildRefusal c density space = pick (ltb limit c) wrongLength (pick (ltb space (imageLength c density)) spaceShort done)
+-- "9 count above 16,384 ..; 11 the .. builder's image space .. short", lowest first; "15 a place that is neither in the host bytes nor the value for
+-- none, after 11"
+unfoldable pub buildRefusal : ℕ → ℕ → ℕ → ℕ → ℕ
+buildRefusal c density place space =
+    pick (ltb limit c) wrongLength
+    (pick (ltb space (imageLength c density)) spaceShort (pick (not (isPlace c place)) noSuchPlace done))
+
+-- "The builder takes a place too, counted over its own bytes": what it writes of them
+abbrev pub builtBytes : List ℕ → ℕ → List ℕ
+builtBytes bytes place = writtenBytes bytes place 0 (length bytes)
 
 -- the image space afterwards: as it was where the call is refused
-unfoldable pub buildInto : List ℕ → ℕ → List ℕ → List ℕ
-buildInto bytes density space =
-    pick (eqb (buildRefusal (length bytes) density (length space)) done) (given (imageOf bytes density) space) space
+unfoldable pub buildInto : List ℕ → ℕ → ℕ → List ℕ → List ℕ
+buildInto bytes density place space =
+    pick (eqb (buildRefusal (length bytes) density place (length space)) done) (given (imageOf (builtBytes bytes place) density) space) space

@@ -1,6 +1,7 @@
 pub mod Count
 pub mod Image
 pub mod Whole
+pub mod Place
 pub mod Build
 pub mod Restore
 pub mod Merge

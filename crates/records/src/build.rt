@@ -4,10 +4,13 @@ use crate::count::put_count_bytes;
 use crate::layout::blockette_count;
 use crate::layout::has_blockettes;
 use crate::layout::image_length;
+use crate::place::as_came;
+use crate::place::is_place;
 use blockettes::BLOCKETTE_LENGTH;
 use blockettes::put_check;
 use common::put_filled;
 use common::refusals::DONE;
+use common::refusals::NO_SUCH_PLACE;
 use common::refusals::SPACE_SHORT;
 use common::refusals::WRONG_LENGTH;
 ghost use mathlib.Core.Path.{_≡_};
@@ -67,9 +70,9 @@ pub fn put_image(bytes: &[u8], count: usize, density: u8, image: &mut [u8])
     put_body(bytes, count, density, &mut image[2..]);
 }
 
-// Refused for too many bytes or too little space.
-fn build_refusal(count: usize, density: u8, space: usize) -> u32
-    ensures { λ r. ⌜ r ≡ buildRefusal count density space ⌝ }
+// Refused for too many bytes, too little space, or a place that is not in the bytes.
+fn build_refusal(count: usize, density: u8, place: usize, space: usize) -> u32
+    ensures { λ r. ⌜ r ≡ buildRefusal count density place space ⌝ }
 {
     if LIMIT < count {
         return WRONG_LENGTH;
@@ -78,20 +81,24 @@ fn build_refusal(count: usize, density: u8, space: usize) -> u32
     if space < needed {
         return SPACE_SHORT;
     }
+    if !is_place(count, place) {
+        return NO_SUCH_PLACE;
+    }
     DONE
 }
 
-// Bytes to an image, at the start of the space.
-pub fn build(bytes: &[u8], density: u8, image: &mut [u8]) -> u32
-    ensures { λ r. ⌜ r ≡ buildRefusal (length (now (bytes .entry))) density (length (now (image .entry))) ⌝ }
-    ensures { λ _. ⌜ now (image .exit) ≡ buildInto (now (bytes .entry)) density (now (image .entry)) ⌝ }
+// Bytes to an image, at the start of the space. Those behind the place are zeros, which put_image fills in without a pass of their own.
+pub fn build(bytes: &[u8], density: u8, place: usize, image: &mut [u8]) -> u32
+    ensures { λ r. ⌜ r ≡ buildRefusal (length (now (bytes .entry))) density place (length (now (image .entry))) ⌝ }
+    ensures { λ _. ⌜ now (image .exit) ≡ buildInto (now (bytes .entry)) density place (now (image .entry)) ⌝ }
 {
     let count = bytes.len();
-    let refusal = build_refusal(count, density, image.len());
+    let refusal = build_refusal(count, density, place, image.len());
     if refusal != DONE {
         return refusal;
     }
     let needed = image_length(count, density);
-    put_image(bytes, count, density, &mut image[..needed]);
+    let came = as_came(count, place);
+    put_image(&bytes[..came], count, density, &mut image[..needed]);
     DONE
 }

@@ -25,11 +25,11 @@ const REPORT_LENGTH: usize = 9;
 
 // Bytes to an image.
 #[no_mangle]
-pub extern "C" fn ctc_build(bytes: &[u8], density: u8, image: &mut [u8]) -> u32
-    ensures { λ r. ⌜ r ≡ buildRefusal (length (now (bytes .entry))) density (length (now (image .entry))) ⌝ }
-    ensures { λ _. ⌜ now (image .exit) ≡ buildInto (now (bytes .entry)) density (now (image .entry)) ⌝ }
+pub extern "C" fn ctc_build(bytes: &[u8], density: u8, place: usize, image: &mut [u8]) -> u32
+    ensures { λ r. ⌜ r ≡ buildRefusal (length (now (bytes .entry))) density place (length (now (image .entry))) ⌝ }
+    ensures { λ _. ⌜ now (image .exit) ≡ buildInto (now (bytes .entry)) density place (now (image .entry)) ⌝ }
 {
-    build(bytes, density, image)
+    build(bytes, density, place, image)
 }
 
 // GCR image and marks to bytes.

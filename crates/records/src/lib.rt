@@ -5,5 +5,6 @@ pub mod count;
 pub mod interface;
 pub mod layout;
 pub mod merge;
+pub mod place;
 pub mod restore;
 pub mod whole;

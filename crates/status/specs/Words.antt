@@ -47,14 +47,14 @@ withCount outcome count =
       counted = outcome .counted;
     }
 
--- "fewer host bytes than thrown away plus count: zeros fill, bit 18"
-abbrev pub withUnderflow : Outcome → Bool → Outcome
-withUnderflow outcome short =
+-- a bad byte: "bit 16 is set" (document 02, Wish 6); "fewer host bytes than thrown away plus count: zeros fill, bit 18"
+abbrev pub withHostErrors : Outcome → Bool → Bool → Outcome
+withHostErrors outcome bad short =
     record {
       retry = outcome .retry;
       mark = outcome .mark;
       result = outcome .result;
-      parity = outcome .parity;
+      parity = outcome .parity || bad;
       overflow = outcome .overflow;
       underflow = outcome .underflow || short;
       wdl = outcome .wdl;

@@ -9,7 +9,7 @@ use crate::drives::Drives;
 use marks::Defect;
 ghost use mathlib.Core.Path.{_≡_};
 ghost use Prim.Native.Nat.{_≤_};
-ghost use Rattle.status.specs.Words.{zeroWord, bitOf, noOutcome, withCount, withUnderflow, anyBit, primaryFirst, primarySecond, primaryThird, primaryOf, secondaryWord, digitsOf, tertiaryOf, quintaryOf, reportsWord};
+ghost use Rattle.status.specs.Words.{zeroWord, bitOf, noOutcome, withCount, withHostErrors, anyBit, primaryFirst, primarySecond, primaryThird, primaryOf, secondaryWord, digitsOf, tertiaryOf, quintaryOf, reportsWord};
 
 pub struct Word {
     pub b0: u8,
@@ -78,10 +78,11 @@ pub fn with_count(mut outcome: Outcome, count: u32) -> Outcome
     outcome
 }
 
-// An outcome with bit 18 set where host bytes run short.
-pub fn with_underflow(mut outcome: Outcome, short: bool) -> Outcome
-    ensures { λ r. ⌜ r ≡ withUnderflow outcome short ⌝ }
+// An outcome with bit 16 set where a host byte was bad, and bit 18 where host bytes ran short.
+pub fn with_host_errors(mut outcome: Outcome, bad: bool, short: bool) -> Outcome
+    ensures { λ r. ⌜ r ≡ withHostErrors outcome bad short ⌝ }
 {
+    outcome.parity = outcome.parity | bad;
     outcome.underflow = outcome.underflow | short;
     outcome
 }

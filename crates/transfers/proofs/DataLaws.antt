@@ -9,16 +9,18 @@ use Prim.Native.Nat.{ℕ, _+_, _-_, _*_, _≤_, min}
 use native.Mathlib.Omega.{arith}
 use lib.ListN.{length, take, drop, length-take, length-drop}
 use Rattle.common.specs.Given.{given, filled}
-use Rattle.common.proofs.GivenLaws.{given-all, filled-length}
+use Rattle.common.proofs.GivenLaws.{given-all}
 use Rattle.common.proofs.Parts.{part-within}
 use Rattle.common.proofs.PickLaws.{pick-no, not-refused}
 use Rattle.records.specs.Image.{blocketteCount, hasBlockettes, imageLength, imageOf}
+use Rattle.records.specs.Place.{asCame, writtenBytes}
 use Rattle.records.proofs.ImageLaws.{length-gcr, image-length}
+use Rattle.records.proofs.PlaceLaws.{written-length}
 use Rattle.status.specs.declared.drives.Drive.{Drive}
 use Rattle.operations.specs.declared.store.Store.{Store}
 use Rattle.operations.specs.Store.{thrownAway, heldCount}
 use Rattle.status.specs.Drives.{isGcr}
-use Rattle.transfers.specs.Data.{checkStore, checkBytes, recordBytes, dataRefusal}
+use Rattle.transfers.specs.Data.{checkStore, Host, checkBytes, recordBytes, dataRefusal}
 
 -- ---- check bytes
 
@@ -54,32 +56,31 @@ gcr-alike drive count e = simp e
 -- ---- a data call that is not refused
 
 pub data-ready :
-    (drive : Drive) (store : Store) (space check : ℕ)
-    → dataRefusal drive store space check ≡ 0
+    (drive : Drive) (store : Store) (handed place space check : ℕ)
+    → dataRefusal drive store handed place space check ≡ 0
     → (check ≡ checkStore) × (imageLength (heldCount store) (drive .density) ≤ space)
 unfolding dataRefusal
-data-ready drive store space check e =
+data-ready drive store handed place space check e =
     let a = not-refused _ _ _ (λ r. omega arith) e in
     let b = not-refused _ _ _ (λ r. omega arith) (a .1) in
     (eqb-true _ _ (not-false _ (a .0)), ltb-false _ _ (b .0))
 
 -- ---- the record of a write
 
-module _ (store : Store) (host : List ℕ) where
-  record-length : length (recordBytes store host) ≡ heldCount store
-  unfolding recordBytes
-  record-length = filled-length _ (heldCount store) (simp length-take (omega arith))
-
+module _ (store : Store) (host : Host) where
   pub record-image-length : (density : ℕ) → length (imageOf (recordBytes store host) density) ≡ imageLength (heldCount store) density
-  record-image-length density = image-length (recordBytes store host) density ∙ ap (λ (k : ℕ). imageLength k density) record-length
+  record-image-length density =
+      image-length (recordBytes store host) density
+      ∙ ap (λ (k : ℕ). imageLength k density) (written-length (host .bytes) (host .place) (thrownAway store) (heldCount store))
 
-  -- the host bytes from where they are not thrown away, as many as are counted or there are
-  pub record-part : (from end count : ℕ) → count ≡ heldCount store → from ≡ min (length host) (store .second) → end ≡ min (length host) (from + count)
-      → filled (take (end - from) (drop from host)) count ≡ recordBytes store host
-  unfolding recordBytes thrownAway
-  record-part from end count is f e =
-      ap (λ (x : List ℕ). filled x count) (part-within host (store .second) count from end f e)
-      ∙ ap (λ (k : ℕ). filled (take k (drop (store .second) host)) k) is
+  -- the bytes that came, from where they are not thrown away, as many as are counted or there are
+  pub record-part : (came : List ℕ) (from end count : ℕ) → came ≡ take (asCame (length (host .bytes)) (host .place)) (host .bytes)
+      → count ≡ heldCount store → from ≡ min (length came) (store .second) → end ≡ min (length came) (from + count)
+      → filled (take (end - from) (drop from came)) count ≡ recordBytes store host
+  unfolding writtenBytes thrownAway
+  record-part came from end count front is f e =
+      ap (λ (x : List ℕ). filled x count) (part-within came (store .second) count from end f e)
+      ∙ ap₂ (λ (k : ℕ) (x : List ℕ). filled (take k (drop (store .second) x)) k) is front
 
 -- ---- what is given
 

@@ -7,15 +7,18 @@ use common::give;
 use common::least;
 use common::refusals::CHECK_STORE_LENGTH;
 use common::refusals::DONE;
+use common::refusals::NO_SUCH_PLACE;
 use common::refusals::SPACE_SHORT;
 use operations::store::Store;
 use operations::store::held_count;
 use records::build::put_image;
 use records::layout::blockette_count;
 use records::layout::image_length;
+use records::place::as_came;
+use records::place::is_place;
 use status::drives::Drive;
 use status::drives::is_gcr;
-use status::words::with_underflow;
+use status::words::with_host_errors;
 use status::words::zero_word;
 ghost use mathlib.Core.Path.{_≡_};
 ghost use Prim.Native.Nat.{_≤_};
@@ -24,15 +27,22 @@ ghost use Rattle.common.specs.Given.{given};
 ghost use Rattle.records.specs.Count.{limit};
 ghost use Rattle.records.specs.Image.{imageLength};
 ghost use Rattle.operations.specs.Store.{heldCount};
-ghost use Rattle.transfers.specs.Data.{checkStore, dataRefusal, writeImage, checkBytes, dataCheck, runsShort, dataWords};
+ghost use Rattle.transfers.specs.Data.{checkStore, hostOf, dataRefusal, writeImage, checkBytes, dataCheck, neededBytes, badByte, runsShort, dataWords};
 
 // How long the check store is.
 pub const CHECK_STORE: usize = CHECKS_LENGTH;
 
-// 6 or 11, or 0.
-pub fn data_refusal(drive: Drive, store: Store, space: usize, check: usize) -> u32
+// 6, 11 or 15, or 0.
+pub fn data_refusal(
+    drive: Drive,
+    store: Store,
+    handed: usize,
+    place: usize,
+    space: usize,
+    check: usize,
+) -> u32
     requires { ⌜ heldCount store ≤ limit ⌝ }
-    ensures { λ r. ⌜ r ≡ dataRefusal drive store space check ⌝ }
+    ensures { λ r. ⌜ r ≡ dataRefusal drive store handed place space check ⌝ }
 {
     if check != CHECK_STORE {
         return CHECK_STORE_LENGTH;
@@ -41,21 +51,31 @@ pub fn data_refusal(drive: Drive, store: Store, space: usize, check: usize) -> u
     if space < needed {
         return SPACE_SHORT;
     }
+    if !is_place(handed, place) {
+        return NO_SUCH_PLACE;
+    }
     DONE
 }
 
-// The image of a write, at the start of the space: how long it is.
-pub fn put_write_image(store: Store, host: &[u8], density: u8, space: &mut [u8]) -> usize
+// The image of a write, at the start of the space: how long it is. What follows a bad byte is zeros, as what the host did not hand in.
+pub fn put_write_image(
+    store: Store,
+    host: &[u8],
+    place: usize,
+    density: u8,
+    space: &mut [u8],
+) -> usize
     requires { ⌜ heldCount store ≤ limit ⌝ }
     requires { ⌜ imageLength (heldCount store) density ≤ length (now space) ⌝ }
-    ensures { λ r. ⌜ r ≡ length (writeImage store (now (host .entry)) density) ⌝ }
-    ensures { λ _. ⌜ now (space .exit) ≡ given (writeImage store (now (host .entry)) density) (now (space .entry)) ⌝ }
+    ensures { λ r. ⌜ r ≡ length (writeImage store (hostOf (now (host .entry)) place) density) ⌝ }
+    ensures { λ _. ⌜ now (space .exit) ≡ given (writeImage store (hostOf (now (host .entry)) place) density) (now (space .entry)) ⌝ }
 {
+    let came = &host[..as_came(host.len(), place)];
     let count = held_count(store);
-    let from = least(host.len(), store.second as usize);
-    let end = least(host.len(), from + count);
+    let from = least(came.len(), store.second as usize);
+    let end = least(came.len(), from + count);
     let needed = image_length(count, density);
-    put_image(&host[from..end], count, density, &mut space[..needed]);
+    put_image(&came[from..end], count, density, &mut space[..needed]);
     needed
 }
 
@@ -86,18 +106,34 @@ pub fn put_data_check(drive: Drive, store: Store, image: &[u8], check: &mut [u8]
     }
 }
 
-// Whether there are fewer host bytes than are thrown away and counted.
-fn runs_short(store: Store, host: &[u8]) -> bool
-    ensures { λ r. ⌜ r ≡ runsShort store (now (host .entry)) ⌝ }
+// The bytes that a store needs: those thrown away and those counted.
+fn needed_bytes(store: Store) -> usize
+    ensures { λ r. ⌜ r ≡ neededBytes store ⌝ }
 {
-    host.len() < store.second as usize + held_count(store)
+    store.second as usize + held_count(store)
 }
 
-// The words after a data call: bit 18 is set where host bytes run short, and in GCR tertiary and quintary are zeroed.
-pub fn data_words(mut words: Words, drive: Drive, store: Store, host: &[u8]) -> Words
-    ensures { λ r. ⌜ r ≡ dataWords words drive store (now (host .entry)) ⌝ }
+// Whether a bad byte is among them.
+fn bad_byte(store: Store, place: usize) -> bool
+    ensures { λ r. ⌜ r ≡ badByte store place ⌝ }
 {
-    let outcome = with_underflow(words.outcome, runs_short(store, host));
+    place < needed_bytes(store)
+}
+
+// Whether the host ran out before any bad byte.
+fn runs_short(store: Store, host: &[u8], place: usize) -> bool
+    ensures { λ r. ⌜ r ≡ runsShort store (hostOf (now (host .entry)) place) ⌝ }
+{
+    (host.len() < needed_bytes(store)) & !bad_byte(store, place)
+}
+
+// The words after a data call: bit 16 is set where a byte was bad, bit 18 where host bytes ran short, and in GCR tertiary and quintary are zeroed.
+pub fn data_words(mut words: Words, drive: Drive, store: Store, host: &[u8], place: usize) -> Words
+    ensures { λ r. ⌜ r ≡ dataWords words drive store (hostOf (now (host .entry)) place) ⌝ }
+{
+    let bad = bad_byte(store, place);
+    let short = runs_short(store, host, place);
+    let outcome = with_host_errors(words.outcome, bad, short);
     words.outcome = outcome;
     if is_gcr(drive) {
         let zero = zero_word();

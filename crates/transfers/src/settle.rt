@@ -21,7 +21,7 @@ ghost use lib.ListN.{length};
 ghost use Rattle.common.specs.Given.{given};
 ghost use Rattle.records.specs.Count.{limit};
 ghost use Rattle.operations.specs.Store.{heldCount, suppliedCount};
-ghost use Rattle.transfers.specs.Data.{dataRefusal, writeImage, dataCheck, settleData};
+ghost use Rattle.transfers.specs.Data.{hostOf, dataRefusal, writeImage, dataCheck, settleData};
 ghost use Rattle.transfers.specs.Results.{resultWith, resultRefusal, resultInto, resultCheckInto, settleResult};
 
 // A data call that is not refused: the image stands at the start of the space afterwards.
@@ -30,17 +30,18 @@ pub fn settle_data(
     drive: Drive,
     store: Store,
     host: &[u8],
+    place: usize,
     space: &mut [u8],
     check: &mut [u8],
 ) -> Written
     requires { ⌜ heldCount store ≤ limit ⌝ }
-    requires { ⌜ dataRefusal drive store (length (now space)) (length (now check)) ≡ 0 ⌝ }
-    ensures { λ r. ⌜ r ≡ settleData words drive store (now (host .entry)) ⌝ }
-    ensures { λ _. ⌜ now (space .exit) ≡ given (writeImage store (now (host .entry)) (drive .density)) (now (space .entry)) ⌝ }
-    ensures { λ _. ⌜ now (check .exit) ≡ dataCheck drive store (writeImage store (now (host .entry)) (drive .density)) (now (check .entry)) ⌝ }
+    requires { ⌜ dataRefusal drive store (length (now host)) place (length (now space)) (length (now check)) ≡ 0 ⌝ }
+    ensures { λ r. ⌜ r ≡ settleData words drive store (hostOf (now (host .entry)) place) ⌝ }
+    ensures { λ _. ⌜ now (space .exit) ≡ given (writeImage store (hostOf (now (host .entry)) place) (drive .density)) (now (space .entry)) ⌝ }
+    ensures { λ _. ⌜ now (check .exit) ≡ dataCheck drive store (writeImage store (hostOf (now (host .entry)) place) (drive .density)) (now (check .entry)) ⌝ }
 {
-    let left = data_words(words, drive, store, host);
-    let bytes = put_write_image(store, host, drive.density, space);
+    let left = data_words(words, drive, store, host, place);
+    let bytes = put_write_image(store, host, place, drive.density, space);
     put_data_check(drive, store, &space[..bytes], check);
     Written { words: left, bytes }
 }

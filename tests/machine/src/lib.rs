@@ -1,6 +1,6 @@
-//! The cartridge controller of document 01, with document 02's first three wishes, written from those
-//! documents, READING.md and READING-02.md alone, with a generator of sessions and a comparison of
-//! another program with it.
+//! The cartridge controller of document 01, with document 02's first three wishes and its sixth,
+//! written from those documents, READING.md and READING-02.md alone, with a generator of sessions and
+//! a comparison of another program with it.
 //!
 //! `machine < SESSION` answers a session, `generate SEED LINES` prints a random one, and
 //! `compare PROGRAM` runs both programs on many and shrinks the first difference.

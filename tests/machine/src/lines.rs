@@ -2,7 +2,7 @@
 
 use crate::machine::{Action, Machine, Refusal, Reported};
 use crate::mutants::Mutant;
-use crate::records::CHECK_BYTES;
+use crate::records::{CHECK_BYTES, NO_PLACE};
 
 // The program's own limits, which stayed as they were when records grew.
 /// Host bytes of a data call, and host space of a result.
@@ -163,8 +163,8 @@ impl Session {
             Line::Tick => machine.tick(),
             Line::Reset => machine.reset(),
             Line::Data(host) => {
-                let answer = machine.data(host, &mut self.image_space, &mut self.check_store);
-                return match answer {
+                let (space, check_store) = (&mut self.image_space, &mut self.check_store);
+                return match machine.data(host, NO_PLACE, space, check_store) {
                     Ok((action, length)) => print(action, &self.image_space[..length], out),
                     Err(refusal) => print_refusal(refusal, out),
                 };

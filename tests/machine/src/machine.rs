@@ -1,6 +1,6 @@
 //! The controller: its state and the eight calls, as document 01 has them, with document 02's first
-//! three wishes: the read whose count the host supplies, the retry bit that hosts can trust, and
-//! records of 65,535 bytes.
+//! three wishes and its sixth: the read whose count the host supplies, the retry bit that hosts can
+//! trust, records of 65,535 bytes, and host bytes with bad parity.
 //!
 //! Refusal 1, a damaged state, is not here: the state's types and the calls keep it whole.
 
@@ -67,6 +67,7 @@ pub mod primary {
     pub const MARK: u32 = bit(8);
     pub const MOTION: u32 = bit(10);
     pub const CODE: u32 = bit(15);
+    pub const PARITY: u32 = bit(16);
     pub const OVERFLOW: u32 = bit(17);
     pub const UNDERFLOW: u32 = bit(18);
     pub const LATE_1: u32 = bit(19);
@@ -310,6 +311,7 @@ pub enum Refusal {
     Length = 9,
     MarkValue = 10,
     ImageSpace = 11,
+    Place = 15,
 }
 
 /// What a call has the controller do.
@@ -373,6 +375,11 @@ impl Job {
     /// Host bytes of a write that come first and are thrown away.
     pub fn thrown_away(&self) -> usize {
         self.operand[1] as usize
+    }
+
+    /// Host bytes that a write needs.
+    pub fn needed(&self) -> usize {
+        self.thrown_away() + self.count()
     }
 }
 
@@ -695,10 +702,12 @@ impl Machine {
         Ok(Action::None)
     }
 
-    /// The host's bytes for a write: the image is built and the move ordered.
+    /// The host's bytes for a write: the image is built and the move ordered. The place is that of
+    /// a byte that came with bad parity, counted over all of them.
     pub fn data(
         &mut self,
         host: &[u8],
+        place: usize,
         image: &mut [u8],
         check_store: &mut [u8],
     ) -> TransferAnswer {
@@ -708,6 +717,10 @@ impl Machine {
         if check_store.len() != records::CHECK_BYTES {
             return Err(Refusal::CheckStore);
         }
+        let place_refused = self.refuses_place(place, job, host.len());
+        if place_refused && self.wrong(Mutant::PlaceBeforeSpace) {
+            return Err(Refusal::Place);
+        }
         let density = self.drive().density;
         let needs = match self.mutant {
             Some(Mutant::LongMfmAsGcr) => records::image_length(job.count(), Density::Gcr),
@@ -716,15 +729,29 @@ impl Machine {
         if image.len() < needs {
             return Err(self.short_of_space(density, check_store));
         }
-
-        let needed = job.thrown_away() + job.count();
-        let meant = &host[job.thrown_away().min(host.len())..needed.min(host.len())];
-        let mut missing = host.len() < needed;
-        if self.wrong(Mutant::ThrownAwayNotMissed) {
-            missing = meant.len() < job.count();
+        if place_refused {
+            return Err(Refusal::Place);
         }
-        if missing {
+
+        // Nothing behind a bad byte is taken, as if the host had ended with it.
+        let bad = self.bad_byte(place, job);
+        let taken = match bad {
+            Some(place) => self.taken_before_bad(place, job, host.len()),
+            None => host.len(),
+        };
+        let needed = job.needed();
+        let meant = &host[job.thrown_away().min(taken)..needed.min(taken)];
+        let ran_out = match self.mutant {
+            Some(Mutant::ThrownAwayNotMissed) => bad.is_none() && meant.len() < job.count(),
+            Some(Mutant::PlaceUnderflow) => host.len() < needed,
+            Some(Mutant::PlaceUnderflowByBad) => taken < needed,
+            _ => bad.is_none() && host.len() < needed,
+        };
+        if ran_out {
             self.outcome |= primary::UNDERFLOW;
+        }
+        if bad.is_some() && !self.wrong(Mutant::PlaceUntold) {
+            self.outcome |= primary::PARITY;
         }
         let mut record = meant.to_vec();
         record.resize(job.count(), 0);
@@ -735,6 +762,45 @@ impl Machine {
         }
         self.phase = Phase::ResultAwaited(job);
         Ok((Action::Order(self.order(job)), length))
+    }
+
+    /// A place that is neither in the host bytes nor the value for none.
+    fn refuses_place(&self, place: usize, job: Job, host: usize) -> bool {
+        match self.mutant {
+            Some(Mutant::PlaceAtEnd) if place == host => false,
+            Some(Mutant::PlaceAtLimit) if place == records::RECORD_LIMIT => false,
+            Some(Mutant::PlaceNoneOutside) => place >= host,
+            Some(Mutant::PlaceBehindRefused) if place >= job.needed() => place != records::NO_PLACE,
+            _ => place >= host && place != records::NO_PLACE,
+        }
+    }
+
+    /// The place of a bad byte among those that the store needs; one past them counts as none. No
+    /// store needs so many that the value for none would be among them.
+    fn bad_byte(&self, place: usize, job: Job) -> Option<usize> {
+        let counts = match self.mutant {
+            _ if place == records::NO_PLACE => false,
+            Some(Mutant::PlaceBehind) => true,
+            Some(Mutant::PlaceRightBehind) => place <= job.needed(),
+            Some(Mutant::PlaceAgainstCount | Mutant::PlaceOfRecord) => place < job.count(),
+            Some(Mutant::PlaceThrownAwayIgnored) if place < job.thrown_away() => false,
+            Some(Mutant::PlaceOfNoRecord) if job.count() == 0 => false,
+            Some(Mutant::PlaceAtLimit) if place == records::RECORD_LIMIT => false,
+            _ => place < job.needed(),
+        };
+        counts.then_some(place)
+    }
+
+    /// Host bytes up to a bad one, which is the last that is written as it came.
+    fn taken_before_bad(&self, place: usize, job: Job, host: usize) -> usize {
+        let taken = match self.mutant {
+            Some(Mutant::PlaceZeroed) => place,
+            Some(Mutant::PlaceNotZeroed) => host,
+            Some(Mutant::PlaceThrownAwayKept) if place < job.thrown_away() => host,
+            Some(Mutant::PlaceOfRecord) => job.thrown_away() + place + 1,
+            _ => place + 1,
+        };
+        taken.min(host)
     }
 
     /// The refusal of a data call whose image does not fit: nothing changes, and the data are still

@@ -124,6 +124,41 @@ pub enum Mutant {
     LongWriteClears,
     /// It is refused with 9.
     LongWriteIsLength,
+    // Host parity errors.
+    /// The bad byte is zero as well.
+    PlaceZeroed,
+    /// What comes after it is written as it came.
+    PlaceNotZeroed,
+    /// Its place is counted from the record's first byte.
+    PlaceOfRecord,
+    /// It is held to the count without the bytes thrown away.
+    PlaceAgainstCount,
+    /// It does not set bit 16.
+    PlaceUntold,
+    /// Bit 18 stands beside bit 16 where the host ran out.
+    PlaceUnderflow,
+    /// Bit 18 stands beside bit 16 where the bad byte is not the last.
+    PlaceUnderflowByBad,
+    /// A place past the bytes that the store needs sets bit 16.
+    PlaceBehind,
+    /// The place right behind them does.
+    PlaceRightBehind,
+    /// A place past them is refused.
+    PlaceBehindRefused,
+    /// A bad byte among those thrown away counts as none.
+    PlaceThrownAwayIgnored,
+    /// It sets bit 16, and the record is written as it came.
+    PlaceThrownAwayKept,
+    /// With count 0 nothing is bad.
+    PlaceOfNoRecord,
+    /// The place behind the last host byte is not refused.
+    PlaceAtEnd,
+    /// 65,535 stands for none.
+    PlaceAtLimit,
+    /// 65,791 is refused where the host bytes do not reach it.
+    PlaceNoneOutside,
+    /// 15 before 11.
+    PlaceBeforeSpace,
 }
 
 /// What bears a count: a store, the image of a read or forward skip, that of a reverse skip.
@@ -229,6 +264,29 @@ pub fn limits_lowered() -> Vec<Mutant> {
     }
     mutants
 }
+
+/// Wrong rules of the place of a bad byte, which no session hands in.
+pub const PLACES: [Mutant; 18] = [
+    Mutant::PlaceZeroed,
+    Mutant::PlaceNotZeroed,
+    Mutant::PlaceOfRecord,
+    Mutant::PlaceAgainstCount,
+    Mutant::PlaceUntold,
+    Mutant::PlaceUnderflow,
+    Mutant::PlaceUnderflowByBad,
+    Mutant::PlaceBehind,
+    Mutant::PlaceRightBehind,
+    Mutant::PlaceBehindRefused,
+    Mutant::PlaceThrownAwayIgnored,
+    Mutant::PlaceThrownAwayKept,
+    Mutant::PlaceOfNoRecord,
+    Mutant::PlaceAtEnd,
+    Mutant::PlaceAtLimit,
+    Mutant::PlaceNoneOutside,
+    Mutant::PlaceBeforeSpace,
+    // Bit 16 does not set bit 2.
+    Mutant::RetryBit(Operation::Write, 16),
+];
 
 /// `--mutant N` counts from 1 in this order.
 pub const MUTANTS: [Mutant; 78] = [

@@ -4,6 +4,8 @@ use crate::mutants::Mutant;
 
 /// The most data bytes that a record may have: all that its 16 bits can count.
 pub const RECORD_LIMIT: usize = 65_535;
+/// The place of a byte with bad parity, where no byte has it.
+pub const NO_PLACE: usize = RECORD_LIMIT + 256;
 /// Data bytes in a GCR blockette.
 pub const BLOCKETTE: usize = 256;
 /// Both check blockettes, 1 first.

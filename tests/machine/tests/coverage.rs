@@ -4,7 +4,7 @@ use machine::generator;
 use machine::lines::{self, Line, Session};
 use machine::machine::{link, primary, Action, Entry, Machine};
 use machine::machine::{Operation, Phase, Send, OPERATIONS};
-use machine::records::{self, Density, GOOD};
+use machine::records::{self, Density, GOOD, NO_PLACE};
 use std::collections::BTreeMap;
 
 // As many, and as long, as tests/run compares.
@@ -589,7 +589,7 @@ fn refusals_that_no_session_reaches() {
         marks: &[0],
     };
     assert_eq!(
-        machine.data(&[], &mut image, &mut []),
+        machine.data(&[], NO_PLACE, &mut image, &mut []),
         Err(Refusal::NotAwaited)
     );
     assert_eq!(
@@ -605,15 +605,25 @@ fn refusals_that_no_session_reaches() {
     assert_eq!(machine.byte(link::ACK), Ok(Action::None));
     let before = machine.clone();
     assert_eq!(
-        machine.data(&[], &mut image, &mut [0; 511]),
+        machine.data(&[], NO_PLACE, &mut image, &mut [0; 511]),
         Err(Refusal::CheckStore)
     );
     assert_eq!(
-        machine.data(&[], &mut image, &mut [0; 512]),
+        machine.data(&[], NO_PLACE, &mut image, &mut [0; 512]),
         Err(Refusal::ImageSpace)
     );
+    assert_eq!(
+        machine.data(&[], 0, &mut image, &mut [0; 512]),
+        Err(Refusal::ImageSpace)
+    );
+    assert_eq!(
+        machine.data(&[], 0, &mut [0; 2], &mut [0; 512]),
+        Err(Refusal::Place)
+    );
     assert_eq!(machine, before);
-    assert!(machine.data(&[], &mut [0; 2], &mut [0; 512]).is_ok());
+    assert!(machine
+        .data(&[], NO_PLACE, &mut [0; 2], &mut [0; 512])
+        .is_ok());
     assert_eq!(
         machine.result(empty, &mut [], &mut [0; 513]),
         Err(Refusal::CheckStore)

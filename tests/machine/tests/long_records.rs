@@ -5,7 +5,7 @@ mod common;
 use common::{gcr_bytes, gcr_image, hex, record, Bench};
 use machine::lines;
 use machine::machine::{link, primary, Action, Machine, Phase, Refusal, Reported};
-use machine::records::{self, Density, Kind};
+use machine::records::{self, Density, Kind, NO_PLACE};
 
 /// 256k - 1, 256k and 256k + 1 up to the limit, and the one below the limit.
 fn edges() -> Vec<usize> {
@@ -132,14 +132,14 @@ fn writes_at_every_edge() {
             // One byte short: refused, and still awaited.
             let before = core.machine.clone();
             let mut space = vec![0xAA; expected.len() - 1];
-            let answer = (core.machine).data(&data, &mut space, &mut core.check_store);
+            let answer = (core.machine).data(&data, NO_PLACE, &mut space, &mut core.check_store);
             assert_eq!(answer, Err(Refusal::ImageSpace), "{count}");
             assert_eq!(core.machine, before, "{count}");
             assert!(space.iter().all(|&byte| byte == 0xAA), "{count}");
             assert_eq!(core.check_store, [0xBB; 512], "{count}");
 
             let mut space = vec![0xAA; expected.len() + 1];
-            let answer = (core.machine).data(&data, &mut space, &mut core.check_store);
+            let answer = (core.machine).data(&data, NO_PLACE, &mut space, &mut core.check_store);
             let [high, low] = (count as u16).to_be_bytes();
             let order = [0x50, 0, 0, (density == Density::Gcr) as u8, high, low];
             assert_eq!(answer, Ok((Action::Order(order), expected.len())));

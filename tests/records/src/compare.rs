@@ -19,16 +19,16 @@ fn expect_alike(what: &str, given: (u32, Vec<u8>), expected: (u32, Vec<u8>)) -> 
     given
 }
 
-pub fn build(bytes: &[u8], density: u8, space: &[u8]) -> (u32, Vec<u8>) {
+pub fn build(bytes: &[u8], density: u8, place: usize, space: &[u8]) -> (u32, Vec<u8>) {
     let what = format!(
-        "build of {} bytes, density {density}, space of {}",
+        "build of {} bytes, density {density}, place {place}, space of {}",
         bytes.len(),
         space.len()
     );
     expect_alike(
         &what,
-        library::build(bytes, density, space),
-        plain::build(bytes, density, space),
+        library::build(bytes, density, place, space),
+        plain::build(bytes, density, place, space),
     )
 }
 

@@ -12,6 +12,7 @@ pub mod raw {
             bytes: *const u8,
             bytes_len: usize,
             density: u8,
+            place: usize,
             image: *mut u8,
             image_len: usize,
         ) -> u32;
@@ -116,7 +117,7 @@ fn guard_byte(place: usize, turn: usize) -> u8 {
     (place * 29 + turn * 101 + 0xA5) as u8
 }
 
-pub fn build(bytes: &[u8], density: u8, space: &[u8]) -> (u32, Vec<u8>) {
+pub fn build(bytes: &[u8], density: u8, place: usize, space: &[u8]) -> (u32, Vec<u8>) {
     let mut input = Lent::holding(bytes);
     let mut image = Lent::holding(space);
     // SAFETY: both pointers are valid for their lengths and the spaces are apart
@@ -125,6 +126,7 @@ pub fn build(bytes: &[u8], density: u8, space: &[u8]) -> (u32, Vec<u8>) {
             input.pointer(),
             input.length,
             density,
+            place,
             image.pointer(),
             image.length,
         )

@@ -1,6 +1,6 @@
 //! Builder, scan and restorer written from document 01, section Records, with the limit of document
-//! 02, and its merge, in the plainest way: with blockettes held by their numbers and nothing folded in
-//! place. It knows nothing of the library.
+//! 02, its merge and its place of a bad byte, in the plainest way: with blockettes held by their
+//! numbers and nothing folded in place. It knows nothing of the library.
 //!
 //! Each function that writes gets the lent space as it is before the call and gives the whole of it
 //! as it must be after the call, so that a comparison covers the bytes that keep their value.
@@ -13,6 +13,8 @@ use crate::{Merged, Pass};
 /// "Raise the limit to 65,535"
 pub const LIMIT: usize = 65_535;
 pub const NO_COUNT: usize = 65_536;
+/// "or 65,535 plus 256 for none"
+pub const NO_PLACE: usize = 65_535 + 256;
 pub const GOOD: u8 = 15;
 
 pub type Blockette = [u8; 256];
@@ -112,16 +114,31 @@ fn with_start(space: &[u8], given: &[u8]) -> Vec<u8> {
     after
 }
 
+/// "The byte itself is written as it came, every record byte after it is zero"
+fn zeros_behind(bytes: &[u8], place: usize) -> Vec<u8> {
+    let mut written = bytes.to_vec();
+    for after in place + 1..bytes.len() {
+        written[after] = 0;
+    }
+    written
+}
+
 /// The builder: the refusal or 0, and the image space after the call.
-pub fn build(bytes: &[u8], density: u8, space: &[u8]) -> (u32, Vec<u8>) {
+pub fn build(bytes: &[u8], density: u8, place: usize, space: &[u8]) -> (u32, Vec<u8>) {
     if bytes.len() > LIMIT {
         return (9, space.to_vec());
     }
-    let image = image(bytes, density);
-    if space.len() < image.len() {
+    if space.len() < image_length(bytes.len(), density) {
         return (11, space.to_vec());
     }
-    (0, with_start(space, &image))
+    let written = if place == NO_PLACE {
+        bytes.to_vec()
+    } else if place < bytes.len() {
+        zeros_behind(bytes, place)
+    } else {
+        return (15, space.to_vec());
+    };
+    (0, with_start(space, &image(&written, density)))
 }
 
 /// One error that the scan met.

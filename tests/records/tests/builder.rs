@@ -1,6 +1,6 @@
 //! The builder against the plain one.
 
-use records_tests::plain::LIMIT;
+use records_tests::plain::{LIMIT, NO_PLACE};
 use records_tests::random::Random;
 use records_tests::{compare, edges, plain};
 
@@ -9,10 +9,10 @@ fn build_both(bytes: &[u8], random: &mut Random) {
     for density in [0, 1] {
         let length = plain::image_length(bytes.len(), density);
         let exact = random.bytes(length);
-        assert_eq!(compare::build(bytes, density, &exact).0, 0);
+        assert_eq!(compare::build(bytes, density, NO_PLACE, &exact).0, 0);
         let tail = random.between(1, 300);
         let longer = random.bytes(length + tail);
-        assert_eq!(compare::build(bytes, density, &longer).0, 0);
+        assert_eq!(compare::build(bytes, density, NO_PLACE, &longer).0, 0);
     }
 }
 
@@ -60,7 +60,7 @@ fn every_density() {
     let bytes = random.bytes(300);
     for density in 0..=255 {
         let space = random.bytes(2000);
-        let (refusal, image) = compare::build(&bytes, density, &space);
+        let (refusal, image) = compare::build(&bytes, density, NO_PLACE, &space);
         assert_eq!(refusal, 0);
         let length = if density == 0 { 302 } else { 1026 };
         assert_eq!(image[length..], space[length..], "density {density}");
@@ -73,7 +73,7 @@ fn nothing_to_build() {
     let mut random = Random::of_test(15);
     for density in [0, 1, 255] {
         let space = random.bytes(600);
-        let (refusal, image) = compare::build(&[], density, &space);
+        let (refusal, image) = compare::build(&[], density, NO_PLACE, &space);
         assert_eq!((refusal, &image[..2]), (0, &[0, 0][..]));
         assert_eq!(image[2..], space[2..]);
     }
@@ -88,7 +88,7 @@ fn above_the_limit() {
             // 9 comes before 11, so the space makes no difference
             for room in [0, 1, 2, 66_050, count + 1000] {
                 let space = random.bytes(room);
-                let (refusal, after) = compare::build(&bytes, density, &space);
+                let (refusal, after) = compare::build(&bytes, density, NO_PLACE, &space);
                 assert_eq!(refusal, 9, "{count} bytes, space of {room}");
                 assert!(after == space);
             }
@@ -111,7 +111,7 @@ fn short_spaces() {
             }
             for room in rooms {
                 let space = random.bytes(room);
-                let (refusal, after) = compare::build(&bytes, density, &space);
+                let (refusal, after) = compare::build(&bytes, density, NO_PLACE, &space);
                 assert_eq!(
                     refusal,
                     if room < needed { 11 } else { 0 },

@@ -4,6 +4,7 @@ mod builder;
 mod lengths;
 mod merger;
 mod null_pointers;
+mod parity;
 mod restorer;
 mod round_trip;
 mod scanner;

@@ -1,6 +1,7 @@
 //! A null pointer is allowed where its length is 0, for each argument in turn.
 
 use records_tests::library::raw;
+use records_tests::plain::NO_PLACE;
 use std::ptr::{null, null_mut};
 
 const BYTES: [u8; 5] = [1, 2, 3, 4, 5];
@@ -9,8 +10,15 @@ const BYTES: [u8; 5] = [1, 2, 3, 4, 5];
 fn build_from_no_bytes() {
     for density in [0, 1] {
         let mut image = [0xEE; 4];
-        let refusal = unsafe { raw::ctc_build(null(), 0, density, image.as_mut_ptr(), 4) };
+        let refusal =
+            unsafe { raw::ctc_build(null(), 0, density, NO_PLACE, image.as_mut_ptr(), 4) };
         assert_eq!((refusal, image), (0, [0, 0, 0xEE, 0xEE]));
+        for place in [0, 1, usize::MAX] {
+            let mut image = [0xEE; 4];
+            let refusal =
+                unsafe { raw::ctc_build(null(), 0, density, place, image.as_mut_ptr(), 4) };
+            assert_eq!((refusal, image), (15, [0xEE; 4]), "place {place}");
+        }
     }
 }
 
@@ -18,13 +26,24 @@ fn build_from_no_bytes() {
 fn build_into_no_space() {
     for density in [0, 1] {
         assert_eq!(
-            unsafe { raw::ctc_build(BYTES.as_ptr(), 5, density, null_mut(), 0) },
+            unsafe { raw::ctc_build(BYTES.as_ptr(), 5, density, NO_PLACE, null_mut(), 0) },
             11
         );
         assert_eq!(
-            unsafe { raw::ctc_build(null(), 0, density, null_mut(), 0) },
+            unsafe { raw::ctc_build(null(), 0, density, NO_PLACE, null_mut(), 0) },
             11
         );
+    }
+}
+
+#[test]
+fn build_into_no_space_with_a_place() {
+    for density in [0, 1] {
+        for place in [0, 4, 5, usize::MAX] {
+            let five = unsafe { raw::ctc_build(BYTES.as_ptr(), 5, density, place, null_mut(), 0) };
+            let none = unsafe { raw::ctc_build(null(), 0, density, place, null_mut(), 0) };
+            assert_eq!((five, none), (11, 11), "place {place}");
+        }
     }
 }
 
@@ -44,7 +63,8 @@ fn restore_from_no_image() {
 fn restore_with_no_marks() {
     let mut out = [0xEE; 5];
     let mut image = [0; 770];
-    let refusal = unsafe { raw::ctc_build(BYTES.as_ptr(), 5, 1, image.as_mut_ptr(), 770) };
+    let refusal =
+        unsafe { raw::ctc_build(BYTES.as_ptr(), 5, 1, NO_PLACE, image.as_mut_ptr(), 770) };
     assert_eq!(refusal, 0);
     let refusal = unsafe { raw::ctc_restore(image.as_ptr(), 770, null(), 0, out.as_mut_ptr(), 5) };
     assert_eq!((refusal, out), (9, [0xEE; 5]));
@@ -56,7 +76,8 @@ fn restore_with_no_marks() {
 #[test]
 fn restore_into_no_space() {
     let mut image = [0; 770];
-    let refusal = unsafe { raw::ctc_build(BYTES.as_ptr(), 5, 1, image.as_mut_ptr(), 770) };
+    let refusal =
+        unsafe { raw::ctc_build(BYTES.as_ptr(), 5, 1, NO_PLACE, image.as_mut_ptr(), 770) };
     assert_eq!(refusal, 0);
     let marks = [15; 3];
     let refusal =
@@ -72,7 +93,8 @@ fn restore_into_no_space() {
 #[test]
 fn merge_without_one_of_the_six() {
     let mut image = [0; 770];
-    let refusal = unsafe { raw::ctc_build(BYTES.as_ptr(), 5, 1, image.as_mut_ptr(), 770) };
+    let refusal =
+        unsafe { raw::ctc_build(BYTES.as_ptr(), 5, 1, NO_PLACE, image.as_mut_ptr(), 770) };
     assert_eq!(refusal, 0);
     let marks = [15; 3];
     for (missing, answer) in [(0, 9), (1, 9), (2, 9), (3, 9), (4, 11), (5, 11), (6, 0)] {

@@ -2,13 +2,13 @@
 //! does what is merged from two passes that are spoiled alike in no more. The plain implementation
 //! takes no part here: the record itself is the answer.
 
-use records_tests::plain::LIMIT;
+use records_tests::plain::{LIMIT, NO_PLACE};
 use records_tests::random::Random;
 use records_tests::{edges, library, parity, spoil_blockette, Pass};
 
 fn built(bytes: &[u8]) -> Vec<u8> {
     let length = library::image_length(bytes.len(), 1);
-    let (refusal, image) = library::build(bytes, 1, &vec![0xC3; length]);
+    let (refusal, image) = library::build(bytes, 1, NO_PLACE, &vec![0xC3; length]);
     assert_eq!(refusal, 0, "{} bytes", bytes.len());
     image
 }
@@ -177,7 +177,7 @@ fn mfm_images_hold_the_bytes() {
     let mut random = Random::of_test(54);
     for count in [0, 1, 5, 255, 256, 257, 1000, LIMIT] {
         let bytes = random.bytes(count);
-        let (refusal, image) = library::build(&bytes, 0, &vec![0x3C; count + 2]);
+        let (refusal, image) = library::build(&bytes, 0, NO_PLACE, &vec![0x3C; count + 2]);
         assert_eq!(refusal, 0);
         assert_eq!(library::image_count(&image), count);
         assert!(image[2..] == bytes);

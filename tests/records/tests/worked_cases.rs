@@ -1,11 +1,12 @@
 //! The record cases of document 01's bench list, their answers written out by hand.
 
 use records_tests::library;
+use records_tests::plain::NO_PLACE;
 
 /// The image that the library builds in a space of its length.
 fn image(bytes: &[u8], density: u8) -> Vec<u8> {
     let length = library::image_length(bytes.len(), density);
-    let (refusal, image) = library::build(bytes, density, &vec![0xEE; length]);
+    let (refusal, image) = library::build(bytes, density, NO_PLACE, &vec![0xEE; length]);
     assert_eq!(refusal, 0);
     image
 }
@@ -130,7 +131,7 @@ fn the_longest_record_has_blockettes_255_to_0() {
 fn one_byte_more_than_the_longest_record() {
     let bytes = vec![0x5A; 65_536];
     for density in [0, 1] {
-        let (refusal, space) = library::build(&bytes, density, &[0xEE; 70_000]);
+        let (refusal, space) = library::build(&bytes, density, NO_PLACE, &[0xEE; 70_000]);
         assert_eq!(refusal, 9);
         assert!(space == [0xEE; 70_000]);
     }

@@ -7,6 +7,7 @@ use contract.Lifetimes.{Lfts}
 use denote.Ref.{RefT, now, at-last}
 use Prim.Native.Nat.{ℕ}
 use Rattle.transfers.specs.Results.{Result, resultOf}
+use Rattle.transfers.specs.Data.{Host, hostOf}
 use Rattle.controller.specs.declared.controller.Controller.{Controller}
 use Rattle.controller.specs.declared.controller.Reply.{Reply}
 use Rattle.controller.specs.declared.controller.Transfer.{Transfer}
@@ -50,18 +51,18 @@ pub record Plainly (Promise : Reply → Type 0) (answer : Answer) : Type 0 where
   pub same : answer ≡ plain reply
 
 -- the answer of a call that is lent space: three slices of the data call, four of the result, wherever they lie
-pub record DataLent (c : Controller) (host space check : List ℕ) (answer : Answer) : Type 0 where
+pub record DataLent (c : Controller) (host : Host) (space check : List ℕ) (answer : Answer) : Type 0 where
   pub lifetimes : Lfts 3
   pub host-slice : RefT (List ℕ)
   pub space-slice : RefT (List ℕ)
   pub check-slice : RefT (List ℕ)
   pub transfer : Transfer
-  pub holds-host : now host-slice ≡ host
+  pub holds-host : hostOf (now host-slice) (host .place) ≡ host
   pub holds-space : now space-slice ≡ space
   pub holds-check : now check-slice ≡ check
   pub promise :
-      data-reads.Post lifetimes (c, (host-slice, (space-slice, (check-slice, tt)))) transfer
-      (c, (host-slice, (at-last space-slice (answer .space), (at-last check-slice (answer .check), tt))))
+      data-reads.Post lifetimes (c, (host-slice, (host .place, (space-slice, (check-slice, tt))))) transfer
+      (c, (host-slice, (host .place, (at-last space-slice (answer .space), (at-last check-slice (answer .check), tt)))))
   pub same : answer ≡ answered transfer (answer .space) (answer .check)
 
 pub record ResultLent (c : Controller) (r : Result) (space check : List ℕ) (answer : Answer) : Type 0 where
@@ -108,7 +109,7 @@ answers-are-steps c tick answer allowed = allowed .same ∙ ap plain (allowed .p
 answers-are-steps c (hostData host space check) answer allowed =
     allowed .same
     ∙ allowed .promise
-    ∙ ap (λ (h : List ℕ). dataCall c h (now (allowed .space-slice)) (now (allowed .check-slice))) (allowed .holds-host)
+    ∙ ap (λ (h : Host). dataCall c h (now (allowed .space-slice)) (now (allowed .check-slice))) (allowed .holds-host)
     ∙ ap₂ (λ (s k : List ℕ). dataCall c host s k) (allowed .holds-space) (allowed .holds-check)
 answers-are-steps c (result r space check) answer allowed =
     allowed .same
@@ -128,7 +129,7 @@ steps-are-allowed c (report drive bits) = record { reply = reportCall c drive bi
 steps-are-allowed c (hostData host space check) =
     record {
       lifetimes = ([], ([], ([], tt)));
-      host-slice = somewhere host;
+      host-slice = somewhere (host .bytes);
       space-slice = somewhere space;
       check-slice = somewhere check;
       transfer = handedBack (dataCall c host space check);

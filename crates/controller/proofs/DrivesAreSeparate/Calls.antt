@@ -16,6 +16,7 @@ use Rattle.operations.specs.declared.operation.Operation.the-variants.{Read, Ch
 use Rattle.operations.specs.declared.decode.Decoded.{Decoded}
 use Rattle.operations.specs.Operation.{orderByte, sameOperation, isRead}
 use Rattle.records.specs.Image.{imageOf}
+use Rattle.records.specs.Place.{writtenBytes}
 use Rattle.status.specs.declared.drives.Drive.{Drive}
 use Rattle.status.specs.Drives.{driveOf, withReport, copyReport}
 use Rattle.status.specs.Strings.{orderOf}
@@ -29,7 +30,7 @@ use Rattle.link.specs.Link.{yesToGo, noToGo}
 use Rattle.link.specs.Bytes.{ack}
 use Rattle.controller.specs.Controller.{carried}
 use Rattle.controller.specs.Stores.{orderMove}
-use Rattle.transfers.specs.Data.{recordBytes, writeImage, settleData}
+use Rattle.transfers.specs.Data.{Host, recordBytes, writeImage, settleData}
 use Rattle.transfers.specs.Results.{Result, isGone, codeReported, recordCount, usedCount, verdictOf, deliveredBytes, delivered, fitting, resultGap, settleResult}
 use Rattle.controller.specs.Records.{wordsOf, withStatus, withAfter, dataDone, resultDone}
 use Rattle.controller.specs.Machine.{reportNoted, Call, plain}
@@ -126,14 +127,14 @@ module _ (d : ℕ) (low : d ≤ 3) (last : Store) (b : Body) (store : Store) whe
 
 -- ---- the data call
 
-module _ (d : ℕ) (last : Store) (b : Body) (store : Store) (host space check : List ℕ) where
+module _ (d : ℕ) (last : Store) (b : Body) (store : Store) (host : Host) (space check : List ℕ) where
   abbrev awaiting : Controller
   awaiting = record { body = b; phase = DataAwaited store }
 
   pub data-follows :
       Held last (b .selected) Write store
       → Follows d (viewOf d last awaiting) last awaiting (record { call = hostData host space check; answer = dataDone b (currentDrive b) store host space check })
-  unfolding eventOf transferOf bytesGiven told gives dataDone settleData handIn handAfterData givenAtData recordBytes thrownAway heldCount InHand orderMove
+  unfolding eventOf transferOf bytesGiven told gives dataDone settleData handIn handAfterData givenAtData writtenBytes thrownAway heldCount InHand orderMove
   data-follows held =
       let body = withStatus b (settleData (wordsOf b) (currentDrive b) store host .words) in
       let written = writeImage store host (currentDrive b .density) in

@@ -17,7 +17,7 @@ use Rattle.status.specs.declared.drives.Drive.{Drive}
 use Rattle.status.specs.Drives.{withGap, withReport, copyReport, withTrack, withDensity}
 use Rattle.status.specs.Strings.{orderOf}
 use Rattle.operations.specs.declared.store.Store.{Store}
-use Rattle.transfers.specs.Data.{recordBytes}
+use Rattle.transfers.specs.Data.{Host, recordBytes}
 use Rattle.transfers.specs.Results.{Result, verdictOf, delivered, fitting, resultGap}
 use Rattle.controller.specs.Separation.{Event, Output}
 use Rattle.controller.specs.Separation.Event.{reportCame, storeCame, goAnswered, dataCame, resultCame}
@@ -89,7 +89,7 @@ handAfterData empty = empty
 handAfterData (goOffered store) = empty
 handAfterData (resultAwaited operation store) = empty
 
-unfoldable pub givenAtData : ℕ → Drive → List ℕ → Hand → List Output
+unfoldable pub givenAtData : ℕ → Drive → Host → Hand → List Output
 givenAtData d drive host (dataAwaited store) = image (imageOf (recordBytes store host) (drive .density)) ∷ orderTo d drive Write store
 givenAtData d drive host empty = []
 givenAtData d drive host (goOffered store) = []

@@ -2,6 +2,7 @@
 -- what the space holds afterwards, with slices at any place and of any lifetime. And the functions meet their contracts (`Meet`).
 -- Assumes nothing.
 use mathlib.Core.Path.{_≡_, refl, sym, ap, ap₂, subst, _∙_}
+use mathlib.Core.Bool.{true, not}
 use mathlib.Core.List.{List, []}
 use contract.Lifetimes.{Lfts}
 use denote.Ref.{RefT, now, at-last}
@@ -16,11 +17,13 @@ use Rattle.passes.specs.Passes.{mergedMarks}
 use Rattle.passes.proofs.MergedLaws.{marks-length}
 use Rattle.records.specs.Count.{limit}
 use Rattle.records.specs.Image.{imageOf, imageLength}
-use Rattle.records.specs.Build.{buildRefusal, buildInto}
+use Rattle.records.specs.Place.{isPlace}
+use Rattle.records.specs.Build.{buildRefusal, builtBytes, buildInto}
 use Rattle.records.specs.Restore.{restoreRefusal, restoreInto}
 use Rattle.records.specs.Merge.{Pass, passOf, mergeRefusal, mergedImage, mergeImageInto, mergeMarksInto}
 use Rattle.records.specs.Interface.{scanRefusal, scanInto}
 use Rattle.records.proofs.ImageLaws.{image-length, image-alike}
+use Rattle.records.proofs.PlaceLaws.{written-length}
 use Rattle.records.proofs.interface.ctc_build.Reads as build-reads
 use Rattle.records.proofs.interface.ctc_restore.Reads as restore-reads
 use Rattle.records.proofs.interface.ctc_merge.Reads as merge-reads
@@ -42,14 +45,15 @@ use Rattle.records.proofs.interface.ctc_scan.Statement as scan-statemen
 
 -- ---- what the contracts allow
 
-pub record BuildAllows (bytes : List ℕ) (density : ℕ) (space : List ℕ) (refusal : ℕ) (after : List ℕ) : Type 0 where
+pub record BuildAllows (bytes : List ℕ) (density place : ℕ) (space : List ℕ) (refusal : ℕ) (after : List ℕ) : Type 0 where
   pub lifetimes : Lfts 2
   pub bytes-slice : RefT (List ℕ)
   pub space-slice : RefT (List ℕ)
   pub holds-bytes : now bytes-slice ≡ bytes
   pub holds-space : now space-slice ≡ space
   pub promise :
-      build-reads.Post lifetimes (bytes-slice, (density, (space-slice, tt))) refusal (bytes-slice, (density, (at-last space-slice after, tt)))
+      build-reads.Post lifetimes (bytes-slice, (density, (place, (space-slice, tt)))) refusal
+      (bytes-slice, (density, (place, (at-last space-slice after, tt))))
 
 pub record RestoreAllows (image marks space : List ℕ) (refusal : ℕ) (after : List ℕ) : Type 0 where
   pub lifetimes : Lfts 3
@@ -89,11 +93,12 @@ pub record ScanAllows (marks space : List ℕ) (refusal : ℕ) (after : List ℕ
   pub promise : scan-reads.Post lifetimes (marks-slice, (space-slice, tt)) refusal (marks-slice, (at-last space-slice after, tt))
 
 -- an allowed answer is that of the definitions
-pub builds-are-defined : (bytes : List ℕ) (density : ℕ) (space : List ℕ) (refusal : ℕ) (after : List ℕ) → BuildAllows bytes density space refusal after
-    → (refusal ≡ buildRefusal (length bytes) density (length space)) × (after ≡ buildInto bytes density space)
-builds-are-defined bytes density space refusal after allowed = (
-  allowed .promise .0 ∙ ap₂ (λ (b s : List ℕ). buildRefusal (length b) density (length s)) (allowed .holds-bytes) (allowed .holds-space),
-  allowed .promise .1 ∙ ap₂ (λ (b s : List ℕ). buildInto b density s) (allowed .holds-bytes) (allowed .holds-space),
+pub builds-are-defined : (bytes : List ℕ) (density place : ℕ) (space : List ℕ) (refusal : ℕ) (after : List ℕ)
+    → BuildAllows bytes density place space refusal after
+    → (refusal ≡ buildRefusal (length bytes) density place (length space)) × (after ≡ buildInto bytes density place space)
+builds-are-defined bytes density place space refusal after allowed = (
+  allowed .promise .0 ∙ ap₂ (λ (b s : List ℕ). buildRefusal (length b) density place (length s)) (allowed .holds-bytes) (allowed .holds-space),
+  allowed .promise .1 ∙ ap₂ (λ (b s : List ℕ). buildInto b density place s) (allowed .holds-bytes) (allowed .holds-space),
 )
 
 pub restores-are-defined : (image marks space : List ℕ) (refusal : ℕ) (after : List ℕ) → RestoreAllows image marks space refusal after
@@ -146,9 +151,9 @@ scans-are-defined marks space refusal after allowed = (
 abbrev somewhere : List ℕ → RefT (List ℕ)
 somewhere bytes = record { ptr = (0, 0); name = 0; now = bytes }
 
-pub builds-are-allowed : (bytes : List ℕ) (density : ℕ) (space : List ℕ)
-    → BuildAllows bytes density space (buildRefusal (length bytes) density (length space)) (buildInto bytes density space)
-builds-are-allowed bytes density space =
+pub builds-are-allowed : (bytes : List ℕ) (density place : ℕ) (space : List ℕ)
+    → BuildAllows bytes density place space (buildRefusal (length bytes) density place (length space)) (buildInto bytes density place space)
+builds-are-allowed bytes density place space =
     record {
       lifetimes = ([], ([], tt));
       bytes-slice = somewhere bytes;
@@ -193,31 +198,34 @@ merges-are-allowed first second image marks =
 
 -- ---- the builder's answer 0
 
--- what is known of it in GCR
-module _ (bytes : List ℕ) (density : ℕ) (space after : List ℕ) (gcr : density ≡ 0 → ⊥) (allowed : BuildAllows bytes density space 0 after) where
-  pub built-within : length bytes ≤ limit
+-- what is known of it in GCR, of the record that is written
+module _ (bytes : List ℕ) (density place : ℕ) (space after : List ℕ) (gcr : density ≡ 0 → ⊥) (allowed : BuildAllows bytes density place space 0 after) where
+  pub built-within : length (builtBytes bytes place) ≤ limit
   unfolding buildRefusal
-  built-within = ltb-false _ _ (not-refused _ _ _ (λ r. omega arith) (sym (builds-are-defined bytes density space 0 after allowed .0)) .0)
+  built-within =
+      let few = ltb-false _ _ (not-refused _ _ _ (λ r. omega arith) (sym (builds-are-defined bytes density place space 0 after allowed .0)) .0) in
+      rw (written-length bytes place 0 (length bytes)) few
 
   -- its image stands at the start of the space
-  pub built-image : take (imageLength (length bytes) density) after ≡ imageOf bytes 1
+  pub built-image : take (imageLength (length bytes) density) after ≡ imageOf (builtBytes bytes place) 1
   unfolding buildInto given
   built-image =
-      let promised = builds-are-defined bytes density space 0 after allowed in
+      let promised = builds-are-defined bytes density place space 0 after allowed in
+      let long = image-length (builtBytes bytes place) density ∙ ap (λ (n : ℕ). imageLength n density) (written-length bytes place 0 (length bytes)) in
       ap (λ (l : List ℕ). take (imageLength (length bytes) density) l) (promised .1 ∙ where-done _ _ _ (sym (promised .0)))
-      ∙ take-at (imageOf bytes density) _ (imageLength (length bytes) density) (image-length bytes density)
-      ∙ image-alike density gcr bytes
+      ∙ take-at (imageOf (builtBytes bytes place) density) _ (imageLength (length bytes) density) long
+      ∙ image-alike density gcr (builtBytes bytes place)
 
--- and it gives that answer where the bytes are within the limit and the image fits
-pub builds-within : (bytes : List ℕ) (density : ℕ) (space : List ℕ) → length bytes ≤ limit → imageLength (length bytes) density ≤ length space
-    → BuildAllows bytes density space 0 (buildInto bytes density space)
+-- and it gives that answer where the bytes are within the limit, the image fits, and the place is one of theirs or none
+pub builds-within : (bytes : List ℕ) (density place : ℕ) (space : List ℕ) → length bytes ≤ limit → imageLength (length bytes) density ≤ length space
+    → isPlace (length bytes) place ≡ true → BuildAllows bytes density place space 0 (buildInto bytes density place space)
 unfolding buildRefusal
-builds-within bytes density space within room =
+builds-within bytes density place space within room is-place =
     let c = length bytes in
-    let accepted : buildRefusal c density (length space) ≡ 0 =
-    pick-no 9 _ (le-ltb limit c within) ∙ pick-no 11 0 (le-ltb (length space) (imageLength c density) room)
+    let accepted : buildRefusal c density place (length space) ≡ 0 =
+    pick-no 9 _ (le-ltb limit c within) ∙ pick-no 11 _ (le-ltb (length space) (imageLength c density) room) ∙ pick-no 15 0 (ap not is-place)
     in
-    subst (λ (r : ℕ). BuildAllows bytes density space r (buildInto bytes density space)) accepted (builds-are-allowed bytes density space)
+    subst (λ (r : ℕ). BuildAllows bytes density place space r (buildInto bytes density place space)) accepted (builds-are-allowed bytes density place space)
 
 -- ---- merging's answer 0
 

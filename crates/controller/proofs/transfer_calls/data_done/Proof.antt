@@ -1,7 +1,17 @@
 -- `controller::transfer_calls::data_done` meets its contract: what is settled for the drive is put into the body, and the move is ordered.
 -- Assumes nothing.
 use borrow.Author.Needs.{needs}
-use Rattle.controller.specs.Records.{dataDone}
+use mathlib.Core.Path.{_≡_, ap, _∙_}
+use Rattle.operations.specs.declared.operation.Operation.the-variants.{Write}
+use Rattle.transfers.specs.declared.after.Words.{Words}
+use Rattle.transfers.specs.declared.after.Written.{Written}
+use Rattle.transfers.specs.Data.{hostOf, settleData}
+use Rattle.link.specs.declared.state.Body.{Body}
+use Rattle.link.specs.declared.state.Turn.{Turn}
+use Rattle.controller.specs.Controller.{carried}
+use Rattle.controller.specs.Stores.{orderMove}
+use Rattle.controller.specs.Records.{withStatus, dataDone}
+use Rattle.controller.proofs.AnswerLaws.{answer-alike}
 use Rattle.controller.proofs.transfer_calls.data_done.Statement.{statement}
 use Rattle.controller.proofs.transfer_calls.data_done.Tie as tie
 
@@ -33,15 +43,13 @@ returns c =
     let w = o .before in
     let d = w .before .before .before .before .before .before in
     let n = d .before .before .before in
-    simp (
-      c .carried .ensures,
-      o .order-move .ensures,
-      w .with-status .ensures,
-      d .settle-data .ensures .0,
-      d .settle-data .ensures .1 .0,
-      d .settle-data .ensures .1 .1,
-      n .words-of .ensures,
-    )
+    let a = n .before .before .before .before .args in
+    let host = hostOf (a .host .now) (a .place) in
+    let settled = d .settle-data .ensures .0 ∙ ap (λ (words : Words). settleData words (a .drive) (a .store) host) (n .words-of .ensures) in
+    let left = w .with-status .ensures ∙ ap (λ (x : Written). withStatus (a .b) (x .words)) settled in
+    let moves = o .order-move .ensures ∙ ap (λ (x : Body). orderMove x Write (a .store)) left in
+    answer-alike _ _ _ _ _ _ _ _ (c .carried .ensures ∙ ap (λ (x : Turn). carried x) moves) (ap (λ (x : Written). x .bytes) settled)
+    (d .settle-data .ensures .1 .0) (d .settle-data .ensures .1 .1)
 
 pub data-done-spec : {M : Type 1} → statement M
 data-done-spec =

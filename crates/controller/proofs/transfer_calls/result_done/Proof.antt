@@ -2,18 +2,16 @@
 -- Assumes nothing.
 use borrow.Author.Needs.{needs}
 use mathlib.Core.Path.{_≡_, ap, _∙_}
-use mathlib.Core.List.{List}
-use Prim.Native.Nat.{ℕ}
 use lib.ListN.{length}
 use Rattle.transfers.specs.declared.after.Words.{Words}
 use Rattle.transfers.specs.declared.after.After.{After}
 use Rattle.transfers.specs.Results.{resultWith, settleResult}
 use Rattle.link.specs.declared.state.Body.{Body}
 use Rattle.link.specs.declared.state.Turn.{Turn}
-use Rattle.controller.specs.declared.controller.Reply.{Reply}
 use Rattle.controller.specs.Controller.{carried}
 use Rattle.controller.specs.Stores.{endOperation}
-use Rattle.controller.specs.Records.{Answer, withAfter, resultDone}
+use Rattle.controller.specs.Records.{withAfter, resultDone}
+use Rattle.controller.proofs.AnswerLaws.{answer-alike}
 use Rattle.controller.proofs.transfer_calls.result_done.Statement.{statement}
 use Rattle.controller.proofs.transfer_calls.result_done.Tie as tie
 
@@ -37,16 +35,6 @@ same-length c = search needs
 
 same-length-2 : tie.Need-same-length-2
 same-length-2 c = search needs
-
--- answers of equal parts
-answer-alike :
-    (r r′ : Reply) (n n′ : ℕ) (s s′ k k′ : List ℕ)
-    → r ≡ r′
-    → n ≡ n′
-    → s ≡ s′
-    → k ≡ k′
-    → _≡_ {A = Answer} (record { reply = r; bytes = n; space = s; check = k }) (record { reply = r′; bytes = n′; space = s′; check = k′ })
-answer-alike r r′ n n′ s s′ k k′ p q t u = cc
 
 returns : tie.Need-returns
 unfolding resultDone

@@ -27,16 +27,35 @@ returns-2 c =
       eq-eqb _ _ (c .before .before .before .if1 .left),
     )
 
+is-place-requires : tie.Need-is-place-requires
+is-place-requires c κs = search needs
+
 returns-3 : tie.Need-returns-3
 unfolding dataRefusal pick
 returns-3 c =
+    let s = c .before .before in
     simp (
-      le-ltb _ _ (c .if2 .left),
-      ← c .before .image-length .ensures,
-      ← c .before .before .held-count .ensures,
-      eq-eqb _ _ (c .before .before .before .if1 .left),
+      le-ltb _ _ (s .if2 .left),
+      ← s .before .image-length .ensures,
+      ← s .before .before .held-count .ensures,
+      eq-eqb _ _ (s .before .before .before .if1 .left),
+      ← c .before .is-place .ensures,
+      c .if3 .taken,
+    )
+
+returns-4 : tie.Need-returns-4
+unfolding dataRefusal pick
+returns-4 c =
+    let s = c .before .before in
+    simp (
+      le-ltb _ _ (s .if2 .left),
+      ← s .before .image-length .ensures,
+      ← s .before .before .held-count .ensures,
+      eq-eqb _ _ (s .before .before .before .if1 .left),
+      ← c .before .is-place .ensures,
+      c .if3 .left,
     )
 
 pub data-refusal-spec : {M : Type 1} → statement M
 data-refusal-spec =
-    tie.close (tie.spec returns held-count-requires image-length-requires returns-2 returns-3)
+    tie.close (tie.spec returns held-count-requires image-length-requires returns-2 is-place-requires returns-3 returns-4)

@@ -5,20 +5,26 @@ use mathlib.Core.List.{List}
 use mathlib.Core.Path.{_≡_, sym, ap, _∙_}
 use Prim.Native.Nat.{ℕ, _≤_}
 use native.Mathlib.Omega.{arith}
-use lib.ListN.{length, length-take, length-drop}
+use lib.ListN.{length, take, length-take, length-drop}
 use Rattle.records.specs.Count.{limit}
 use Rattle.records.specs.Image.{imageLength, imageOf}
-use Rattle.transfers.specs.Data.{recordBytes}
+use Rattle.transfers.specs.Data.{hostOf, recordBytes}
 use Rattle.transfers.proofs.DataLaws.{record-image-length, record-part, image-given}
 use Rattle.transfers.proofs.data.put_write_image.Statement.{statement}
 use Rattle.transfers.proofs.data.put_write_image.Tie as tie
 
 -- the image fits
-room : (c : tie.After-image-length) → c .image-length .result ≤ length (c .before .before .before .before .before .before .before .args .space .now)
+room : (c : tie.After-image-length) → c .image-length .result ≤ length (c .before .before .before .before .before .before .before .before .before .args .space .now)
 room c =
     let h = c .before .before .before .before in
-    let e = h .before .before .before in
+    let e = h .before .before .before .before .before in
     rw (c .image-length .ensures, h .held-count .ensures) (e .pre .1)
+
+as-came-requires : tie.Need-as-came-requires
+as-came-requires c κs = search needs
+
+slice-aggregate-came : tie.Need-slice-aggregate-came
+slice-aggregate-came c = simp length-take (omega (arith, c .before .as-came .ensures .1))
 
 held-count-requires : tie.Need-held-count-requires
 held-count-requires c κs = search needs
@@ -58,7 +64,7 @@ put-image-requires : tie.Need-put-image-requires
 put-image-requires c κs =
     let i = c .before .before in
     let h = i .before .before .before .before in
-    let e = h .before .before .before in (
+    let e = h .before .before .before .before .before in (
       rw (h .held-count .ensures) (e .pre .0),
       (simp (length-take, length-drop) (omega arith), simp length-take (omega (arith, room i, i .image-length .ensures))),
     )
@@ -73,20 +79,25 @@ returns c =
     let l2 = i .before in
     let l1 = l2 .before in
     let h = l1 .before .before in
-    let e = h .before .before .before in
+    let a = h .before .before in
+    let e = a .before .before .before in
     let store = e .args .store in
-    let host = e .args .host .now in
+    let host = hostOf (e .args .host .now) (e .args .place) in
     let density = e .args .density in
     let long : i .image-length .result ≡ length (imageOf (recordBytes store host) density) =
     i .image-length .ensures ∙ ap (λ (k : ℕ). imageLength k density) (h .held-count .ensures) ∙ sym (record-image-length store host density)
     in
-    let is-image = p .put-image .ensures ∙ ap (λ (x : List ℕ). imageOf x density) (record-part store host _ _ _ (h .held-count .ensures) (l1 .least .ensures) (l2 .least2 .ensures)) in
+    let front = ap (λ (n : ℕ). take n (host .bytes)) (a .as-came .ensures .0) in
+    let is-record = record-part store host _ _ _ _ front (h .held-count .ensures) (l1 .least .ensures) (l2 .least2 .ensures) in
+    let is-image = p .put-image .ensures ∙ ap (λ (x : List ℕ). imageOf x density) is-record in
     (long, image-given (e .args .space .now) _ _ _ is-image long)
 
 pub put-write-image-spec : {M : Type 1} → statement M
 put-write-image-spec =
     tie.close
     (tie.spec
+    as-came-requires
+    slice-aggregate-came
     held-count-requires
     cast-least
     least-requires

@@ -1,24 +1,19 @@
--- `transfers::data::runs_short` meets its contract: it is its definition, and the sum fits.
+-- `transfers::data::runs_short` meets its contract: it is its definition.
 -- Assumes nothing.
 use borrow.Author.Needs.{needs}
-use Rattle.operations.specs.Store.{thrownAway, heldCount}
 use Rattle.transfers.specs.Data.{runsShort}
 use Rattle.transfers.proofs.data.runs_short.Statement.{statement}
 use Rattle.transfers.proofs.data.runs_short.Tie as tie
 
-cast-result : tie.Need-cast-result
-cast-result c = search needs
+needed-bytes-requires : tie.Need-needed-bytes-requires
+needed-bytes-requires c κs = search needs
 
-held-count-requires : tie.Need-held-count-requires
-held-count-requires c κs = search needs
-
-add-result : tie.Need-add-result
-unfolding heldCount
-add-result c = search needs
+bad-byte-requires : tie.Need-bad-byte-requires
+bad-byte-requires c κs = search needs
 
 returns : tie.Need-returns
-unfolding runsShort thrownAway
-returns c = simp (c .held-count .ensures)
+unfolding runsShort
+returns c = simp (c .bad-byte .ensures, c .before .needed-bytes .ensures)
 
 pub runs-short-spec : {M : Type 1} → statement M
-runs-short-spec = tie.close (tie.spec cast-result held-count-requires add-result returns)
+runs-short-spec = tie.close (tie.spec needed-bytes-requires bad-byte-requires returns)

@@ -6,13 +6,13 @@ use mathlib.Core.Path.{_≡_, sym, ap, _∙_}
 use Prim.Native.Nat.{ℕ, _≤_}
 use lib.ListN.{length, take}
 use Rattle.common.proofs.GivenLaws.{given-front, given-room}
-use Rattle.transfers.specs.Data.{writeImage, settleData}
+use Rattle.transfers.specs.Data.{hostOf, writeImage, settleData}
 use Rattle.transfers.proofs.DataLaws.{record-image-length, data-ready}
 use Rattle.transfers.proofs.settle.settle_data.Statement.{statement}
 use Rattle.transfers.proofs.settle.settle_data.Tie as tie
 
 -- the image fits the space, and stands at its start
-image-room : (c : tie.After-put-write-image) → c .put-write-image .result ≤ length (c .put-write-image .last .1 .1 .1 .0)
+image-room : (c : tie.After-put-write-image) → c .put-write-image .result ≤ length (c .put-write-image .last .1 .1 .1 .1 .0)
 image-room c =
     let a = c .before .before .before .before .before .before .args in
     rw (c .put-write-image .ensures .0, c .put-write-image .ensures .1) (given-room _ (a .space .now))
@@ -20,7 +20,7 @@ image-room c =
 image-front :
     (c : tie.After-put-write-image)
     → let a = c .before .before .before .before .before .before .args in
-    take (c .put-write-image .result) (c .put-write-image .last .1 .1 .1 .0) ≡ writeImage (a .store) (a .host .now) (a .drive .density)
+    take (c .put-write-image .result) (c .put-write-image .last .1 .1 .1 .1 .0) ≡ writeImage (a .store) (hostOf (a .host .now) (a .place)) (a .drive .density)
 image-front c =
     let a = c .before .before .before .before .before .before .args in
     rw (c .put-write-image .ensures .0, c .put-write-image .ensures .1) (given-front _ (a .space .now))
@@ -31,7 +31,7 @@ data-words-requires c κs = search needs
 put-write-image-requires : tie.Need-put-write-image-requires
 put-write-image-requires c κs =
     let e = c .before .before .before .before .before in
-    (e .pre .0, data-ready (e .args .drive) (e .args .store) _ _ (e .pre .1) .1)
+    (e .pre .0, data-ready (e .args .drive) (e .args .store) _ _ _ _ (e .pre .1) .1)
 
 slice-reshare-prefix-put-data-check : tie.Need-slice-reshare-prefix-put-data-check
 slice-reshare-prefix-put-data-check c = image-room (c .before .before)
@@ -48,8 +48,8 @@ put-data-check-requires c κs =
     let store = e .args .store in (
       e .pre .0,
       (
-        ap (λ (x : List ℕ). length x) (image-front p) ∙ record-image-length store (e .args .host .now) (e .args .drive .density),
-        data-ready (e .args .drive) store _ _ (e .pre .1) .0,
+        ap (λ (x : List ℕ). length x) (image-front p) ∙ record-image-length store (hostOf (e .args .host .now) (e .args .place)) (e .args .drive .density),
+        data-ready (e .args .drive) store _ _ _ _ (e .pre .1) .0,
       ),
     )
 

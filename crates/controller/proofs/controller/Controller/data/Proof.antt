@@ -16,6 +16,7 @@ use Rattle.link.specs.declared.state.Body.{Body}
 use Rattle.link.specs.Damaged.{isSound}
 use Rattle.link.proofs.state.Phase.{the-type}
 use Rattle.link.proofs.SoundLaws.{data-count}
+use Rattle.transfers.specs.Data.{Host, hostOf}
 use Rattle.controller.specs.declared.controller.Controller.{Controller}
 use Rattle.controller.specs.Machine.{unchanged, dataFor, dataIn, dataCall}
 use Rattle.controller.proofs.DamageLaws.{damaged, undamaged}
@@ -26,7 +27,7 @@ use Rattle.controller.proofs.controller.Controller.data.Tie as tie
 abbrev six : List ℕ
 six = 0 ∷ 1 ∷ 2 ∷ 3 ∷ 5 ∷ 6 ∷ []
 
-others : (c : Controller) (b : Body) (host space check : List ℕ) (phase : Phase) → OneOf six (tagOf the-type phase) → dataIn c b host space check phase ≡ unchanged transferNotAwaited c space check
+others : (c : Controller) (b : Body) (host : Host) (space check : List ℕ) (phase : Phase) → OneOf six (tagOf the-type phase) → dataIn c b host space check phase ≡ unchanged transferNotAwaited c space check
 unfolding dataIn
 others c b host space check (Collecting s) key = refl
 others c b host space check (AckOffered s) key = refl
@@ -63,7 +64,7 @@ returns-2 c =
     let a = e .before .before .before .before .before .args in
     rw (
       whole e,
-      others (a .self) (a .self .body) (a .host .now) (a .space .now) (a .check .now) (a .self .phase) (c .before .match .keys2),
+      others (a .self) (a .self .body) (hostOf (a .host .now) (a .place)) (a .space .now) (a .check .now) (a .self .phase) (c .before .match .keys2),
       c .refused-transfer2 .ensures,
     )
 
