@@ -50,7 +50,7 @@
 #include <stdint.h>
 
 /* The version of this header and of the library, as the file VERSION has it. */
-#define CTC_VERSION "1.0.0"
+#define CTC_VERSION "2.0.0"
 
 /* The most bytes that a record may have: all that its 16-bit count can say. */
 #define CTC_COUNT_LIMIT 65535

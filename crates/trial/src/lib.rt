@@ -8,8 +8,11 @@ use link::completion::primary_now;
 use link::state::Body;
 use link::state::Phase;
 use operations::store::Store;
+use status::drives::INSTALLED;
+use status::drives::SELECTABLE;
 use status::drives::drive_of;
 use status::drives::with_density;
+use status::drives::with_report;
 use transfers::data::CHECK_STORE;
 ghost use Prim.Native.Nat.{_≤_};
 ghost use lib.ListN.{length};
@@ -20,11 +23,12 @@ const TOLD: usize = 11;
 // What is told does not fit: no refusal of the controller.
 const TOLD_SHORT: u32 = 255;
 
-// A fresh controller that awaits the data of a write on drive 0.
+// A fresh controller that awaits the data of a write on drive 0, in which a tape is installed.
 fn awaiting(density: u8, thrown: u8, count: usize) -> Controller {
     let fresh = fresh_controller();
     let drive = with_density(drive_of(fresh.body.drives, fresh.body.selected), density);
-    let body = with_current_drive(fresh.body, drive);
+    let loaded = with_report(drive, INSTALLED + SELECTABLE);
+    let body = with_current_drive(fresh.body, loaded);
     let store = Store {
         address: 0x58,
         first: 0,

@@ -348,7 +348,7 @@ pub fn guards_turned_round() -> Vec<Mutant> {
 }
 
 /// Wrong rules of the place of a bad byte, which no session hands in.
-pub const PLACES: [Mutant; 17] = [
+pub const PLACES: [Mutant; 18] = [
     Mutant::PlaceZeroed,
     Mutant::PlaceNotZeroed,
     Mutant::PlaceOfRecord,
@@ -366,6 +366,8 @@ pub const PLACES: [Mutant; 17] = [
     Mutant::PlaceAtLimit,
     Mutant::PlaceNoneOutside,
     Mutant::PlaceBeforeSpace,
+    // Bit 16 does not set bit 2.
+    Mutant::RetryBit(Operation::Write, 16),
 ];
 
 /// `--mutant N` counts from 1 in this order.

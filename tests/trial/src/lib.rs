@@ -4,7 +4,7 @@
 
 pub mod random;
 
-use machine::machine::{Job, Machine, Operation, Phase, Refusal, Reported};
+use machine::machine::{report, Job, Machine, Operation, Phase, Refusal, Reported};
 use machine::mutants::Mutant;
 use machine::records::{Density, CHECK_BYTES};
 
@@ -33,7 +33,8 @@ pub const UNTOLD: u32 = 255;
 /// "1 a field out of range", which the machine does not have.
 pub const DAMAGED: u32 = 1;
 
-/// A fresh controller's drive 0, with this density, awaits the data of a write.
+/// A fresh controller's drive 0, which has reported a tape and has this density, awaits the data of a
+/// write. No review saw the report yet.
 #[derive(Clone, Debug, PartialEq, Eq)]
 pub struct Call {
     /// 0 MFM, 1 GCR; a state with another one is damaged.
@@ -137,6 +138,7 @@ fn write(
         mutant,
         ..Machine::fresh()
     };
+    machine.report(0, report::INSTALLED | report::SELECTABLE)?;
     machine.drives[0].density = density;
     let (_, length) = machine.data(&call.host, call.place, &mut lent.space, &mut lent.check)?;
     let after_data = machine.primary();

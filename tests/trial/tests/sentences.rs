@@ -43,8 +43,12 @@ fn written(call: &Call) -> Written {
     let length = word(7) as usize & 0xFF_FFFF;
     let bits = word(0) >> 13 & 0b111;
     assert_eq!(word(4) >> 13 & 0b111, bits, "the result keeps the bits");
-    // A fresh controller's drive has no tape: after the result bit 2 is set by code 07 at any rate.
-    assert_eq!((word(0) >> 29 & 1, word(4) >> 16 & 0x1F), (0, 7));
+    // The drive has a tape, so that the result's code stays 00.
+    assert_eq!((word(0) & 0xFF, word(4) & 0xFF), (0x22, 0x22), "the report");
+    assert_eq!((word(0) >> 16 & 0x1F, word(4) >> 16 & 0x1F), (0, 0));
+    // Bit 2 comes with the result, and only by bit 16 or 18.
+    let retry = bits & (BAD | RAN_OUT) != 0;
+    assert_eq!((word(0) >> 29 & 1, word(4) >> 29 & 1), (0, retry as u32));
     assert!(lent.space[length..].iter().all(|&byte| byte == 0xEE));
     Written {
         bits,
@@ -159,6 +163,39 @@ fn underflow() {
     assert_eq!(mfm(4, 0, 3, NO_PLACE), (vec![], RAN_OUT));
     assert_eq!(mfm(4, 0, 3, 0), (vec![], BAD));
     assert_eq!(mfm(0, 2, 0, NO_PLACE), (vec![0, 0], RAN_OUT));
+}
+
+/// "Bit 16 sets bit 2 at the result.": primary after the data call, and after a result with code 0.
+#[test]
+fn point_6_5_bit_16_sets_bit_2() {
+    // changed and report 22; the result adds motion 01 and bit 22
+    let clear = [0x8000_0022, 0x8020_0222];
+    let bad = [0x8000_8022, 0xA020_8222];
+    let ran_out = [0x8000_2022, 0xA020_2222];
+    for (thrown, count, host, place, words) in [
+        (2, 4, 6, NO_PLACE, clear),
+        // past the bytes that the store needs
+        (2, 4, 7, 6, clear),
+        // the last, the first, and one thrown away
+        (2, 4, 6, 5, bad),
+        (2, 4, 6, 2, bad),
+        (2, 4, 6, 1, bad),
+        // without record bytes
+        (2, 0, 2, NO_PLACE, clear),
+        (2, 0, 2, 1, bad),
+        // the host ran out: before any bad byte, and after one
+        (2, 4, 5, NO_PLACE, ran_out),
+        (2, 4, 5, 4, bad),
+    ] {
+        for (density, bit_23) in [(MFM, 0), (GCR, 0x100)] {
+            let (refusal, lent) = both(&write(density, thrown, count, host, place));
+            assert_eq!(refusal, 0);
+            let word = |at: usize| u32::from_be_bytes(lent.told[at..at + 4].try_into().unwrap());
+            let told = [word(0), word(4)];
+            let expected = words.map(|word| word | bit_23);
+            assert_eq!(told, expected, "place {place} of {host}: {told:08X?}");
+        }
+    }
 }
 
 /// "Refused: 15 a place that is neither in the host bytes nor the value for none, after 11."
