@@ -27,7 +27,7 @@ use Rattle.status.specs.Words.{bitOf, noOutcome, anyBit, primaryOf, secondaryWo
 use Rattle.status.specs.Strings.{stringOf, orderOf}
 use Rattle.link.specs.declared.state.Body.{Body}
 use Rattle.controller.specs.declared.controller.Controller.{Controller}
-use Rattle.link.specs.declared.state.Action.the-variants.{Nothing, Byte}
+use Rattle.link.specs.declared.state.Action.the-variants.{Nothing, Byte, Order}
 use Rattle.link.specs.declared.state.Handed.the-variants.{NoneHanded}
 use Rattle.link.specs.State.{storeOf, startBody, resetState, review, idle}
 use Rattle.link.specs.Completion.{primaryNow, sendWord, sendInterrupt, complete}
@@ -89,6 +89,19 @@ mfmWrite host place =
 
 abbrev sixBytes : List ℕ
 sixBytes = 0x11 ∷ 0x22 ∷ 0x33 ∷ 0x44 ∷ 0x55 ∷ 0x66 ∷ []
+
+-- drive 1 with this report and its guard set; what writes or erases there; the gap is lost
+abbrev guarded : ℕ → List Call
+guarded bits = report 1 bits ∷ store 0x39 0x00 0x00 0x00 0x0B 0x56
+
+abbrev write : List Call
+write = store 0x59 0x00 0x00 0x00 0x01 0x3C
+
+abbrev writeMark : List Call
+writeMark = store 0x39 0x00 0x00 0x00 0x24 0x79
+
+abbrev erase : List Call
+erase = store 0x69 0x00 0x00 0x00 0x00 0x0D
 
 -- a record of 600 bytes, and its image with the count bytes and the first blockette torn
 abbrev sixHundred : List ℕ
@@ -152,6 +165,21 @@ pub record BenchCases : Type 0 where
   pub short-alone : primaryNow (left (mfmWrite (0x11 ∷ 0x22 ∷ 0x33 ∷ []) noPlace)) ≡ record { b0 = 0x81; b1 = 0x00; b2 = 0x20; b3 = 0x22 }
   -- "Refused: 15 a place that is neither in the host bytes nor the value for none"
   pub no-such-place : played (mfmWrite sixBytes 6) .reply .refusal ≡ 15
+  -- "While set, write, write mark and erase give code 04 unless the gap is 0 or BOT warning is reported." (document 02, Wish 7)
+  pub guard-write : left (guarded 0x22 ++ write) .outcome .result .code ≡ 0x04
+  pub guard-mark : left (guarded 0x22 ++ writeMark) .outcome .result .code ≡ 0x04
+  pub guard-erase : left (guarded 0x22 ++ erase) .outcome .result .code ≡ 0x04
+  pub guard-bot-warning : played (guarded 0x32 ++ write) .reply .action ≡ Byte 0x47
+  pub guard-bot : left (guarded 0x23 ++ write) .outcome .result .code ≡ 0x04
+  -- a new track at BOT makes the gap 0
+  pub guard-proper : played (guarded 0x23 ++ store 0x39 0x00 0x00 0x00 0x01 0x5C ++ write) .reply .action ≡ Byte 0x47
+  -- "Control values 0A and 0B clear and set a guard on the selected drive"
+  pub guard-cleared : played (guarded 0x22 ++ store 0x39 0x00 0x00 0x00 0x0A 0x57 ++ write) .reply .action ≡ Byte 0x47
+  pub guard-of-another : played (report 0 0x22 ∷ guarded 0x22 ++ store 0x58 0x00 0x00 0x00 0x01 0x3D) .reply .action ≡ Byte 0x47
+  -- "it starts clear, and a reset clears it": a reset store
+  pub guard-reset : played (guarded 0x22 ++ store 0x00 0x00 0x00 0x00 0x00 0x64 ++ write) .reply .action ≡ Byte 0x47
+  -- what does not write is not guarded
+  pub guard-read : played (guarded 0x22 ++ store 0x49 0x00 0x00 0x00 0x00 0x2D) .reply .action ≡ Order (record { b0 = 0x40; b1 = 1; b2 = 0; b3 = 0; b4 = 0; b5 = 0 })
   -- "It needs GCR, otherwise code 02"
   pub supplied-in-mfm : left (report 1 0x22 ∷ store 0x49 0x80 0x00 0x02 0x58 0xF7) .outcome .result .code ≡ 0x02
 
@@ -205,5 +233,15 @@ bench-cases =
       short-after-bad = refl;
       short-alone = refl;
       no-such-place = refl;
+      guard-write = refl;
+      guard-mark = refl;
+      guard-erase = refl;
+      guard-bot-warning = refl;
+      guard-bot = refl;
+      guard-proper = refl;
+      guard-cleared = refl;
+      guard-of-another = refl;
+      guard-reset = refl;
+      guard-read = refl;
       supplied-in-mfm = refl;
     }

@@ -12,12 +12,12 @@ use borrow.Author.Tests.{eqb-true, eq-eqb, not-true, not-false}
 use Rattle.common.specs.Pick.{pick}
 use Rattle.common.proofs.PickLaws.{by-test, both-hold, pick-by, pick-yes, pick-no}
 use Rattle.status.specs.declared.drives.Drive.{Drive}
-use Rattle.status.specs.Drives.{withTrack, withDensity}
+use Rattle.status.specs.Drives.{withTrack, withDensity, withGuard}
 use Rattle.status.specs.Words.{noOutcome}
 use Rattle.operations.specs.declared.operation.Operation.{Operation}
 use Rattle.operations.specs.declared.operation.Operation.the-variants.{Read, CheckBytes, SuppliedCount, Write, Erase, Rewind, FastForward, SkipForward, SkipReverse, SearchForward, SearchReverse, WriteMark}
 use Rattle.operations.specs.declared.decode.Decoded.{Decoded}
-use Rattle.operations.specs.declared.decode.Decoded.the-variants.{Reset, Code, Track, Enable, Density, Operate}
+use Rattle.operations.specs.declared.decode.Decoded.the-variants.{Reset, Code, Track, Enable, Guard, Density, Operate}
 use Rattle.operations.specs.declared.store.Store.{Store}
 use Rattle.operations.specs.Operation.{numberOf, moveOf, sameOperation, suppliesCount}
 use Rattle.operations.specs.Codes.{illegalDrive, illegalMotion}
@@ -190,6 +190,8 @@ module _ (store : Store) where
   decoded-opens b (Track track) none asks =
       rests-open (withCurrentDrive b (withTrack (currentDrive b) track)) _ none (settled-rests _ store) (settled-strings _ store)
   decoded-opens b (Enable enable) none asks = rests-open (withFlags b (b .changed) enable) _ none (settled-rests _ store) (settled-strings _ store)
+  decoded-opens b (Guard guard) none asks =
+      rests-open (withCurrentDrive b (withGuard (currentDrive b) guard)) _ none (settled-rests _ store) (settled-strings _ store)
   decoded-opens b (Density density) none asks =
       rests-open (withCurrentDrive b (withDensity (currentDrive b) density)) _ none (settled-rests _ store) (settled-strings _ store)
   decoded-opens b (Operate operation) none asks =

@@ -27,4 +27,4 @@ pub by-test-of :
     → P (decoded b store (Operate operation))
 unfolding follow courseOf testOf
 by-test-of P b store operation begins ends =
-    pick-by (λ (course : Course). P (follow b store course)) (mayMove (moveOf operation) (currentDrive b .report)) (λ may. begins) (λ not. ends)
+    pick-by (λ (course : Course). P (follow b store course)) (mayMove (moveOf operation) (currentDrive b .report) (currentDrive b .guard) (currentDrive b .gap)) (λ may. begins) (λ not. ends)

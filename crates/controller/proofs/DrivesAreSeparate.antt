@@ -87,5 +87,6 @@ drives-are-separate calls others d low admitted-one admitted-two same =
       track = ap (λ (x : Drive). x .track) drive;
       density = ap (λ (x : Drive). x .density) drive;
       gap = ap (λ (x : Drive). x .gap) drive;
+      guard = ap (λ (x : Drive). x .guard) drive;
       given = one .given ∙ ap (givesAll d (viewOf d noStore fresh)) same ∙ sym (two .given);
     }

@@ -2,7 +2,7 @@
 -- out unasked, and no store gives two (`orders-are-asked`, over the definitions).
 -- Assumes nothing.
 pub mod Agreement
-use mathlib.Core.Path.{_≡_, refl, sym, ap, subst, _∙_}
+use mathlib.Core.Path.{_≡_, refl, sym, ap, subst, subst₂, _∙_}
 use Prim.Native.Nat.{ℕ, _≤_}
 use native.Mathlib.Omega.{arith}
 use mathlib.Core.Bool.{Bool, true, false, not, _&&_, and-true}
@@ -15,13 +15,13 @@ use Rattle.common.proofs.PickLaws.{pick-by, pick-yes, pick-no}
 use Rattle.status.specs.declared.drives.Drive.{Drive}
 use Rattle.status.specs.declared.drives.Drives.{Drives}
 use Rattle.status.specs.declared.strings.Six.{Six}
-use Rattle.status.specs.Drives.{positionUnknown, driveOf, withGap, withReport, withTrack, withDensity, copyReport, freshWith, freshDrives, resetDrives}
+use Rattle.status.specs.Drives.{positionUnknown, driveOf, withGap, withReport, withTrack, withDensity, withGuard, copyReport, freshWith, freshDrives, resetDrives}
 use Rattle.status.proofs.DriveLaws.{by-four}
 use Rattle.operations.specs.declared.operation.Operation.{Operation}
 use Rattle.operations.specs.declared.operation.Operation.the-variants.{Read, CheckBytes, SuppliedCount, Write, Erase, Rewind, FastForward, SkipForward, SkipReverse, SearchForward, SearchReverse, WriteMark}
 use Rattle.operations.specs.declared.course.Course.the-variants.{End, Begin}
 use Rattle.operations.specs.declared.decode.Decoded.{Decoded}
-use Rattle.operations.specs.declared.decode.Decoded.the-variants.{Reset, Code, Track, Enable, Density, Operate}
+use Rattle.operations.specs.declared.decode.Decoded.the-variants.{Reset, Code, Track, Enable, Guard, Density, Operate}
 use Rattle.operations.specs.declared.store.Store.{Store}
 use Rattle.operations.specs.Operation.{moveOf, movesTape}
 use Rattle.operations.specs.Codes.{illegalDrive, illegalStore, illegalMotion}
@@ -46,7 +46,7 @@ use Rattle.controller.specs.Records.{wordsOf, withStatus, withAfter, dat
 use Rattle.controller.specs.Machine.{unchanged, reportNoted, dataIn, resultIn, Call, Exchange, plain, step, run}
 use Rattle.controller.specs.Machine.Call.{byte, taken, broken, report, hostData, result, tick, reset}
 use Rattle.controller.specs.Lists.{notRefused, holdsStore, heldStore}
-use Rattle.controller.specs.Orders.{Settings, resetSettings, freshSettings, withPending, entered, orderAsked, askedNoted, storeNoted, callNoted, noted, Asked, issued, AskedFrom, OrdersAreAsked}
+use Rattle.controller.specs.Orders.{Settings, resetSettings, freshSettings, withPending, entered, gapsOf, orderAsked, askedNoted, storeNoted, callNoted, noted, Asked, issued, AskedFrom, OrdersAreAsked}
 use Rattle.controller.proofs.Courses.{decoded}
 use Rattle.controller.proofs.Steps.Resting.{NoOrder, ended-rests, settled-rests, go-refused-rests, ending-rests}
 use Rattle.controller.proofs.Steps.{stated, exchanged, LinkCall, SaysNo, OfRefusals, OfLink, OfStores, OfReports, OfNo, OfData, OfResults, Kinds, data-for, result-for, by-step}
@@ -69,7 +69,7 @@ link-case c (byte value) t free rests strings none a before = rests-comply a (c 
 link-case c broken t free rests strings none a before = rests-comply a (c .body) t rests (before .agrees)
 link-case c tick t free rests strings none a before = rests-comply a (c .body) t rests (before .agrees)
 link-case c taken t (free, load) rests strings none a before =
-    as-before c (exchanged taken (plain (carried t))) a t (pick-no (storeNoted a (heldStore c)) a (ap not load))
+    as-before c (exchanged taken (plain (carried t))) a t (pick-no (storeNoted a (gapsOf (c .body .drives)) (heldStore c)) a (ap not load))
     (rests-comply a (c .body) t rests (before .agrees))
 link-case c (report drive r) t links rests strings none a before = absurd links
 link-case c (hostData host space check) t links rests strings none a before = absurd links
@@ -98,8 +98,8 @@ reports-case c n r within a before =
     (record {
       agrees =
           put-agrees a later (c .body) n (withReport (driveOf (c .body .drives) n) r) within refl (before .agrees)
-          (record { report = sym (entered-own (a .report) n r n refl); track = was .track; density = was .density })
-          (λ d other matches. record { report = matches .report ∙ sym (entered-other (a .report) n r d other); track = matches .track; density = matches .density });
+          (record { report = sym (entered-own (a .report) n r n refl); track = was .track; density = was .density; guard = was .guard })
+          (λ d other matches. record { report = matches .report ∙ sym (entered-other (a .report) n r d other); track = matches .track; density = matches .density; guard = matches .guard });
       pending = told (c .phase) (before .pending);
     })
   where
@@ -131,8 +131,8 @@ reset-complies a b agrees =
                   selected = refl;
                   low = omega arith;
                   drive =
-                      λ d low. subst (λ (x : Drive). Matches (a .report d) 0 0 (copyReport x)) (sym (reset-drive (b .drives) d low))
-                      (record { report = agrees .drive d low .report; track = refl; density = refl });
+                      λ d low. subst (λ (x : Drive). Matches (a .report d) 0 0 false (copyReport x)) (sym (reset-drive (b .drives) d low))
+                      (record { report = agrees .drive d low .report; track = refl; density = refl; guard = refl });
                 };
             pending = tt;
           };
@@ -170,15 +170,15 @@ module _ (a : Settings) (b : Body) (store : Store) (agrees : Agreeing (withPendi
   begun-complies SearchReverse = ordered-complies (pendingOrder SearchReverse) b SearchReverse store refl agrees
   begun-complies WriteMark = ordered-complies (pendingOrder WriteMark) b WriteMark store refl agrees
 
-  -- the test is that of the report in the settings
+  -- the test is that of the report and the guard in the settings
   operated-complies :
-      (operation : Operation) → Complies (withPending a (b .selected) (orderAsked a (b .selected) operation store)) (decoded b store (Operate operation))
+      (operation : Operation) → Complies (withPending a (b .selected) (orderAsked a (currentDrive b .gap) (b .selected) operation store)) (decoded b store (Operate operation))
   unfolding follow courseOf testOf orderAsked pick
   operated-complies operation =
-      subst
-      (λ (report : ℕ). Complies (pendingIf (movesTape (moveOf operation) && mayMove (moveOf operation) report) operation) (decoded b store (Operate operation)))
-      (agrees .drive (b .selected) (agrees .low) .report)
-      (by-may (mayMove (moveOf operation) (currentDrive b .report)))
+      subst₂
+      (λ (report : ℕ) (guard : Bool). Complies (pendingIf (movesTape (moveOf operation) && mayMove (moveOf operation) report guard (currentDrive b .gap)) operation) (decoded b store (Operate operation)))
+      (agrees .drive (b .selected) (agrees .low) .report) (agrees .drive (b .selected) (agrees .low) .guard)
+      (by-may (mayMove (moveOf operation) (currentDrive b .report) (currentDrive b .guard) (currentDrive b .gap)))
     where
       by-may :
           (may : Bool)
@@ -190,75 +190,86 @@ module _ (a : Settings) (b : Body) (store : Store) (agrees : Agreeing (withPendi
       by-may false = rests-comply _ b _ (ended-rests b store illegalMotion) agrees
 
   -- a track and a density are chosen for the selected drive
-  tracked-complies : (track : ℕ) → Complies (askedNoted a (b .selected) store (Track track)) (decoded b store (Track track))
+  tracked-complies : (track : ℕ) → Complies (askedNoted a (gapsOf (b .drives)) (b .selected) store (Track track)) (decoded b store (Track track))
   unfolding follow courseOf askedNoted withTrack
   tracked-complies track =
-      let later = askedNoted a (b .selected) store (Track track) in
+      let later = askedNoted a (gapsOf (b .drives)) (b .selected) store (Track track) in
       let was = agrees .drive (b .selected) (agrees .low) in
       rests-comply later (withCurrentDrive b (withTrack (currentDrive b) track)) _ (settled-rests _ store)
       (put-agrees (withPending a (b .selected) []) later b (b .selected) (withTrack (currentDrive b) track) (agrees .low) refl agrees
-      (pick-by (Matches (a .report (b .selected)) (entered (a .track) (b .selected) track (b .selected)) (a .density (b .selected)))
+      (pick-by (Matches (a .report (b .selected)) (entered (a .track) (b .selected) track (b .selected)) (a .density (b .selected)) (a .guard (b .selected)))
       (eqb (currentDrive b .track) track)
-      (λ same. record { report = was .report; track = eqb-true _ track same ∙ sym (entered-own (a .track) (b .selected) track (b .selected) refl); density = was .density })
-      (λ new. record { report = was .report; track = sym (entered-own (a .track) (b .selected) track (b .selected) refl); density = was .density }))
-      (λ d other matches. record { report = matches .report; track = matches .track ∙ sym (entered-other (a .track) (b .selected) track d other); density = matches .density }))
+      (λ same. record { report = was .report; track = eqb-true _ track same ∙ sym (entered-own (a .track) (b .selected) track (b .selected) refl); density = was .density; guard = was .guard })
+      (λ new. record { report = was .report; track = sym (entered-own (a .track) (b .selected) track (b .selected) refl); density = was .density; guard = was .guard }))
+      (λ d other matches. record { report = matches .report; track = matches .track ∙ sym (entered-other (a .track) (b .selected) track d other); density = matches .density; guard = matches .guard }))
 
-  dense-complies : (density : ℕ) → Complies (askedNoted a (b .selected) store (Density density)) (decoded b store (Density density))
+  dense-complies : (density : ℕ) → Complies (askedNoted a (gapsOf (b .drives)) (b .selected) store (Density density)) (decoded b store (Density density))
   unfolding follow courseOf askedNoted
   dense-complies density =
-      let later = askedNoted a (b .selected) store (Density density) in
+      let later = askedNoted a (gapsOf (b .drives)) (b .selected) store (Density density) in
       let was = agrees .drive (b .selected) (agrees .low) in
       rests-comply later (withCurrentDrive b (withDensity (currentDrive b) density)) _ (settled-rests _ store)
       (put-agrees (withPending a (b .selected) []) later b (b .selected) (withDensity (currentDrive b) density) (agrees .low) refl agrees
-      (record { report = was .report; track = was .track; density = sym (entered-own (a .density) (b .selected) density (b .selected) refl) })
-      (λ d other matches. record { report = matches .report; track = matches .track; density = matches .density ∙ sym (entered-other (a .density) (b .selected) density d other) }))
+      (record { report = was .report; track = was .track; density = sym (entered-own (a .density) (b .selected) density (b .selected) refl); guard = was .guard })
+      (λ d other matches. record { report = matches .report; track = matches .track; density = matches .density ∙ sym (entered-other (a .density) (b .selected) density d other); guard = matches .guard }))
 
-  decoded-complies : (decode : Decoded) → Complies (askedNoted a (b .selected) store decode) (decoded b store decode)
+  guarded-complies : (guard : Bool) → Complies (askedNoted a (gapsOf (b .drives)) (b .selected) store (Guard guard)) (decoded b store (Guard guard))
+  unfolding follow courseOf askedNoted
+  guarded-complies guard =
+      let later = askedNoted a (gapsOf (b .drives)) (b .selected) store (Guard guard) in
+      let was = agrees .drive (b .selected) (agrees .low) in
+      rests-comply later (withCurrentDrive b (withGuard (currentDrive b) guard)) _ (settled-rests _ store)
+      (put-agrees (withPending a (b .selected) []) later b (b .selected) (withGuard (currentDrive b) guard) (agrees .low) refl agrees
+      (record { report = was .report; track = was .track; density = was .density; guard = sym (entered-own (a .guard) (b .selected) guard (b .selected) refl) })
+      (λ d other matches. record { report = matches .report; track = matches .track; density = matches .density; guard = matches .guard ∙ sym (entered-other (a .guard) (b .selected) guard d other) }))
+
+  decoded-complies : (decode : Decoded) → Complies (askedNoted a (gapsOf (b .drives)) (b .selected) store decode) (decoded b store decode)
   unfolding follow courseOf askedNoted
   decoded-complies Reset = reset-complies (withPending a (b .selected) []) b agrees
   decoded-complies (Code code) = rests-comply _ b _ (ended-rests b store code) agrees
   decoded-complies (Track track) = tracked-complies track
   decoded-complies (Enable enable) = rests-comply _ (withFlags b (b .changed) enable) _ (settled-rests _ store) agrees
+  decoded-complies (Guard guard) = guarded-complies guard
   decoded-complies (Density density) = dense-complies density
   decoded-complies (Operate operation) = operated-complies operation
 
   -- in a density that an operation is not for, its order stays pending and never goes out
-  asked-complies : (density : ℕ) (asked : Decoded) → Complies (askedNoted a (b .selected) store asked) (decoded b store (inDensity density asked))
+  asked-complies : (density : ℕ) (asked : Decoded) → Complies (askedNoted a (gapsOf (b .drives)) (b .selected) store asked) (decoded b store (inDensity density asked))
   unfolding follow courseOf askedNoted
   asked-complies density asked =
-      by-density (λ (x : Decoded). Complies (askedNoted a (b .selected) store asked) (decoded b store x)) density asked (decoded-complies asked)
+      by-density (λ (x : Decoded). Complies (askedNoted a (gapsOf (b .drives)) (b .selected) store asked) (decoded b store x)) density asked (decoded-complies asked)
       (λ (operation : Operation) (is : asked ≡ Operate operation).
-      subst (λ (x : Decoded). Complies (askedNoted a (b .selected) store x) (decoded b store (Code illegalStore))) (sym is)
+      subst (λ (x : Decoded). Complies (askedNoted a (gapsOf (b .drives)) (b .selected) store x) (decoded b store (Code illegalStore))) (sym is)
       (rests-comply _ b _ (ended-rests b store illegalStore) agrees))
 
 -- a store that selects this drive, whatever density decides
 selecting-complies :
     (a : Settings) (b : Body) (store : Store) (n : ℕ)
     → Agreeing (withPending a n []) (withSelected b n)
-    → Complies (askedNoted a n store (askedFor store)) (carryOutOn b store n)
+    → Complies (askedNoted a (gapsOf (b .drives)) n store (askedFor store)) (carryOutOn b store n)
 unfolding carryOutOn
 selecting-complies a b store n agrees = asked-complies a (withSelected b n) store agrees _ (askedFor store)
 
 -- the settings and the controller select the same drive
 choose :
-    (a : Settings) (store : Store) (names above : Bool) (ended turned : Turn)
+    (a : Settings) (gaps : ℕ → ℕ) (store : Store) (names above : Bool) (ended turned : Turn)
     → leb 4 (namedDrive store) ≡ above
     → Complies (withPending a (a .selected) []) ended
-    → (pick names (namedDrive store) (a .selected) ≤ 3 → Complies (askedNoted a (pick names (namedDrive store) (a .selected)) store (askedFor store)) turned)
+    → (pick names (namedDrive store) (a .selected) ≤ 3 → Complies (askedNoted a gaps (pick names (namedDrive store) (a .selected)) store (askedFor store)) turned)
     → a .selected ≤ 3
-    → Complies (pick (names && above) (withPending a (a .selected) []) (askedNoted a (pick names (namedDrive store) (a .selected)) store (askedFor store))) (pick (names && above) ended turned)
+    → Complies (pick (names && above) (withPending a (a .selected) []) (askedNoted a gaps (pick names (namedDrive store) (a .selected)) store (askedFor store))) (pick (names && above) ended turned)
 unfolding pick
-choose a store true true ended turned e ends turns low = ends
-choose a store true false ended turned e ends turns low = let below = leb-false 4 (namedDrive store) e in turns (omega arith)
-choose a store false above ended turned e ends turns low = turns low
+choose a gaps store true true ended turned e ends turns low = ends
+choose a gaps store true false ended turned e ends turns low = let below = leb-false 4 (namedDrive store) e in turns (omega arith)
+choose a gaps store false above ended turned e ends turns low = turns low
 
-carried-complies : (a : Settings) (b : Body) (store : Store) → Agreeing a b → Complies (storeNoted a store) (carryOut b store)
+carried-complies : (a : Settings) (b : Body) (store : Store) → Agreeing a b → Complies (storeNoted a (gapsOf (b .drives)) store) (carryOut b store)
 unfolding carryOut storeNoted namesUnknown selectedBy clearOutcome
 carried-complies a b store agrees =
     let within = subst (λ (n : ℕ). n ≤ 3) (agrees .selected) (agrees .low) in
-    choose a store (namesDrive store) (leb 4 (namedDrive store)) _ _ refl (rests-comply _ _ _ (ended-rests _ store illegalDrive) agrees)
+    choose a (gapsOf (b .drives)) store (namesDrive store) (leb 4 (namedDrive store)) _ _ refl (rests-comply _ _ _ (ended-rests _ store illegalDrive) agrees)
     (λ low.
-    subst (λ (n : ℕ). Complies (askedNoted a (pick (namesDrive store) (namedDrive store) (a .selected)) store (askedFor store)) (carryOutOn (clearOutcome b) store (pick (namesDrive store) (namedDrive store) n)))
+    subst (λ (n : ℕ). Complies (askedNoted a (gapsOf (b .drives)) (pick (namesDrive store) (namedDrive store) (a .selected)) store (askedFor store)) (carryOutOn (clearOutcome b) store (pick (namesDrive store) (namedDrive store) n)))
     (sym (agrees .selected))
     (selecting-complies a (clearOutcome b) store (pick (namesDrive store) (namedDrive store) (a .selected)) (record { selected = refl; low = low; drive = agrees .drive })))
     within
@@ -267,7 +278,7 @@ stores-case : OfStores Complying
 unfolding noted notRefused callNoted holdsStore offered pick
 stores-case b s lead a before =
     let store = storeOf s in
-    subst (λ (later : Settings). Complies later (carryOut b store)) (sym (pick-yes (storeNoted a store) a (ap not lead))) (carried-complies a b store (before .agrees))
+    subst (λ (later : Settings). Complies later (carryOut b store)) (sym (pick-yes (storeNoted a (gapsOf (b .drives)) store) a (ap not lead))) (carried-complies a b store (before .agrees))
 
 -- ---- the calls of a store
 
@@ -294,7 +305,7 @@ ended b operation held drive r space check a before =
     let was = agrees .drive (b .selected) (agrees .low) in
     rests-comply a _ _ (ending-rests (withAfter b after) operation held)
     (put-agrees a a b (b .selected) (withGap (currentDrive b) (after .gap)) (agrees .low) refl agrees
-    (record { report = was .report; track = was .track; density = was .density }) (λ d other matches. matches))
+    (record { report = was .report; track = was .track; density = was .density; guard = was .guard }) (λ d other matches. matches))
 
 results-case : OfResults Complying
 unfolding resultIn
@@ -336,7 +347,7 @@ orders-are-asked calls =
           record {
             selected = refl;
             low = omega arith;
-            drive = λ d low. subst (λ (x : Drive). Matches 4 0 0 (copyReport x)) (sym (fresh-drive d low)) (record { report = refl; track = refl; density = refl });
+            drive = λ d low. subst (λ (x : Drive). Matches 4 0 0 false (copyReport x)) (sym (fresh-drive d low)) (record { report = refl; track = refl; density = refl; guard = refl });
           };
       pending = tt;
     })

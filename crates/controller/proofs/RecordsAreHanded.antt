@@ -11,11 +11,11 @@ use Rattle.common.proofs.PickLaws.{pick-by, pick-yes, pick-no}
 use Rattle.status.specs.declared.drives.Drive.{Drive}
 use Rattle.status.specs.declared.words.Outcome.{Outcome}
 use Rattle.status.specs.declared.words.ResultRecord.{ResultRecord}
-use Rattle.status.specs.Drives.{withTrack, withDensity}
+use Rattle.status.specs.Drives.{withTrack, withDensity, withGuard}
 use Rattle.operations.specs.declared.operation.Operation.{Operation}
 use Rattle.operations.specs.declared.operation.Operation.the-variants.{Read, CheckBytes, SuppliedCount, Write, Erase, Rewind, FastForward, SkipForward, SkipReverse, SearchForward, SearchReverse, WriteMark}
 use Rattle.operations.specs.declared.decode.Decoded.{Decoded}
-use Rattle.operations.specs.declared.decode.Decoded.the-variants.{Reset, Code, Track, Enable, Density, Operate}
+use Rattle.operations.specs.declared.decode.Decoded.the-variants.{Reset, Code, Track, Enable, Guard, Density, Operate}
 use Rattle.operations.specs.declared.store.Store.{Store}
 use Rattle.operations.specs.Operation.{offersEnd}
 use Rattle.operations.specs.Codes.{illegalDrive, illegalMotion}
@@ -106,6 +106,7 @@ module _ (store : Store) where
   decoded-due b (Code code) = coded-due b code true refl
   decoded-due b (Track track) = settled-due (withCurrentDrive b (withTrack (currentDrive b) track)) true refl
   decoded-due b (Enable enable) = settled-due (withFlags b (b .changed) enable) true refl
+  decoded-due b (Guard guard) = settled-due (withCurrentDrive b (withGuard (currentDrive b) guard)) true refl
   decoded-due b (Density density) = settled-due (withCurrentDrive b (withDensity (currentDrive b) density)) true refl
   decoded-due b (Operate operation) =
       by-test-of (λ (t : Turn). Due true (carried t) (t .handed)) b store operation (begun-due b operation) (coded-due b illegalMotion true refl)

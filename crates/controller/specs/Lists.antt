@@ -8,7 +8,7 @@ use Rattle.common.specs.Pick.{pick}
 use Rattle.operations.specs.declared.operation.Operation.{Operation}
 use Rattle.operations.specs.declared.operation.Operation.the-variants.{Read, SuppliedCount}
 use Rattle.operations.specs.declared.decode.Decoded.{Decoded}
-use Rattle.operations.specs.declared.decode.Decoded.the-variants.{Reset, Code, Track, Enable, Density, Operate}
+use Rattle.operations.specs.declared.decode.Decoded.the-variants.{Reset, Code, Track, Enable, Guard, Density, Operate}
 use Rattle.operations.specs.declared.store.Store.{Store}
 use Rattle.operations.specs.Operation.{sameOperation}
 use Rattle.controller.specs.declared.controller.Controller.{Controller}
@@ -59,6 +59,7 @@ asksFor this Reset = false
 asksFor this (Code code) = false
 asksFor this (Track track) = false
 asksFor this (Enable enable) = false
+asksFor this (Guard guard) = false
 asksFor this (Density density) = false
 
 -- a store that asks for a read, of either kind

@@ -10,7 +10,7 @@ use lib.Dec.{leb, eqb}
 use lib.ListN.{length, take}
 use Rattle.common.specs.Pick.{pick}
 use Rattle.operations.specs.declared.decode.Decoded.{Decoded}
-use Rattle.operations.specs.declared.decode.Decoded.the-variants.{Reset, Code, Track, Enable, Density, Operate}
+use Rattle.operations.specs.declared.decode.Decoded.the-variants.{Reset, Code, Track, Enable, Guard, Density, Operate}
 use Rattle.status.specs.declared.drives.Drive.{Drive}
 use Rattle.status.specs.declared.strings.Six.{Six}
 use Rattle.status.specs.Drives.{driveOf}
@@ -135,6 +135,7 @@ asksReset Reset = true
 asksReset (Code code) = false
 asksReset (Track track) = false
 asksReset (Enable enable) = false
+asksReset (Guard guard) = false
 asksReset (Density density) = false
 asksReset (Operate operation) = false
 
@@ -174,12 +175,13 @@ admitted = admittedFrom fresh
 abbrev pub left : ℕ → List Exchange → Drive
 left d xs = driveOf (after fresh xs .body .drives) d
 
--- the drive ends with the same track, density and gap, was given the same motion orders and write images, and delivered the same bytes,
+-- the drive ends with the same track, density and gap, and "with the same guard as well" (document 02, Wish 7), was given the same motion orders and write images, and delivered the same bytes,
 -- all in the same order and byte for byte
 pub record Agree (d : ℕ) (xs ys : List Exchange) : Type 0 where
   pub track : left d xs .track ≡ left d ys .track
   pub density : left d xs .density ≡ left d ys .density
   pub gap : left d xs .gap ≡ left d ys .gap
+  pub guard : left d xs .guard ≡ left d ys .guard
   pub given : outputs d xs ≡ outputs d ys
 
 -- "Two lists are alike for a drive if its history is the same in both": then it ends alike and was given alike

@@ -8,7 +8,7 @@ use Rattle.common.proofs.PickLaws.{pick-by}
 use Rattle.status.specs.Drives.{mfm}
 use Rattle.operations.specs.declared.operation.Operation.{Operation}
 use Rattle.operations.specs.declared.decode.Decoded.{Decoded}
-use Rattle.operations.specs.declared.decode.Decoded.the-variants.{Reset, Code, Track, Enable, Density, Operate}
+use Rattle.operations.specs.declared.decode.Decoded.the-variants.{Reset, Code, Track, Enable, Guard, Density, Operate}
 use Rattle.operations.specs.Codes.{illegalStore}
 use Rattle.operations.specs.Operation.{suppliesCount}
 use Rattle.operations.specs.Decode.{inDensity}
@@ -25,6 +25,7 @@ by-density P density Reset same ends = same
 by-density P density (Code code) same ends = same
 by-density P density (Track track) same ends = same
 by-density P density (Enable enable) same ends = same
+by-density P density (Guard guard) same ends = same
 by-density P density (Density chosen) same ends = same
 
 -- whether an operation is asked for
@@ -34,6 +35,7 @@ operates Reset = false
 operates (Code code) = false
 operates (Track track) = false
 operates (Enable enable) = false
+operates (Guard guard) = false
 operates (Density chosen) = false
 
 -- an operation that is left was asked for

@@ -11,16 +11,19 @@ use Rattle.operations.specs.Operation.{suppliesCount}
 use Rattle.operations.specs.declared.operation.Operation.{Operation}
 use Rattle.operations.specs.declared.operation.Operation.the-variants.{Read, CheckBytes, SuppliedCount, Write, Erase, Rewind, FastForward, SkipForward, SkipReverse, SearchForward, SearchReverse, WriteMark}
 use Rattle.operations.specs.declared.decode.Decoded.{Decoded}
-use Rattle.operations.specs.declared.decode.Decoded.the-variants.{Reset, Code, Track, Enable, Density, Operate}
+use Rattle.operations.specs.declared.decode.Decoded.the-variants.{Reset, Code, Track, Enable, Guard, Density, Operate}
 
 -- "3, by last operand byte: 00-03 track, 04-07 code 03; 08/09 clear/set enable; 0C/0D density 0/1; 10 rewind, 11 fast forward, 20/21
--- skip forward/reverse, 22/23 mark search forward/reverse, 24 write mark; others code 02"
+-- skip forward/reverse, 22/23 mark search forward/reverse, 24 write mark; others code 02"; "Control values 0A and 0B clear and set a guard on the selected
+-- drive" (document 02, Wish 7)
 unfoldable pub controlOf : ℕ → Decoded
 controlOf value =
     pick (leb value 0x03) (Track value)
     (pick (leb value 0x07) (Code illegalTrack)
     (pick (eqb value 0x08) (Enable false)
     (pick (eqb value 0x09) (Enable true)
+    (pick (eqb value 0x0A) (Guard false)
+    (pick (eqb value 0x0B) (Guard true)
     (pick (eqb value 0x0C) (Density 0)
     (pick (eqb value 0x0D) (Density 1)
     (pick (eqb value 0x10) (Operate Rewind)
@@ -29,7 +32,7 @@ controlOf value =
     (pick (eqb value 0x21) (Operate SkipReverse)
     (pick (eqb value 0x22) (Operate SearchForward)
     (pick (eqb value 0x23) (Operate SearchReverse)
-    (pick (eqb value 0x24) (Operate WriteMark) (Code illegalStore)))))))))))))
+    (pick (eqb value 0x24) (Operate WriteMark) (Code illegalStore)))))))))))))))
 
 -- "last two: count. Above 16,384 is code 02."; of a supplied count, "a count above the record limit is code 02"
 unfoldable pub countedOf : Operation → ℕ → Decoded
@@ -58,4 +61,5 @@ inDensity density Reset = Reset
 inDensity density (Code code) = Code code
 inDensity density (Track track) = Track track
 inDensity density (Enable enable) = Enable enable
+inDensity density (Guard guard) = Guard guard
 inDensity density (Density chosen) = Density chosen

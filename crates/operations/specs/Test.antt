@@ -1,8 +1,9 @@
--- The tape test (document 01, Stores: "Code 04 unless: ..") over a drive's report.
+-- The tape test (document 01, Stores: "Code 04 unless: ..") over a drive's record.
 -- Assumes nothing.
 use Prim.Native.Nat.{ℕ}
-use mathlib.Core.Bool.{Bool, true, not, _&&_}
-use Rattle.status.specs.Drives.{eot, installed, protected, positionUnknown, selectable, bot, reports}
+use mathlib.Core.Bool.{Bool, true, not, _&&_, _||_}
+use lib.Dec.{eqb}
+use Rattle.status.specs.Drives.{eot, installed, botWarning, protected, positionUnknown, selectable, bot, gapProper, reports}
 use Rattle.operations.specs.declared.operation.Move.{Move}
 use Rattle.operations.specs.declared.operation.Move.the-variants.{Still, Forward, Reverse, Rewinding, Winding, Writing, Erasing}
 
@@ -22,16 +23,20 @@ isAheadFree report = isPlaced report && not (reports report eot)
 abbrev pub isBehindFree : ℕ → Bool
 isBehindFree report = isPlaced report && not (reports report bot)
 
--- "write, write mark and erase need not protected"
-abbrev pub isWritable : ℕ → Bool
-isWritable report = isAheadFree report && not (reports report protected)
+-- "While set, write, write mark and erase give code 04 unless the gap is 0 or BOT warning is reported." (document 02, Wish 7)
+abbrev pub isGuarded : Bool → ℕ → ℕ → Bool
+isGuarded guard gap report = guard && not (eqb gap gapProper || reports report botWarning)
 
--- "check bytes have no test"
-unfoldable pub mayMove : Move → ℕ → Bool
-mayMove Still report = true
-mayMove Forward report = isAheadFree report
-mayMove Reverse report = isBehindFree report
-mayMove Rewinding report = isReady report
-mayMove Winding report = isReady report
-mayMove Writing report = isWritable report
-mayMove Erasing report = isWritable report
+-- "write, write mark and erase need not protected", and no guard against it
+abbrev pub isWritable : ℕ → Bool → ℕ → Bool
+isWritable report guard gap = (isAheadFree report && not (reports report protected)) && not (isGuarded guard gap report)
+
+-- by the drive's report, its guard and its gap; "check bytes have no test"
+unfoldable pub mayMove : Move → ℕ → Bool → ℕ → Bool
+mayMove Still report guard gap = true
+mayMove Forward report guard gap = isAheadFree report
+mayMove Reverse report guard gap = isBehindFree report
+mayMove Rewinding report guard gap = isReady report
+mayMove Winding report guard gap = isReady report
+mayMove Writing report guard gap = isWritable report guard gap
+mayMove Erasing report guard gap = isWritable report guard gap

@@ -6,6 +6,7 @@ use crate::operation::move_of;
 use crate::test::may_move;
 use status::drives::Drive;
 use status::drives::with_density;
+use status::drives::with_guard;
 use status::drives::with_track;
 ghost use mathlib.Core.Path.{_≡_};
 ghost use Rattle.operations.specs.Course.{testOf, courseOf};
@@ -23,7 +24,7 @@ pub enum Course {
 fn test_of(drive: Drive, operation: Operation) -> Course
     ensures { λ r. ⌜ r ≡ testOf drive operation ⌝ }
 {
-    if may_move(move_of(operation), drive.report) {
+    if may_move(move_of(operation), drive) {
         return Course::Begin(operation);
     }
     Course::End(ILLEGAL_MOTION)
@@ -38,6 +39,7 @@ pub fn course_of(drive: Drive, asked: Decoded) -> Course
         Decoded::Code(code) => Course::End(code),
         Decoded::Track(track) => Course::Set(with_track(drive, track)),
         Decoded::Enable(enable) => Course::Enable(enable),
+        Decoded::Guard(guard) => Course::Set(with_guard(drive, guard)),
         Decoded::Density(density) => Course::Set(with_density(drive, density)),
         Decoded::Operate(operation) => test_of(drive, operation),
     }

@@ -14,6 +14,7 @@ pub enum Decoded {
     Code(u8),
     Track(u8),
     Enable(bool),
+    Guard(bool),
     Density(u8),
     Operate(Operation),
 }
@@ -27,6 +28,8 @@ fn control_of(value: u8) -> Decoded
         0x04..=0x07 => Decoded::Code(ILLEGAL_TRACK),
         0x08 => Decoded::Enable(false),
         0x09 => Decoded::Enable(true),
+        0x0A => Decoded::Guard(false),
+        0x0B => Decoded::Guard(true),
         0x0C => Decoded::Density(0),
         0x0D => Decoded::Density(1),
         0x10 => Decoded::Operate(Operation::Rewind),

@@ -1,14 +1,17 @@
-// The tape test: whether a drive with this report may carry an operation out.
+// The tape test: whether a drive may carry an operation out.
 use crate::operation::Move;
 use status::drives::BOT;
+use status::drives::BOT_WARNING;
+use status::drives::Drive;
 use status::drives::EOT;
+use status::drives::GAP_PROPER;
 use status::drives::INSTALLED;
 use status::drives::POSITION_UNKNOWN;
 use status::drives::PROTECTED;
 use status::drives::SELECTABLE;
 use status::drives::reports;
 ghost use mathlib.Core.Path.{_≡_};
-ghost use Rattle.operations.specs.Test.{isReady, isPlaced, isAheadFree, isBehindFree, isWritable, mayMove};
+ghost use Rattle.operations.specs.Test.{isReady, isPlaced, isAheadFree, isBehindFree, isGuarded, isWritable, mayMove};
 
 // A tape that is there and a drive that can be selected.
 fn is_ready(report: u8) -> bool
@@ -38,24 +41,31 @@ fn is_behind_free(report: u8) -> bool
     is_placed(report) & !reports(report, BOT)
 }
 
-// Tape ahead that may be written.
-fn is_writable(report: u8) -> bool
-    ensures { λ r. ⌜ r ≡ isWritable report ⌝ }
+// A guard against writing out of a bad gap.
+fn is_guarded(drive: Drive) -> bool
+    ensures { λ r. ⌜ r ≡ isGuarded (drive .guard) (drive .gap) (drive .report) ⌝ }
 {
-    is_ahead_free(report) & !reports(report, PROTECTED)
+    drive.guard & !((drive.gap == GAP_PROPER) | reports(drive.report, BOT_WARNING))
 }
 
-// Whether tape may move so.
-pub fn may_move(movement: Move, report: u8) -> bool
-    ensures { λ r. ⌜ r ≡ mayMove movement report ⌝ }
+// Tape ahead that may be written.
+fn is_writable(drive: Drive) -> bool
+    ensures { λ r. ⌜ r ≡ isWritable (drive .report) (drive .guard) (drive .gap) ⌝ }
+{
+    is_ahead_free(drive.report) & !reports(drive.report, PROTECTED) & !is_guarded(drive)
+}
+
+// Whether the tape of this drive may move so.
+pub fn may_move(movement: Move, drive: Drive) -> bool
+    ensures { λ r. ⌜ r ≡ mayMove movement (drive .report) (drive .guard) (drive .gap) ⌝ }
 {
     match movement {
         Move::Still => true,
-        Move::Forward => is_ahead_free(report),
-        Move::Reverse => is_behind_free(report),
-        Move::Rewinding => is_ready(report),
-        Move::Winding => is_ready(report),
-        Move::Writing => is_writable(report),
-        Move::Erasing => is_writable(report),
+        Move::Forward => is_ahead_free(drive.report),
+        Move::Reverse => is_behind_free(drive.report),
+        Move::Rewinding => is_ready(drive.report),
+        Move::Winding => is_ready(drive.report),
+        Move::Writing => is_writable(drive),
+        Move::Erasing => is_writable(drive),
     }
 }

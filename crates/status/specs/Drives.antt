@@ -1,7 +1,7 @@
 -- The drives (document 01, The drives).
 -- Assumes nothing.
 use Prim.Native.Nat.{ℕ, _/_, _%_}
-use mathlib.Core.Bool.{Bool, not, _||_}
+use mathlib.Core.Bool.{Bool, false, not, _||_}
 use lib.Dec.{eqb}
 use Rattle.common.specs.Pick.{pick}
 use Rattle.status.specs.declared.drives.Drive.{Drive}
@@ -82,11 +82,13 @@ withReport drive report =
       track = drive .track;
       density = drive .density;
       gap = pick (reports report installed) (drive .gap) gapLost;
+      guard = drive .guard;
     }
 
 -- a drive with another gap
 abbrev pub withGap : Drive → ℕ → Drive
-withGap drive gap = record { report = drive .report; reviewed = drive .reviewed; track = drive .track; density = drive .density; gap = gap }
+withGap drive gap =
+    record { report = drive .report; reviewed = drive .reviewed; track = drive .track; density = drive .density; gap = gap; guard = drive .guard }
 
 -- "A new track sets the gap to 0 if BOT is reported, else 3; the same track changes nothing."
 unfoldable pub withTrack : Drive → ℕ → Drive
@@ -98,12 +100,18 @@ withTrack drive track =
       track = track;
       density = drive .density;
       gap = pick (reports (drive .report) bot) gapProper gapLost;
+      guard = drive .guard;
     })
 
 -- "0C/0D density 0/1"
 abbrev pub withDensity : Drive → ℕ → Drive
 withDensity drive density =
-    record { report = drive .report; reviewed = drive .reviewed; track = drive .track; density = density; gap = drive .gap }
+    record { report = drive .report; reviewed = drive .reviewed; track = drive .track; density = density; gap = drive .gap; guard = drive .guard }
+
+-- "Control values 0A and 0B clear and set a guard on the selected drive" (document 02, Wish 7)
+abbrev pub withGuard : Drive → Bool → Drive
+withGuard drive guard =
+    record { report = drive .report; reviewed = drive .reviewed; track = drive .track; density = drive .density; gap = drive .gap; guard = guard }
 
 -- "density .. (MFM; 1 is GCR)": any but 0
 abbrev pub isGcr : Drive → Bool
@@ -118,15 +126,16 @@ anyDiffers drives =
 
 -- a drive whose report is copied
 abbrev pub copyReport : Drive → Drive
-copyReport drive = record { report = drive .report; reviewed = drive .report; track = drive .track; density = drive .density; gap = drive .gap }
+copyReport drive =
+    record { report = drive .report; reviewed = drive .report; track = drive .track; density = drive .density; gap = drive .gap; guard = drive .guard }
 
 -- ".. then copies all four."
 unfoldable pub copyReports : Drives → Drives
 copyReports drives = record { d0 = copyReport (drives .d0); d1 = copyReport (drives .d1); d2 = copyReport (drives .d2); d3 = copyReport (drives .d3) }
 
--- "track 0, density 0 (MFM; 1 is GCR), gap 3", with a report that is copied as reviewed
+-- "track 0, density 0 (MFM; 1 is GCR), gap 3", with a report that is copied as reviewed; of the guard, "it starts clear, and a reset clears it"
 abbrev pub freshWith : ℕ → Drive
-freshWith report = record { report = report; reviewed = report; track = 0; density = mfm; gap = gapLost }
+freshWith report = record { report = report; reviewed = report; track = 0; density = mfm; gap = gapLost; guard = false }
 
 -- "Fresh: report 4 and reviewed copy 4 for each"
 unfoldable pub freshDrives : Drives

@@ -1,7 +1,7 @@
 // The four drives. Their records are named fields, so that no index has to be shown to be in range.
 ghost use mathlib.Core.Path.{_≡_};
 ghost use Prim.Native.Nat.{_≤_};
-ghost use Rattle.status.specs.Drives.{reports, driveOf, withDrive, withReport, withGap, withTrack, withDensity, isGcr, anyDiffers, copyReport, copyReports, freshWith, freshDrives, resetDrives};
+ghost use Rattle.status.specs.Drives.{reports, driveOf, withDrive, withReport, withGap, withTrack, withDensity, withGuard, isGcr, anyDiffers, copyReport, copyReports, freshWith, freshDrives, resetDrives};
 
 // The bits of a report.
 pub const EOT: u8 = 128;
@@ -36,13 +36,14 @@ pub const MFM: u8 = 0;
 
 pub const GCR: u8 = 1;
 
-// A drive's report, the copy that the last review took of it, and its track (0-3), density and gap.
+// A drive's report, the copy that the last review took of it, its track (0-3), density and gap, and whether writing out of a bad gap is guarded against.
 pub struct Drive {
     pub report: u8,
     pub reviewed: u8,
     pub track: u8,
     pub density: u8,
     pub gap: u8,
+    pub guard: bool,
 }
 
 pub struct Drives {
@@ -128,6 +129,14 @@ pub fn with_density(mut drive: Drive, density: u8) -> Drive
     drive
 }
 
+// A drive with its guard cleared or set.
+pub fn with_guard(mut drive: Drive, guard: bool) -> Drive
+    ensures { λ r. ⌜ r ≡ withGuard drive guard ⌝ }
+{
+    drive.guard = guard;
+    drive
+}
+
 // Whether a drive is set to GCR.
 pub fn is_gcr(drive: Drive) -> bool
     ensures { λ r. ⌜ r ≡ isGcr drive ⌝ }
@@ -175,6 +184,7 @@ fn fresh_with(report: u8) -> Drive
         track: 0,
         density: MFM,
         gap: GAP_LOST,
+        guard: false,
     }
 }
 

@@ -25,6 +25,8 @@ struct Run {
     output: Vec<u8>,
     /// Why it did not end as it should, if so.
     trouble: Option<String>,
+    /// Whether that is for want of time.
+    late: bool,
 }
 
 #[derive(Clone, Debug, PartialEq, Eq)]
@@ -33,6 +35,8 @@ pub struct Difference {
     pub line: usize,
     pub machine: String,
     pub program: String,
+    /// Whether the program had not ended in time.
+    pub late: bool,
 }
 
 impl Program {
@@ -65,12 +69,14 @@ impl Program {
         let mut run = Run {
             output: Vec::new(),
             trouble: None,
+            late: false,
         };
         loop {
             match received.recv_timeout(end.saturating_duration_since(Instant::now())) {
                 Ok(piece) => run.output.extend_from_slice(&piece),
                 Err(mpsc::RecvTimeoutError::Disconnected) => break,
                 Err(mpsc::RecvTimeoutError::Timeout) => {
+                    run.late = true;
                     run.trouble = Some(format!("hangs ({} s)", time_limit.as_secs_f32()));
                     break;
                 }
@@ -82,6 +88,7 @@ impl Program {
                 Some(status) if status.success() => return Ok(run),
                 Some(status) => run.trouble = Some(format!("ended with {status}")),
                 None if Instant::now() >= end => {
+                    run.late = true;
                     run.trouble = Some("does not end after its output".to_string());
                 }
                 None => std::thread::sleep(Duration::from_micros(200)),
@@ -127,6 +134,7 @@ impl Program {
                     line,
                     machine,
                     program,
+                    late: run.late,
                 }));
             }
             line += 1;
@@ -142,8 +150,13 @@ impl Program {
         let end = Instant::now() + SHRINK_LIMIT;
         let mut kept: Vec<Vec<u8>> = lines::split(session).map(<[u8]>::to_vec).collect();
         let mut difference = found;
-        // A hanging program is asked often: a short wait must do where it is long enough.
-        let limit = self.time_limit.min(Duration::from_secs(2));
+        // A hanging program is asked often, so a short wait must do. Any other keeps its time: on a
+        // busy computer a slow answer would pass for the difference.
+        let limit = if difference.late {
+            self.time_limit.min(Duration::from_secs(2))
+        } else {
+            self.time_limit
+        };
         let cut: Vec<Vec<u8>> = kept[..kept.len().min(difference.line + 1)].to_vec();
         if let Some(again) = self.difference_within(&join(&cut), limit)? {
             kept = cut;

@@ -1,7 +1,7 @@
 //! Random sessions that go deep: the generator runs the machine, so it knows what is awaited.
 
 use crate::lines::{write_hex, Session, HOST_LIMIT, IMAGE_LIMIT, MARKS_LIMIT};
-use crate::machine::{code, link, report, Entry, Job, Operation, Phase, OPERATIONS};
+use crate::machine::{code, link, report, Drive, Entry, Job, Operation, Phase, OPERATIONS};
 use crate::records::{self, Density, BLOCKETTE, GOOD, RECORD_LIMIT, TORN};
 use std::collections::VecDeque;
 
@@ -187,6 +187,8 @@ impl Generator {
                 0 => self.stray(),
                 // No data will do: only a reset goes on.
                 1..=9 if !self.image_fits(job) => self.reset_and_look(),
+                // The guard was looked at when the store was carried out, and is not again.
+                10..=16 if self.selected().guard => self.gap_gone(),
                 _ => {
                     let length = self.host_length(job);
                     self.data_line(length)
@@ -218,9 +220,12 @@ impl Generator {
 
     /// Whether the image of a write has room in the program's image space.
     fn image_fits(&self, job: Job) -> bool {
+        records::image_length(job.count(), self.selected().density) <= IMAGE_LIMIT
+    }
+
+    fn selected(&self) -> &Drive {
         let machine = &self.session.machine;
-        let density = machine.drives[machine.selected].density;
-        records::image_length(job.count(), density) <= IMAGE_LIMIT
+        &machine.drives[machine.selected]
     }
 
     /// A reset and a look at the check bytes, which it keeps.
@@ -244,6 +249,15 @@ impl Generator {
         report_line(drive, if self.random.chance(50) { 4 } else { gone })
     }
 
+    /// What would make a write refused if its guard were looked at now: the gap or the warning goes.
+    fn gap_gone(&mut self) -> Vec<u8> {
+        if self.random.chance(30) {
+            self.tape_gone()
+        } else {
+            report_line(self.session.machine.selected, READY)
+        }
+    }
+
     fn when_idle(&mut self) -> Vec<u8> {
         if self.looks > 0 {
             self.looks -= 1;
@@ -256,8 +270,8 @@ impl Generator {
             self.planned.push_back(b"K".to_vec());
         } else if self.gcr_drives() < 2 && self.random.chance(25) {
             // Resets make all drives MFM; the deeper rules are those of GCR.
-            let drive = self.random.below(4) as u8;
-            self.plan_string(vec![link::STORE, 0x38 | drive, 0, 0, 0, 0x0D, 0]);
+            let drive = self.random.below(4);
+            self.plan_control(drive, 0x0D);
         } else if let Some(line) = self.plan_anything() {
             return line;
         }
@@ -411,6 +425,9 @@ impl Generator {
         if self.supplied && self.random.chance(16) {
             return self.plan_supplied();
         }
+        if self.random.chance(10) {
+            return self.plan_guarded();
+        }
         let operations = self.operations();
         let random = &mut self.random;
         let mut address = 0;
@@ -446,12 +463,14 @@ impl Generator {
             14 => control(&mut operand, random.byte()),
             15 => random.pick(&[1, 2, 7]),
             16 => 4,
-            17..=19 => {
+            17..=19 | 23 => {
                 started = Some(Operation::Write);
                 operand[2..].copy_from_slice(&long_count(random).to_be_bytes());
                 5
             }
             20 if random.chance(30) => 0,
+            21 => control(&mut operand, 0x0A),
+            22 => control(&mut operand, 0x0B),
             other => {
                 let operation = match other {
                     20..=39 => Operation::Read,
@@ -494,10 +513,12 @@ impl Generator {
         };
         // Most operations are to start: the drive is made ready where it is not.
         if let Some(operation) = started {
-            let ready = operation.may_start(&self.session.machine.drives[drive]);
-            if !ready && self.random.chance(75) {
+            let state = self.session.machine.drives[drive];
+            if !operation.passes_report(&state) && self.random.chance(75) {
                 let line = self.good_report(drive);
                 self.planned.push_back(line);
+            } else if !operation.may_start(&state) && self.random.chance(60) {
+                self.plan_control(drive, 0x0A);
             }
         }
         // Chance may have made one.
@@ -520,8 +541,7 @@ impl Generator {
         }
         let state = self.session.machine.drives[drive];
         if state.density == Density::Mfm && self.random.chance(80) {
-            self.plan_string(vec![link::STORE, 0x38 | drive as u8, 0, 0, 0, 0x0D, 0]);
-            self.planned.push_back(b"T".to_vec());
+            self.plan_control(drive, 0x0D);
         }
         if !Operation::SuppliedCount.may_start(&state) && self.random.chance(75) {
             let line = self.good_report(drive);
@@ -555,6 +575,91 @@ impl Generator {
         let [high, low] = count.to_be_bytes();
         let unused = random.pick(&[0, 0, 0, 0x5A]);
         self.plan_string(vec![link::STORE, address, first, second, high, low, unused]);
+    }
+
+    /// A gap of some kind, a guard, what may come between, and something that changes the tape.
+    fn plan_guarded(&mut self) {
+        let drive = self.random.below(4);
+        self.planned.push_back(report_line(drive, READY));
+        self.plan_gap(drive);
+        let guard = 0x0A | self.random.chance(85) as u8;
+        self.plan_control(drive, guard);
+        let other = self.random.below(4);
+        match self.random.below(16) {
+            0 => self.planned.push_back(b"Z".to_vec()),
+            1 => {
+                self.plan_string(vec![link::STORE, other as u8, 0, 0, 0, 0, 0]);
+                self.planned.push_back(b"T".to_vec());
+            }
+            2 | 3 => {
+                let value = self.random.pick(&[0x0A, 0x0B]);
+                self.plan_control(other, value);
+            }
+            4 => self.planned.push_back(report_line(drive, 0)),
+            5 => {
+                let value = self.random.pick(&[0, 1, 2, 3, 0x0C, 0x0D]);
+                self.plan_control(drive, value);
+            }
+            6 | 7 => self.plan_gap(drive),
+            _ => {}
+        }
+        let warning = report::BOT_WARNING;
+        let hindrance = self.random.pick(&[report::PROTECTED, report::EOT]);
+        let bits = match self.random.below(12) {
+            0..=2 => 0,
+            3 => hindrance,
+            4..=6 => warning,
+            7 | 8 => warning | hindrance,
+            9 | 10 => report::BOT,
+            _ => 1 << self.random.below(8),
+        };
+        self.planned.push_back(report_line(drive, READY ^ bits));
+        let drive = if self.random.chance(85) { drive } else { other };
+        let named = 0x08 | drive as u8;
+        let count = self.random.below(4) as u8;
+        let others = [Operation::FastForward, Operation::SkipReverse];
+        let (address, value) = match self.random.below(14) {
+            0..=4 => (0x50, count),
+            5..=7 => (0x30, Operation::WriteMark.order()),
+            8..=10 => (0x60, count),
+            11 => (0x40, 0),
+            _ => (0x30, self.random.pick(&others).order()),
+        };
+        self.plan_string(vec![link::STORE, address | named, 0, 0, 0, value, 0]);
+        self.looks = 1;
+        self.look_at_primary = true;
+    }
+
+    /// Brings a drive with tape to a gap of some kind.
+    fn plan_gap(&mut self, drive: usize) {
+        let mut moves = Vec::new();
+        match self.random.below(7) {
+            0 | 1 => moves.push((Operation::Rewind, code::GOOD)),
+            2 => moves.push((Operation::SkipForward, 0x0A)),
+            3 | 4 => {
+                // A guard lets nothing out of a bad gap that could spoil it further.
+                if self.session.machine.drives[drive].guard {
+                    moves.push((Operation::Rewind, code::GOOD));
+                }
+                moves.push((Operation::WriteMark, 0x0B));
+            }
+            5 => {
+                self.planned.push_back(report_line(drive, 0));
+                self.planned.push_back(report_line(drive, READY));
+            }
+            _ => {}
+        }
+        for (operation, code) in moves {
+            self.plan_control(drive, operation.order());
+            let result = format!("R,{code:02X},0,0,,,0");
+            self.planned.push_back(result.into_bytes());
+        }
+    }
+
+    /// Plans a store to operation 3 that names the drive, and its taken.
+    fn plan_control(&mut self, drive: usize, value: u8) {
+        self.plan_string(vec![link::STORE, 0x38 | drive as u8, 0, 0, 0, value, 0]);
+        self.planned.push_back(b"T".to_vec());
     }
 
     /// Plans the bytes with their check byte, now and then a wrong one or a break.
@@ -629,7 +734,7 @@ impl Generator {
         let warning = self
             .random
             .pick(&[0, 0, 0, report::EOT_WARNING, report::BOT_WARNING]);
-        report_line(drive, report::INSTALLED | report::SELECTABLE | warning)
+        report_line(drive, READY | warning)
     }
 
     fn any_report(&mut self) -> Vec<u8> {
@@ -643,7 +748,7 @@ impl Generator {
             // Ready but for one bit.
             2..=4 => {
                 let bit = 1 << self.random.below(8);
-                report_line(drive, (report::INSTALLED | report::SELECTABLE) ^ bit)
+                report_line(drive, READY ^ bit)
             }
             _ => self.good_report(drive),
         }
@@ -683,8 +788,7 @@ impl Generator {
         if let Some(count) = job.supplied() {
             return self.supplied_result(count);
         }
-        let machine = &self.session.machine;
-        let density = machine.drives[machine.selected].density;
+        let density = self.selected().density;
         let random = &mut self.random;
         let operation = job.operation;
         let mut codes = operation.listed().to_vec();
@@ -733,9 +837,9 @@ impl Generator {
             && code == 0
             && !mark
         {
-            let count = match random.below(2) {
-                0 => long_count(random),
-                _ => record_length(random) as u16,
+            let count = match random.below(3) {
+                0 => record_length(random) as u16,
+                _ => long_count(random),
             };
             line.image = records::count_bytes(count).to_vec();
         }
@@ -810,7 +914,7 @@ impl Generator {
         let random = &mut self.random;
         let first = random.below(length);
         let error = |random: &mut Random| 1 + random.below(9) as u8;
-        match random.below(12) {
+        match random.below(13) {
             0 | 1 => {}
             2 | 3 => marks[first] = error(random),
             4 => {
@@ -827,7 +931,7 @@ impl Generator {
                 };
                 marks[other] = error(random);
             }
-            6 => {
+            6 | 12 => {
                 marks[first] = error(random);
                 let check = length - 1 - random.below(2);
                 marks[check] = error(random);
@@ -1011,6 +1115,9 @@ S,99999999999999999999999,22|S,18446744073709551616,22|\
 D|D,0|D,000|D,0g|D,AA,|D,AA,BB|D,aa|D,A A|Q|?|#K|\xEF\xBB\xBFK|\
 R|R,|R,00,0,0,,|R,00,0,0,,,0,|R,,0,0,,,0";
 
+/// The report of a drive that passes every test.
+const READY: u8 = report::INSTALLED | report::SELECTABLE;
+
 fn byte_line(byte: u8) -> Vec<u8> {
     format!("B,{byte:02X}").into_bytes()
 }
@@ -1066,7 +1173,7 @@ fn long_count(random: &mut Random) -> u16 {
     let fits = IMAGE_LIMIT - 2;
     let count = match random.below(12) {
         0 | 1 => first,
-        2 => first + random.below(fits - first),
+        2 | 10 => first + random.below(fits - first),
         3 => fits,
         4 => fits + 1,
         5 => 0x7FFF + random.below(2),

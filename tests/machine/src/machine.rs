@@ -1,6 +1,6 @@
 //! The controller: its state and the eight calls, as document 01 has them, with document 02's first
-//! three wishes and its sixth: the read whose count the host supplies, the retry bit that hosts can
-//! trust, records of 65,535 bytes, and host bytes with bad parity.
+//! three wishes, its sixth and its seventh: the read whose count the host supplies, the retry bit that
+//! hosts can trust, records of 65,535 bytes, host bytes with bad parity, and a write guard for each drive.
 //!
 //! Refusal 1, a damaged state, is not here: the state's types and the calls keep it whole.
 
@@ -109,7 +109,7 @@ pub const IDENTITY: u32 = 0x0A20_0000;
 // ---------------------------------------------------------------------------------------------
 
 /// The gap under the head.
-#[derive(Clone, Copy, Debug, PartialEq, Eq)]
+#[derive(Clone, Copy, Debug, PartialEq, Eq, Hash, PartialOrd, Ord)]
 pub enum Gap {
     Proper = 0,
     Improper = 1,
@@ -259,8 +259,13 @@ impl Operation {
         )
     }
 
-    /// What a drive must report before the operation may start.
+    /// Whether the operation may start: by the drive's report, and by its guard.
     pub fn may_start(self, drive: &Drive) -> bool {
+        self.passes_report(drive) && !(self.is_recording() && drive.is_guarded())
+    }
+
+    /// What a drive must report before the operation may start.
+    pub fn passes_report(self, drive: &Drive) -> bool {
         let wind = matches!(self, Operation::Rewind | Operation::FastForward);
         let toward_end = self.is_forward_move() || self.is_recording();
         !self.moves_tape()
@@ -335,6 +340,8 @@ pub struct Drive {
     pub track: u8,
     pub density: Density,
     pub gap: Gap,
+    /// Whether a bad gap is to be kept from being written out of.
+    pub guard: bool,
 }
 
 impl Drive {
@@ -345,11 +352,17 @@ impl Drive {
             track: 0,
             density: Density::Mfm,
             gap: Gap::Lost,
+            guard: false,
         }
     }
 
     pub fn reports(&self, bit: u8) -> bool {
         self.report & bit != 0
+    }
+
+    /// Whether the guard refuses what changes the tape; near its beginning any gap will do.
+    pub fn is_guarded(&self) -> bool {
+        self.guard && self.gap != Gap::Proper && !self.reports(report::BOT_WARNING)
     }
 }
 
@@ -463,6 +476,7 @@ enum Decoded {
     Code(u8),
     Track(u8),
     Enable(bool),
+    Guard(bool),
     Density(Density),
     Operation(Operation),
 }
@@ -476,6 +490,12 @@ fn decode(operation: u8, operand: [u8; 4], density: Density, mutant: Option<Muta
             0x04..=0x07 => Decoded::Code(code::NO_SUCH_TRACK),
             0x08 => Decoded::Enable(false),
             0x09 => Decoded::Enable(true),
+            0x0A | 0x0B if mutant == Some(Mutant::GuardNotKnown) => {
+                Decoded::Code(code::NO_SUCH_OPERATION)
+            }
+            value @ (0x0A | 0x0B) => {
+                Decoded::Guard((value == 0x0B) != (mutant == Some(Mutant::GuardExchanged)))
+            }
             0x0C => Decoded::Density(Density::Mfm),
             0x0D => Decoded::Density(Density::Gcr),
             0x10 => Decoded::Operation(Operation::Rewind),
@@ -698,6 +718,7 @@ impl Machine {
         drive.report = report;
         if !drive.reports(report::INSTALLED) {
             drive.gap = Gap::Lost;
+            drive.guard &= self.mutant != Some(Mutant::GuardClearedByReport);
         }
         Ok(Action::None)
     }
@@ -731,6 +752,11 @@ impl Machine {
         }
         if place_refused {
             return Err(Refusal::Place);
+        }
+        let guard_tested = self.wrong(Mutant::GuardAtData) || self.wrong(Mutant::GuardAtDataToo);
+        if guard_tested && self.drive().is_guarded() {
+            self.settle(code::NOT_READY, motion::NONE, true);
+            return Ok((self.end(job), 0));
         }
 
         // Nothing behind a bad byte is taken, as if the host had ended with it.
@@ -959,6 +985,9 @@ impl Machine {
         if let Some(gap) = job.operation.gap(code) {
             self.drive_mut().gap = gap;
         }
+        if self.wrong(Mutant::GuardClearedByResult) {
+            self.drive_mut().guard = false;
+        }
         Ok((self.end(job), delivered))
     }
 
@@ -976,15 +1005,24 @@ impl Machine {
         }
     }
 
-    /// Fresh, but for the reports, which count as reviewed.
+    /// The reset by call.
     pub fn reset(&mut self) -> Answer {
-        let drives = self.drives.map(|drive| Drive::fresh(drive.report));
+        self.start_anew(Mutant::GuardKeptByCall);
+        Ok(Action::None)
+    }
+
+    /// Fresh, but for the reports, which count as reviewed; the mutant keeps the guards as well.
+    fn start_anew(&mut self, keeps_guards: Mutant) {
+        let kept = self.wrong(keeps_guards);
+        let drives = self.drives.map(|drive| Drive {
+            guard: drive.guard && kept || self.wrong(Mutant::GuardSetByReset),
+            ..Drive::fresh(drive.report)
+        });
         *self = Machine {
             drives,
             mutant: self.mutant,
             ..Machine::fresh()
         };
-        Ok(Action::None)
     }
 
     // -----------------------------------------------------------------------------------------
@@ -1079,6 +1117,7 @@ impl Machine {
         } else {
             self.outcome = 0;
         }
+        let last_drive = self.selected;
         let last_density = self.drive().density;
         if names_drive {
             if number > 3 {
@@ -1086,6 +1125,9 @@ impl Machine {
             }
             if self.wrong(Mutant::DensityOfLastDrive) {
                 self.drives[number].density = self.drive().density;
+            }
+            if self.wrong(Mutant::GuardOfLastDrive) {
+                self.drives[number].guard = self.drive().guard;
             }
             self.selected = number;
         }
@@ -1104,10 +1146,11 @@ impl Machine {
         match decoded {
             Decoded::Code(code) => self.end_with(code, interrupt),
             Decoded::Reset => {
-                let _ = self.reset();
+                self.start_anew(Mutant::GuardKeptByStore);
                 Action::None
             }
             Decoded::Track(track) => {
+                let track_clears = self.wrong(Mutant::GuardClearedByTrack);
                 let drive = self.drive_mut();
                 if drive.track != track {
                     drive.track = track;
@@ -1116,6 +1159,7 @@ impl Machine {
                     } else {
                         Gap::Lost
                     };
+                    drive.guard &= !track_clears;
                 }
                 self.complete(interrupt)
             }
@@ -1123,8 +1167,12 @@ impl Machine {
                 self.enable = enable;
                 self.complete(interrupt)
             }
+            Decoded::Guard(guard) => self.set_guard(guard, last_drive, interrupt),
             Decoded::Density(density) => {
-                self.drive_mut().density = density;
+                let clears = self.wrong(Mutant::GuardClearedByDensity);
+                let drive = self.drive_mut();
+                drive.density = density;
+                drive.guard &= !clears;
                 self.complete(interrupt)
             }
             Decoded::Operation(operation) => self.start(Job {
@@ -1135,13 +1183,44 @@ impl Machine {
         }
     }
 
+    /// Clears or sets the guard of the selected drive, whatever that reports.
+    fn set_guard(&mut self, guard: bool, last_drive: usize, interrupt: bool) -> Action {
+        if self.wrong(Mutant::GuardTested) && !Operation::Rewind.passes_report(self.drive()) {
+            return self.end_with(code::NOT_READY, interrupt);
+        }
+        let drive = match self.mutant {
+            Some(Mutant::GuardStoreOfLastDrive) => last_drive,
+            Some(Mutant::GuardOfDrive1OnDrive0) if self.selected == 1 => 0,
+            _ => self.selected,
+        };
+        self.drives[drive].guard = guard;
+        match self.mutant {
+            Some(Mutant::GuardOfAllDrives) => {
+                for drive in &mut self.drives {
+                    drive.guard = guard;
+                }
+            }
+            Some(Mutant::GuardLosesGap) => self.drive_mut().gap = Gap::Lost,
+            _ => {}
+        }
+        self.complete(interrupt && !self.wrong(Mutant::GuardStoreSilent))
+    }
+
+    /// Whether the selected drive passes the test of an operation.
+    fn passes_test(&self, operation: Operation) -> bool {
+        match self.mutant {
+            Some(mutant) => mutant.passes_test(operation, self.drive()),
+            None => operation.may_start(self.drive()),
+        }
+    }
+
     fn start(&mut self, job: Job) -> Action {
         let operation = job.operation;
         let tested = match operation {
             Operation::SuppliedCount if self.wrong(Mutant::SuppliedTestOfWind) => Operation::Rewind,
             _ => operation,
         };
-        if !tested.may_start(self.drive()) {
+        if !self.passes_test(tested) {
             return self.end_with(code::NOT_READY, job.interrupt);
         }
         let keeps = match operation {

@@ -1,6 +1,6 @@
 //! Rules made wrong on purpose, one at a time, to show that the comparison notices each.
 
-use crate::machine::{code, primary, Entry, Operation, OPERATIONS};
+use crate::machine::{code, primary, report, Drive, Entry, Gap, Operation, OPERATIONS};
 
 #[derive(Clone, Copy, Debug, PartialEq, Eq)]
 pub enum Mutant {
@@ -159,6 +159,53 @@ pub enum Mutant {
     PlaceNoneOutside,
     /// 15 before 11.
     PlaceBeforeSpace,
+    // The write guard.
+    /// 0A and 0B are code 02, as before.
+    GuardNotKnown,
+    /// 0A sets it and 0B clears it.
+    GuardExchanged,
+    /// A reset by call keeps it.
+    GuardKeptByCall,
+    /// A reset by store keeps it.
+    GuardKeptByStore,
+    /// A reset sets it.
+    GuardSetByReset,
+    /// A store that selects a drive takes the guard of the last one along.
+    GuardOfLastDrive,
+    /// It is set on the drive that was selected before.
+    GuardStoreOfLastDrive,
+    /// That of drive 1 is set on drive 0.
+    GuardOfDrive1OnDrive0,
+    /// There is one for all drives.
+    GuardOfAllDrives,
+    /// This operation does not look at it though it must, or does though it must not.
+    GuardTest(Operation),
+    /// This gap is taken for a good one, or gap 0 for a bad one.
+    GuardGap(Gap),
+    /// This bit of the report lets a write through, in place of BOT warning.
+    GuardBit(u8),
+    /// BOT warning does nothing for it.
+    GuardNoWarning,
+    /// While it is set, the other conditions are not looked at.
+    GuardAlone,
+    /// It is tested at the data call of a write, and not at the store.
+    GuardAtData,
+    /// It is tested at the data call as well.
+    GuardAtDataToo,
+    /// A report without 32 clears it.
+    GuardClearedByReport,
+    /// A new track clears it.
+    GuardClearedByTrack,
+    /// A density clears it.
+    GuardClearedByDensity,
+    /// It holds until the next result of the drive.
+    GuardClearedByResult,
+    /// Its store loses the gap.
+    GuardLosesGap,
+    /// Its store needs a tape.
+    GuardTested,
+    /// Its store gives no interrupt.
+    GuardStoreSilent,
 }
 
 /// What bears a count: a store, the image of a read or forward skip, that of a reverse skip.
@@ -208,6 +255,23 @@ impl Mutant {
             Mutant::RetryBitsWithGood if code != code::GOOD => 0,
             _ => right,
         }
+    }
+
+    /// Whether a drive passes the test of an operation.
+    pub fn passes_test(self, operation: Operation, drive: &Drive) -> bool {
+        let looks = match self {
+            Mutant::GuardAtData => operation.is_recording() && operation != Operation::Write,
+            _ => operation.is_recording() != (self == Mutant::GuardTest(operation)),
+        };
+        let bad_gap = (drive.gap != Gap::Proper) != (self == Mutant::GuardGap(drive.gap));
+        let lets_through = match self {
+            Mutant::GuardBit(bit) => bit,
+            Mutant::GuardNoWarning => 0,
+            _ => report::BOT_WARNING,
+        };
+        let guarded = drive.guard && bad_gap && !drive.reports(lets_through);
+        let alone = self == Mutant::GuardAlone && looks && drive.guard;
+        (alone || operation.passes_report(drive)) && !(looks && guarded)
     }
 
     /// Whether a bit of the outcome keeps the final code from asking a retry.
@@ -265,6 +329,24 @@ pub fn limits_lowered() -> Vec<Mutant> {
     mutants
 }
 
+/// All that decides about a guard, turned round one by one: which operations look at it, each gap,
+/// and every bit of the report that could stand for BOT warning.
+pub fn guards_turned_round() -> Vec<Mutant> {
+    let gaps = [Gap::Proper, Gap::Improper, Gap::UnfinishedWrite, Gap::Lost];
+    let bits = (0..8).map(|place| 1 << place);
+    let mut mutants = gaps.map(Mutant::GuardGap).to_vec();
+    // Check bytes have no test at all.
+    let tested = OPERATIONS
+        .into_iter()
+        .filter(|operation| operation.moves_tape());
+    mutants.extend(tested.map(Mutant::GuardTest));
+    mutants.extend(
+        bits.filter(|&bit| bit != report::BOT_WARNING)
+            .map(Mutant::GuardBit),
+    );
+    mutants
+}
+
 /// Wrong rules of the place of a bad byte, which no session hands in.
 pub const PLACES: [Mutant; 18] = [
     Mutant::PlaceZeroed,
@@ -289,7 +371,7 @@ pub const PLACES: [Mutant; 18] = [
 ];
 
 /// `--mutant N` counts from 1 in this order.
-pub const MUTANTS: [Mutant; 78] = [
+pub const MUTANTS: [Mutant; 107] = [
     Mutant::FourthNoGivesUp,
     Mutant::ChangedClearedUnaccepted,
     Mutant::CountValidLeft,
@@ -369,4 +451,33 @@ pub const MUTANTS: [Mutant; 78] = [
     Mutant::LongWriteDropped,
     Mutant::LongWriteClears,
     Mutant::LongWriteIsLength,
+    Mutant::GuardNotKnown,
+    Mutant::GuardExchanged,
+    Mutant::GuardKeptByCall,
+    Mutant::GuardKeptByStore,
+    Mutant::GuardSetByReset,
+    Mutant::GuardOfLastDrive,
+    Mutant::GuardStoreOfLastDrive,
+    Mutant::GuardOfDrive1OnDrive0,
+    Mutant::GuardOfAllDrives,
+    Mutant::GuardTest(Operation::Write),
+    Mutant::GuardTest(Operation::WriteMark),
+    Mutant::GuardTest(Operation::Erase),
+    Mutant::GuardTest(Operation::Read),
+    Mutant::GuardGap(Gap::Proper),
+    Mutant::GuardGap(Gap::Improper),
+    Mutant::GuardGap(Gap::UnfinishedWrite),
+    Mutant::GuardGap(Gap::Lost),
+    Mutant::GuardBit(report::BOT),
+    Mutant::GuardNoWarning,
+    Mutant::GuardAlone,
+    Mutant::GuardAtData,
+    Mutant::GuardAtDataToo,
+    Mutant::GuardClearedByReport,
+    Mutant::GuardClearedByTrack,
+    Mutant::GuardClearedByDensity,
+    Mutant::GuardClearedByResult,
+    Mutant::GuardLosesGap,
+    Mutant::GuardTested,
+    Mutant::GuardStoreSilent,
 ];

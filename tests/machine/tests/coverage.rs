@@ -2,7 +2,7 @@
 
 use machine::generator;
 use machine::lines::{self, Line, Session};
-use machine::machine::{link, primary, Action, Entry, Machine};
+use machine::machine::{link, primary, report, Action, Entry, Gap, Machine};
 use machine::machine::{Operation, Phase, Send, OPERATIONS};
 use machine::records::{self, Density, GOOD, NO_PLACE};
 use std::collections::BTreeMap;
@@ -42,6 +42,7 @@ fn count_session(seed: u64, counts: &mut Counts) {
         let refusal = String::from_utf8_lossy(out.split(|&byte| byte == b',').next().unwrap());
         count(format!("phase {}", phase_name(&after.phase)));
         count(format!("refusal {refusal}"));
+        count_guard(&before, lines::read(line), after, &mut count);
         if let (Phase::DataAwaited(job), Some(Line::Data(_))) = (before.phase, lines::read(line)) {
             if let Some(size) = long(job.count()) {
                 count(format!("data {density:?}, {size}: refusal {refusal}"));
@@ -200,6 +201,90 @@ fn count_session(seed: u64, counts: &mut Counts) {
     assert_eq!(number, LINES, "seed {seed}");
 }
 
+/// The guards: what a store meets, and what a report, a data call and a reset meet and leave.
+fn count_guard(
+    before: &Machine,
+    line: Option<Line>,
+    after: &Machine,
+    count: &mut impl FnMut(String),
+) {
+    let reset_by = match (before.phase, line) {
+        (_, Some(Line::Reset)) => "call",
+        (Phase::AckOffered { string }, Some(Line::Taken)) if string[0] == link::STORE => {
+            if string[1] >> 4 & 7 != 0 {
+                return count_guarded_store(&string, before, after, count);
+            }
+            "store"
+        }
+        (_, Some(Line::Report { drive, report })) => {
+            let guarded = before.drives.get(drive as usize).map(|drive| drive.guard);
+            if guarded == Some(true) && report & report::INSTALLED == 0 {
+                count(format!("guard: report without 32 on drive {drive}"));
+            }
+            return;
+        }
+        (Phase::DataAwaited(_), Some(Line::Data(_))) if after.phase != before.phase => {
+            let drive = before.drives[before.selected];
+            if drive.is_guarded() {
+                count(format!("guard: data, gap {:?}", drive.gap));
+            }
+            return;
+        }
+        _ => return,
+    };
+    for (number, drive) in before.drives.iter().enumerate() {
+        if drive.guard {
+            count(format!("guard: reset by {reset_by}, drive {number}"));
+        }
+    }
+}
+
+fn count_guarded_store(
+    string: &[u8; 8],
+    before: &Machine,
+    after: &Machine,
+    count: &mut impl FnMut(String),
+) {
+    let code = after.code();
+    let drive = before.drives[after.selected];
+    let operation = match (string[1] >> 4 & 7, string[5]) {
+        _ if code == 1 => return,
+        (3, value @ (0x0A | 0x0B)) => {
+            let was = if drive.guard { "set" } else { "clear" };
+            let ends = if matches!(after.phase, Phase::Sending { .. }) {
+                "with an interrupt"
+            } else {
+                "alone"
+            };
+            let named = format!("guard: {value:02X} where it is {was}");
+            count(format!("{named}, drive {}", after.selected));
+            return count(format!("{named}, {ends}"));
+        }
+        (3, value) => OPERATIONS
+            .into_iter()
+            .find(|operation| operation.order() == value),
+        (4, _) if string[2] == 0 => Some(Operation::Read),
+        (4, _) if string[2] == 0x80 => Some(Operation::SuppliedCount),
+        (5, _) => Some(Operation::Write),
+        (6, _) => Some(Operation::Erase),
+        _ => None,
+    };
+    let Some(operation) = operation.filter(|_| drive.guard && code != 2) else {
+        return;
+    };
+    let mut met = format!("gap {:?}", drive.gap);
+    if drive.reports(report::BOT_WARNING) {
+        met += ", BOT warning";
+    }
+    if drive.reports(report::BOT) {
+        met += ", BOT";
+    }
+    if !operation.passes_report(&drive) {
+        met += ", not ready";
+    }
+    count(format!("guard: {operation:?}, {met}: {code:02X}"));
+}
+
 /// The retry bit, with what decided about it.
 fn count_retry(
     operation: Operation,
@@ -354,7 +439,7 @@ fn sessions_reach_everything() {
     }
     wanted.extend((0..8).map(|number| format!("load {number}")));
     wanted.extend((0..8).map(|number| format!("store {number}")));
-    for value in (0..=9).chain([0x0C, 0x0D, 0x10, 0x11]).chain(0x20..=0x24) {
+    for value in (0..=0x0D).chain([0x10, 0x11]).chain(0x20..=0x24) {
         wanted.push(format!("control {value:02X}"));
     }
     wanted.extend((1..=4).map(|code| format!("store ends with code {code:02X}")));
@@ -397,6 +482,7 @@ fn sessions_reach_everything() {
     wanted.extend(wanted_of_supplied());
     wanted.extend(wanted_of_retry());
     wanted.extend(wanted_of_long());
+    wanted.extend(wanted_of_guard());
     let missing: Vec<&String> = wanted
         .iter()
         .filter(|name| !counts.contains_key(*name))
@@ -557,6 +643,48 @@ fn wanted_of_long() -> Vec<String> {
         wanted.push(name.to_string());
     }
     wanted
+}
+
+/// The guard of a drive, rule by rule.
+fn wanted_of_guard() -> Vec<String> {
+    let bad_gaps = [Gap::Improper, Gap::UnfinishedWrite, Gap::Lost];
+    let mut wanted = Vec::new();
+    for operation in OPERATIONS {
+        if !operation.moves_tape() {
+            continue;
+        }
+        let code = if operation.is_recording() { "04" } else { "00" };
+        for gap in bad_gaps {
+            wanted.push(format!("{operation:?}, gap {gap:?}: {code}"));
+        }
+        if operation.is_recording() {
+            wanted.push(format!("{operation:?}, gap Proper: 00"));
+            wanted.push(format!("{operation:?}, gap Proper, not ready: 04"));
+            for gap in bad_gaps {
+                let met = format!("{operation:?}, gap {gap:?}");
+                wanted.push(format!("{met}, BOT: 04"));
+                wanted.push(format!("{met}, BOT warning: 00"));
+                wanted.push(format!("{met}, BOT warning, not ready: 04"));
+            }
+        }
+    }
+    for drive in 0..4 {
+        for (value, was) in [("0A", "set"), ("0B", "clear")] {
+            wanted.push(format!("{value} where it is {was}, drive {drive}"));
+        }
+        wanted.push(format!("report without 32 on drive {drive}"));
+        wanted.push(format!("reset by call, drive {drive}"));
+        wanted.push(format!("reset by store, drive {drive}"));
+    }
+    for value in ["0A", "0B"] {
+        for was in ["set", "clear"] {
+            for ends in ["alone", "with an interrupt"] {
+                wanted.push(format!("{value} where it is {was}, {ends}"));
+            }
+        }
+    }
+    wanted.extend(bad_gaps.map(|gap| format!("data, gap {gap:?}")));
+    wanted.iter().map(|what| format!("guard: {what}")).collect()
 }
 
 /// With the stores switched off, no first operand byte is 80 and no such result is awaited.

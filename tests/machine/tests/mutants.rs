@@ -1,6 +1,6 @@
 //! The comparison finds each wrong rule, a crash and a hang, and nothing where nothing is wrong.
 
-use machine::mutants::{limits_lowered, retry_turned_round, Mutant, MUTANTS};
+use machine::mutants::{guards_turned_round, limits_lowered, retry_turned_round, Mutant, MUTANTS};
 use machine::{generator, lines};
 use std::process::{Command, Output};
 
@@ -56,6 +56,11 @@ fn each_retry_turned_round_is_found() {
 #[test]
 fn each_limit_lowered_is_found() {
     all_found(limits_lowered());
+}
+
+#[test]
+fn each_guard_turned_round_is_found() {
+    all_found(guards_turned_round());
 }
 
 fn all_found(mut left: Vec<Mutant>) {

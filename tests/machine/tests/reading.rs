@@ -155,7 +155,7 @@ fn point_14_decode_before_test() {
     for (address, operand, code) in [
         (0x40, 0x8000_0000, 2),
         (0x30, 0x07, 3),
-        (0x30, 0x0A, 2),
+        (0x30, 0x0E, 2),
         (0x30, 0x25, 2),
         (0x10, 0, 2),
         (0x20, 0, 2),

@@ -8,13 +8,13 @@ use Rattle.common.specs.Pick.{pick}
 use Rattle.operations.specs.declared.operation.Operation.{Operation}
 use Rattle.operations.specs.declared.operation.Operation.the-variants.{CheckBytes, Write}
 use Rattle.operations.specs.declared.decode.Decoded.{Decoded}
-use Rattle.operations.specs.declared.decode.Decoded.the-variants.{Reset, Code, Track, Enable, Density, Operate}
+use Rattle.operations.specs.declared.decode.Decoded.the-variants.{Reset, Code, Track, Enable, Guard, Density, Operate}
 use Rattle.operations.specs.Operation.{moveOf, orderByte, sameOperation, isRead}
 use Rattle.operations.specs.Decode.{decodeOf, inDensity}
 use Rattle.operations.specs.Test.{mayMove}
 use Rattle.records.specs.Image.{imageOf}
 use Rattle.status.specs.declared.drives.Drive.{Drive}
-use Rattle.status.specs.Drives.{withGap, withReport, copyReport, withTrack, withDensity}
+use Rattle.status.specs.Drives.{withGap, withReport, copyReport, withTrack, withDensity, withGuard}
 use Rattle.status.specs.Strings.{orderOf}
 use Rattle.operations.specs.declared.store.Store.{Store}
 use Rattle.transfers.specs.Data.{Host, recordBytes}
@@ -52,9 +52,10 @@ begins drive store Reset = resting drive
 begins drive store (Code code) = resting drive
 begins drive store (Track track) = resting (copyReport (withTrack drive track))
 begins drive store (Enable enable) = resting drive
+begins drive store (Guard guard) = resting (copyReport (withGuard drive guard))
 begins drive store (Density density) = resting (copyReport (withDensity drive density))
 begins drive store (Operate operation) =
-    record { drive = drive; hand = pick (mayMove (moveOf operation) (drive .report)) (handFor operation store) empty }
+    record { drive = drive; hand = pick (mayMove (moveOf operation) (drive .report) (drive .guard) (drive .gap)) (handFor operation store) empty }
 
 abbrev orderTo : ℕ → Drive → Operation → Store → List Output
 orderTo d drive operation store =
@@ -70,9 +71,10 @@ givenAtStore d drive store Reset = []
 givenAtStore d drive store (Code code) = []
 givenAtStore d drive store (Track track) = []
 givenAtStore d drive store (Enable enable) = []
+givenAtStore d drive store (Guard guard) = []
 givenAtStore d drive store (Density density) = []
 givenAtStore d drive store (Operate operation) =
-    pick (mayMove (moveOf operation) (drive .report)) (firstOrder d drive store operation) []
+    pick (mayMove (moveOf operation) (drive .report) (drive .guard) (drive .gap)) (firstOrder d drive store operation) []
 
 -- ---- GO, data and result
 

@@ -14,12 +14,12 @@ use Rattle.operations.specs.declared.operation.Operation.{Operation}
 use Rattle.operations.specs.declared.operation.Operation.the-variants.{Read, CheckBytes, SuppliedCount, Write, Erase, Rewind, FastForward, SkipForward, SkipReverse, SearchForward, SearchReverse, WriteMark}
 use Rattle.operations.specs.declared.course.Course.{Course}
 use Rattle.operations.specs.declared.decode.Decoded.{Decoded}
-use Rattle.operations.specs.declared.decode.Decoded.the-variants.{Reset, Code, Track, Enable, Density, Operate}
+use Rattle.operations.specs.declared.decode.Decoded.the-variants.{Reset, Code, Track, Enable, Guard, Density, Operate}
 use Rattle.operations.specs.Operation.{moveOf, orderByte}
 use Rattle.operations.specs.Test.{mayMove}
 use Rattle.status.specs.declared.drives.Drive.{Drive}
 use Rattle.status.specs.declared.drives.Drives.{Drives}
-use Rattle.status.specs.Drives.{driveOf, copyReport, withTrack, withDensity}
+use Rattle.status.specs.Drives.{driveOf, copyReport, withTrack, withDensity, withGuard}
 use Rattle.status.specs.Strings.{orderOf}
 use Rattle.status.proofs.DriveLaws.{put-same, put-other}
 use Rattle.operations.specs.declared.store.Store.{Store}
@@ -190,15 +190,19 @@ module _ (d : ℕ) (low : d ≤ 3) (store : Store) (b : Body) (n : ℕ) where
       (set-own d low b n (λ (x : Drive). withTrack x track) e ∙ tracked-seen (driveOf (b .drives) d) track)
       (rests-start d low _ _ (settled-rests (withCurrentDrive selecting (withTrack (driveOf (b .drives) n) track)) store))
   decoded-own e (Enable enable) keeps = rests-start d low _ _ (settled-rests (withFlags selecting (b .changed) enable) store)
+  decoded-own e (Guard guard) keeps =
+      subst (λ (drive : Drive). Starts d (resting drive) [] (decoded selecting store (Guard guard)))
+      (set-own d low b n (λ (x : Drive). withGuard x guard) e)
+      (rests-start d low _ _ (settled-rests (withCurrentDrive selecting (withGuard (driveOf (b .drives) n) guard)) store))
   decoded-own e (Density density) keeps =
       subst (λ (drive : Drive). Starts d (resting drive) [] (decoded selecting store (Density density)))
       (set-own d low b n (λ (x : Drive). withDensity x density) e)
       (rests-start d low _ _ (settled-rests (withCurrentDrive selecting (withDensity (driveOf (b .drives) n) density)) store))
   decoded-own e (Operate operation) keeps =
       subst
-      (λ (m : ℕ). Starts d (record { drive = seen d b; hand = pick (mayMove (moveOf operation) (driveOf (b .drives) m .report)) (handFor operation (bare store)) empty }) (pick (mayMove (moveOf operation) (driveOf (b .drives) m .report)) (firstOrder d (seen d b) (bare store) operation) []) (decoded selecting store (Operate operation)))
+      (λ (m : ℕ). Starts d (record { drive = seen d b; hand = pick (mayMove (moveOf operation) (driveOf (b .drives) m .report) (driveOf (b .drives) m .guard) (driveOf (b .drives) m .gap)) (handFor operation (bare store)) empty }) (pick (mayMove (moveOf operation) (driveOf (b .drives) m .report) (driveOf (b .drives) m .guard) (driveOf (b .drives) m .gap)) (firstOrder d (seen d b) (bare store) operation) []) (decoded selecting store (Operate operation)))
       e
-      (choose-start d (mayMove (moveOf operation) (driveOf (b .drives) n .report)) (seen d b) (handFor operation (bare store)) (firstOrder d (seen d b) (bare store) operation) _ _ _ _
+      (choose-start d (mayMove (moveOf operation) (driveOf (b .drives) n .report) (driveOf (b .drives) n .guard) (driveOf (b .drives) n .gap)) (seen d b) (handFor operation (bare store)) (firstOrder d (seen d b) (bare store) operation) _ _ _ _
       (begun-own d store b n e operation) (rests-start d low _ _ (ended-rests selecting store illegalMotion)))
 
   decoded-other :
@@ -211,6 +215,10 @@ module _ (d : ℕ) (low : d ≤ 3) (store : Store) (b : Body) (n : ℕ) where
       (set-other d low selecting (withTrack (driveOf (b .drives) n) track) within other)
       (rests-leave d low _ _ (settled-rests (withCurrentDrive selecting (withTrack (driveOf (b .drives) n) track)) store))
   decoded-other within other (Enable enable) keeps = rests-leave d low _ _ (settled-rests (withFlags selecting (b .changed) enable) store)
+  decoded-other within other (Guard guard) keeps =
+      subst (λ (drive : Drive). Leaves d drive (decoded selecting store (Guard guard)))
+      (set-other d low selecting (withGuard (driveOf (b .drives) n) guard) within other)
+      (rests-leave d low _ _ (settled-rests (withCurrentDrive selecting (withGuard (driveOf (b .drives) n) guard)) store))
   decoded-other within other (Density density) keeps =
       subst (λ (drive : Drive). Leaves d drive (decoded selecting store (Density density)))
       (set-other d low selecting (withDensity (driveOf (b .drives) n) density) within other)
@@ -230,6 +238,8 @@ module _ (d : ℕ) (low : d ≤ 3) (store : Store) (b : Body) (n : ℕ) where
   decoded-held (Track track) keeps held =
       free-held store _ _ (settled-rests (withCurrentDrive selecting (withTrack (driveOf (b .drives) n) track)) store .free)
   decoded-held (Enable enable) keeps held = free-held store _ _ (settled-rests (withFlags selecting (b .changed) enable) store .free)
+  decoded-held (Guard guard) keeps held =
+      free-held store _ _ (settled-rests (withCurrentDrive selecting (withGuard (driveOf (b .drives) n) guard)) store .free)
   decoded-held (Density density) keeps held =
       free-held store _ _ (settled-rests (withCurrentDrive selecting (withDensity (driveOf (b .drives) n) density)) store .free)
   decoded-held (Operate operation) keeps held =

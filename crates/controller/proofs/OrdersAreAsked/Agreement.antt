@@ -1,7 +1,8 @@
--- The settings that a list makes agree with the controller: the drive selected, and for each drive its report, track and density.
+-- The settings that a list makes agree with the controller: the drive selected, and for each drive its report, track, density and guard.
 -- Assumes nothing.
 use mathlib.Core.Path.{_≡_, sym, ap₂, subst, _∙_}
 use Prim.Native.Nat.{ℕ, _≤_}
+use mathlib.Core.Bool.{Bool}
 use mathlib.Core.List.{[], _∷_}
 use lib.Dec.{eqb}
 use borrow.Author.Tests.{eqb-true, eqb-false, eq-eqb, ne-eqb}
@@ -35,18 +36,19 @@ use Rattle.controller.proofs.Steps.{turnOf}
 -- ---- the settings agree with the controller
 
 -- what is said of a drive is what the controller has of it
-pub record Matches (last chosen dense : ℕ) (drive : Drive) : Type 0 where
+pub record Matches (last chosen dense : ℕ) (guarded : Bool) (drive : Drive) : Type 0 where
   pub report : drive .report ≡ last
   pub track : drive .track ≡ chosen
   pub density : drive .density ≡ dense
+  pub guard : drive .guard ≡ guarded
 
-pub record Agrees (said : ℕ) (last chosen dense : ℕ → ℕ) (now : ℕ) (drives : Drives) : Type 0 where
+pub record Agrees (said : ℕ) (last chosen dense : ℕ → ℕ) (guarded : ℕ → Bool) (now : ℕ) (drives : Drives) : Type 0 where
   pub selected : now ≡ said
   pub low : now ≤ 3
-  pub drive : (d : ℕ) → d ≤ 3 → Matches (last d) (chosen d) (dense d) (copyReport (driveOf drives d))
+  pub drive : (d : ℕ) → d ≤ 3 → Matches (last d) (chosen d) (dense d) (guarded d) (copyReport (driveOf drives d))
 
 abbrev pub Agreeing : Settings → Body → Type 0
-Agreeing a b = Agrees (a .selected) (a .report) (a .track) (a .density) (b .selected) (b .drives)
+Agreeing a b = Agrees (a .selected) (a .report) (a .track) (a .density) (a .guard) (b .selected) (b .drives)
 
 -- the order of an operation, by the settings
 abbrev pub orderBy : Settings → Operation → Store → Six
@@ -110,7 +112,7 @@ same-agrees a b t rests agrees =
     record {
       selected = rests .same .selected ∙ agrees .selected;
       low = subst (λ (n : ℕ). n ≤ 3) (sym (rests .same .selected)) (agrees .low);
-      drive = λ d low. subst (Matches (a .report d) (a .track d) (a .density d)) (sym (rests .same .drive d low)) (agrees .drive d low);
+      drive = λ d low. subst (Matches (a .report d) (a .track d) (a .density d) (a .guard d)) (sym (rests .same .drive d low)) (agrees .drive d low);
     }
 
 pub rests-comply : (a : Settings) (b : Body) (t : Turn) → Rests b t → Agreeing a b → Complies a t
@@ -121,11 +123,11 @@ rests-comply a b t rests agrees =
 -- ---- one drive's record is another
 
 -- an entry for the drive, and for another
-pub entered-own : (entries : ℕ → ℕ) (n value d : ℕ) → d ≡ n → entered entries n value d ≡ value
+pub entered-own : {A : Type 0} (entries : ℕ → A) (n : ℕ) (value : A) (d : ℕ) → d ≡ n → entered entries n value d ≡ value
 unfolding entered
 entered-own entries n value d e = pick-yes value (entries d) (eq-eqb d n e)
 
-pub entered-other : (entries : ℕ → ℕ) (n value d : ℕ) → (d ≡ n → ⊥) → entered entries n value d ≡ entries d
+pub entered-other : {A : Type 0} (entries : ℕ → A) (n : ℕ) (value : A) (d : ℕ) → (d ≡ n → ⊥) → entered entries n value d ≡ entries d
 unfolding entered
 entered-other entries n value d other = pick-no value (entries d) (ne-eqb d n other)
 
@@ -135,8 +137,8 @@ pub put-agrees :
     → n ≤ 3
     → later .selected ≡ a .selected
     → Agreeing a b
-    → Matches (later .report n) (later .track n) (later .density n) drive
-    → ((d : ℕ) → (d ≡ n → ⊥) → Matches (a .report d) (a .track d) (a .density d) (seen d b) → Matches (later .report d) (later .track d) (later .density d) (seen d b))
+    → Matches (later .report n) (later .track n) (later .density n) (later .guard n) drive
+    → ((d : ℕ) → (d ≡ n → ⊥) → Matches (a .report d) (a .track d) (a .density d) (a .guard d) (seen d b) → Matches (later .report d) (later .track d) (later .density d) (later .guard d) (seen d b))
     → Agreeing later (withDrives b (withDrive (b .drives) n drive))
 put-agrees a later b n drive within selected agrees own others =
     record {
@@ -145,12 +147,12 @@ put-agrees a later b n drive within selected agrees own others =
       drive =
           λ d low. by-test (eqb d n)
           (λ same.
-          subst (λ (m : ℕ). Matches (later .report m) (later .track m) (later .density m) (copyReport (driveOf (withDrive (b .drives) n drive) m)))
+          subst (λ (m : ℕ). Matches (later .report m) (later .track m) (later .density m) (later .guard m) (copyReport (driveOf (withDrive (b .drives) n drive) m)))
           (sym (eqb-true d n same))
-          (subst (λ (x : Drive). Matches (later .report n) (later .track n) (later .density n) (copyReport x)) (sym (put-same (b .drives) drive n within))
-          (record { report = own .report; track = own .track; density = own .density })))
+          (subst (λ (x : Drive). Matches (later .report n) (later .track n) (later .density n) (later .guard n) (copyReport x)) (sym (put-same (b .drives) drive n within))
+          (record { report = own .report; track = own .track; density = own .density; guard = own .guard })))
           (λ other.
           let apart : d ≡ n → ⊥ = eqb-false d n other in
-          subst (λ (x : Drive). Matches (later .report d) (later .track d) (later .density d) (copyReport x))
+          subst (λ (x : Drive). Matches (later .report d) (later .track d) (later .density d) (later .guard d) (copyReport x))
           (sym (put-other (b .drives) drive n d within low (λ e. apart (sym e)))) (others d apart (agrees .drive d low)));
     }

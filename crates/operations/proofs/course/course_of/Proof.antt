@@ -23,11 +23,17 @@ enum-known-asked-3 c = search needs
 enum-known-asked-4 : tie.Need-enum-known-asked-4
 enum-known-asked-4 c = search needs
 
-with-density-requires : tie.Need-with-density-requires
-with-density-requires c κs = search needs
+with-guard-requires : tie.Need-with-guard-requires
+with-guard-requires c κs = search needs
 
 enum-known-asked-5 : tie.Need-enum-known-asked-5
 enum-known-asked-5 c = search needs
+
+with-density-requires : tie.Need-with-density-requires
+with-density-requires c κs = search needs
+
+enum-known-asked-6 : tie.Need-enum-known-asked-6
+enum-known-asked-6 c = search needs
 
 test-of-requires : tie.Need-test-of-requires
 test-of-requires c κs = search needs
@@ -50,11 +56,15 @@ returns-4 c = simp (c .before .asked3 .given .1)
 
 returns-5 : tie.Need-returns-5
 unfolding courseOf
-returns-5 c = simp (c .with-density .ensures, c .before .before .asked4 .given .1)
+returns-5 c = simp (c .with-guard .ensures, c .before .before .asked4 .given .1)
 
 returns-6 : tie.Need-returns-6
 unfolding courseOf
-returns-6 c = simp (c .test-of .ensures, c .before .before .asked5 .given .1)
+returns-6 c = simp (c .with-density .ensures, c .before .before .asked5 .given .1)
+
+returns-7 : tie.Need-returns-7
+unfolding courseOf
+returns-7 c = simp (c .test-of .ensures, c .before .before .asked6 .given .1)
 
 pub course-of-spec : {M : Type 1} → statement M
 course-of-spec =
@@ -66,12 +76,15 @@ course-of-spec =
     with-track-requires
     enum-known-asked-3
     enum-known-asked-4
-    with-density-requires
+    with-guard-requires
     enum-known-asked-5
+    with-density-requires
+    enum-known-asked-6
     test-of-requires
     returns
     returns-2
     returns-3
     returns-4
     returns-5
-    returns-6)
+    returns-6
+    returns-7)

@@ -53,21 +53,31 @@ returns-11 c = simp (c .match .keys11)
 
 returns-12 : tie.Need-returns-12
 unfolding controlOf pick
-returns-12 c = simp (le-leb _ 0x03 (le-of-suc-le-suc (c .if1 .taken)))
+returns-12 c = simp (c .match .keys12)
 
 returns-13 : tie.Need-returns-13
 unfolding controlOf pick
-returns-13 c = simp (lt-leb _ 0x03 (c .before .if1 .left), le-leb _ 0x07 (le-of-suc-le-suc (c .if2 .taken)))
+returns-13 c = simp (c .match .keys13)
 
 returns-14 : tie.Need-returns-14
 unfolding controlOf pick
-returns-14 c =
+returns-14 c = simp (le-leb _ 0x03 (le-of-suc-le-suc (c .if1 .taken)))
+
+returns-15 : tie.Need-returns-15
+unfolding controlOf pick
+returns-15 c = simp (lt-leb _ 0x03 (c .before .if1 .left), le-leb _ 0x07 (le-of-suc-le-suc (c .if2 .taken)))
+
+returns-16 : tie.Need-returns-16
+unfolding controlOf pick
+returns-16 c =
     let none = c .before .before .match .rest in
     simp (
       lt-leb _ 0x03 (c .before .if1 .left),
       lt-leb _ 0x07 (c .if2 .left),
-      ne-eqb _ 0x08 (none .0 .0 .0 .0 .0 .0 .0 .0 .0 .0 .1),
-      ne-eqb _ 0x09 (none .0 .0 .0 .0 .0 .0 .0 .0 .0 .1),
+      ne-eqb _ 0x08 (none .0 .0 .0 .0 .0 .0 .0 .0 .0 .0 .0 .0 .1),
+      ne-eqb _ 0x09 (none .0 .0 .0 .0 .0 .0 .0 .0 .0 .0 .0 .1),
+      ne-eqb _ 0x0A (none .0 .0 .0 .0 .0 .0 .0 .0 .0 .0 .1),
+      ne-eqb _ 0x0B (none .0 .0 .0 .0 .0 .0 .0 .0 .0 .1),
       ne-eqb _ 0x0C (none .0 .0 .0 .0 .0 .0 .0 .0 .1),
       ne-eqb _ 0x0D (none .0 .0 .0 .0 .0 .0 .0 .1),
       ne-eqb _ 0x10 (none .0 .0 .0 .0 .0 .0 .1),
@@ -96,4 +106,6 @@ control-of-spec =
     returns-11
     returns-12
     returns-13
-    returns-14)
+    returns-14
+    returns-15
+    returns-16)
