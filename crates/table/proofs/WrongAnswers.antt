@@ -8,7 +8,7 @@ use lib.ListN.{getD}
 use borrow.Author.Tests.{eqb-false}
 use Rattle.common.specs.Pick.{pick}
 use Rattle.operations.specs.declared.operation.Operation.the-variants.{SkipForward, CheckBytes}
-use Rattle.operations.specs.Answers.{forwardCodes, reverseCodes, endCodes, suppliedCodes, listedCodes, trailingCodes, clearCodes, neverReported, asksRetry, isIn, answerOf}
+use Rattle.operations.specs.Answers.{suppliedCodes, listedCodes, trailingCodes, clearCodes, neverReported, asksRetry, isIn, answerOf}
 use Rattle.table.specs.Text.{comma, lineFeed, lineOrder, digitsFrom, parted, lineText, linesText, tableText}
 use Rattle.table.proofs.rules.answer_of.Reads as answer-reads
 use Rattle.table.proofs.text.table_text.Reads as text-reads

@@ -1,8 +1,5 @@
 -- `table::rules::answer_of` meets its contract: the tests are those of the definition.
 -- Assumes nothing.
-use mathlib.Core.Path.{_≡_, ap, sym, _∙_}
-use mathlib.Core.Bool.{Bool, _||_}
-use lib.Dec.{eqb}
 use borrow.Author.Needs.{needs}
 use Rattle.common.specs.Pick.{pick}
 use Rattle.operations.specs.Answers.{answerOf}

@@ -7,7 +7,6 @@ use borrow.Author.Needs.{needs}
 use Rattle.operations.specs.declared.operation.Operation.{Operation}
 use Rattle.operations.specs.Answers.{trailingCodes, clearCodes, isIn}
 use Rattle.table.specs.Rules.{isClear}
-use Rattle.table.specs.Text.{lineOrder, operationAt}
 use Rattle.table.proofs.OperationLaws.{among}
 use Rattle.table.proofs.rules.is_clear.Statement.{statement}
 use Rattle.table.proofs.rules.is_clear.Tie as tie
@@ -28,7 +27,7 @@ is-in-requires-2 : tie.Need-is-in-requires-2
 is-in-requires-2 c κs = search needs
 
 returns : tie.Need-returns
-unfolding operationAt lineOrder clearCodes trailingCodes
+unfolding clearCodes trailingCodes
 returns c =
     let said = c .is-in .ensures in
     let a = c .before .before .before .args in
@@ -39,7 +38,7 @@ unfolding clearCodes trailingCodes
 returns-2 c = simp (c .is-in2 .ensures, c .before .before .enum-told .given .1)
 
 returns-3 : tie.Need-returns-3
-unfolding operationAt lineOrder clearCodes isIn
+unfolding clearCodes isIn
 returns-3 c =
     among (λ (o : Operation). false ≡ isClear o (c .before .args .code))
     (1 ∷ 2 ∷ 3 ∷ 4 ∷ 5 ∷ 6 ∷ 8 ∷ 10 ∷ 11 ∷ [])

@@ -1,12 +1,11 @@
 -- `table::rules::is_listed` meets its contract: by the operation.
 -- Assumes nothing.
-use mathlib.Core.Path.{_≡_, refl}
+use mathlib.Core.Path.{_≡_}
 use mathlib.Core.List.{[], _∷_}
 use borrow.Author.Needs.{needs}
 use Rattle.operations.specs.declared.operation.Operation.{Operation}
 use Rattle.operations.specs.Answers.{forwardCodes, reverseCodes, endCodes, suppliedCodes, listedCodes, isIn}
 use Rattle.table.specs.Rules.{isListed}
-use Rattle.table.specs.Text.{lineOrder, operationAt}
 use Rattle.table.proofs.OperationLaws.{among}
 use Rattle.table.proofs.rules.is_listed.Statement.{statement}
 use Rattle.table.proofs.rules.is_listed.Tie as tie
@@ -69,7 +68,7 @@ enum-told-5 : tie.Need-enum-told-5
 enum-told-5 c = search needs
 
 returns : tie.Need-returns
-unfolding operationAt lineOrder listedCodes forwardCodes
+unfolding listedCodes forwardCodes
 returns c =
     let said = c .is-in .ensures in
     let a = c .before .before .before .args in
@@ -88,7 +87,7 @@ unfolding listedCodes
 returns-4 c = simp (c .is-in4 .ensures, c .before .before .enum-told3 .given .1)
 
 returns-5 : tie.Need-returns-5
-unfolding operationAt lineOrder listedCodes reverseCodes
+unfolding listedCodes reverseCodes
 returns-5 c =
     let said = c .is-in5 .ensures in
     let a = c .before .before .before .args in
@@ -99,7 +98,7 @@ unfolding listedCodes
 returns-6 c = simp (c .is-in6 .ensures, c .before .before .enum-told4 .given .1)
 
 returns-7 : tie.Need-returns-7
-unfolding operationAt lineOrder listedCodes endCodes
+unfolding listedCodes endCodes
 returns-7 c =
     let said = c .is-in7 .ensures in
     let a = c .before .before .before .args in
