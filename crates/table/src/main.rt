@@ -9,9 +9,6 @@ use libc::STDOUT_FILENO;
 fn main() {
     let text = table_text();
     if !io::write_all(STDOUT_FILENO, &text) {
-        io::write_all(
-            STDERR_FILENO,
-            b"table: standard output could not be written\n",
-        );
+        io::write_all(STDERR_FILENO, b"table: the table cannot be written\n");
     }
 }
