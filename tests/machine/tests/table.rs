@@ -20,7 +20,9 @@ const LINES: [Operation; 12] = [
 ];
 
 fn line(operation: Operation) -> String {
-    let digits: Vec<_> = (0..32).map(|code| (operation.entry(code) as u8).to_string()).collect();
+    let digits: Vec<_> = (0..32)
+        .map(|code| (operation.entry(code) as u8).to_string())
+        .collect();
     digits.join(",") + "\n"
 }
 
