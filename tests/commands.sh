@@ -305,6 +305,17 @@ not_built_here() {
     ended 0 && [ "$(cat rt.calls)" = "staticlib records" ]
 }
 check "a library of an unknown kit is built anew" not_built_here
+table_built() {
+    fresh
+    with_rt tree/ctc table
+    ended 0 "the table program" || return
+    [ "$(cat rt.calls)" = "check table" ] || no "rt was asked for $(cat rt.calls)" || return
+    rm rt.calls
+    with_rt tree/ctc table
+    ended 0 || return
+    [ ! -e rt.calls ] || no "built twice"
+}
+check "ctc table proves and builds what is missing" table_built
 
 # ---- a folder that cannot be written ----
 
@@ -352,7 +363,7 @@ not_permitted() { # COMMAND WORDS...
 }
 # the fuzzer's compiler is not come to
 export CLANG=true
-for command in tree/session tree/ctc-record "tree/tools/build library" tree/bench/run tree/tests/fuzz tree/.ci/run; do
+for command in tree/session tree/ctc-record "tree/ctc table" "tree/tools/build library" tree/bench/run tree/tests/fuzz tree/.ci/run; do
     # shellcheck disable=SC2086 # words of a call
     check "a file in place of target/ is told: ${command#tree/}" file_in_place $command
     # shellcheck disable=SC2086
