@@ -8,7 +8,6 @@ use Rattle.common.specs.Pick.{pick}
 use Rattle.status.specs.Drives.{mfm}
 use Rattle.operations.specs.Codes.{illegalStore, illegalTrack}
 use Rattle.operations.specs.Operation.{suppliesCount}
-use Rattle.operations.specs.declared.operation.Operation.{Operation}
 use Rattle.operations.specs.declared.operation.Operation.the-variants.{Read, CheckBytes, SuppliedCount, Write, Erase, Rewind, FastForward, SkipForward, SkipReverse, SearchForward, SearchReverse, WriteMark}
 use Rattle.operations.specs.declared.decode.Decoded.{Decoded}
 use Rattle.operations.specs.declared.decode.Decoded.the-variants.{Reset, Code, Track, Enable, Guard, Density, Operate}

@@ -45,7 +45,7 @@ pub blockettes-hold : (c : ℕ) → c ≤ 256 * blocketteCount c
 unfolding blocketteCount
 blockettes-hold c = omega arith
 
--- there are at most 256 of them, so that a number is one byte
+-- a 16-bit count has at most 256 of them, so that a number is one byte
 pub blockettes-few : (c : ℕ) → c ≤ 65535 → blocketteCount c ≤ 256
 unfolding blocketteCount
 blockettes-few c h = omega arith

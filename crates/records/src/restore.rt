@@ -75,6 +75,12 @@ pub fn restore(image: &[u8], marks: &[u8], space: &mut [u8]) -> u32
     let count = count_of(image);
     let n = blockette_count(count);
     let length = count as usize;
-    put_restored(&image[2..], n, errors.odd, errors.even, &mut space[..length]);
+    put_restored(
+        &image[2..],
+        n,
+        errors.odd,
+        errors.even,
+        &mut space[..length],
+    );
     DONE
 }

@@ -1,9 +1,9 @@
 -- Laws of the result: what is known of one that is not refused, the final code, and as many bytes as fit.
 -- Assumes nothing.
-use borrow.Author.Tests.{eqb-true, eqb-false, ltb-false, not-true, not-false}
+use borrow.Author.Tests.{eqb-true, eqb-false, not-true, not-false}
 use mathlib.Core.Path.{_≡_, sym, ap, subst, _∙_}
 use mathlib.Core.Bool.{Bool, true, false, not, _&&_, _||_, true≢false}
-use mathlib.Core.List.{List, [], _∷_}
+use mathlib.Core.List.{List}
 use Prim.Native.Nat.{ℕ, _+_, _-_, _≤_, min}
 use native.Mathlib.Omega.{arith}
 use lib.Dec.{eqb}
@@ -19,7 +19,7 @@ use Rattle.records.proofs.ImageLaws.{image-holds, blockettes-few, marks-most}
 use Rattle.records.proofs.WholeLaws.{laid, whole}
 use Rattle.status.specs.declared.drives.Drive.{Drive}
 use Rattle.operations.specs.declared.operation.Operation.{Operation}
-use Rattle.operations.specs.declared.operation.Operation.the-variants.{Read, SuppliedCount, SkipForward, SkipReverse}
+use Rattle.operations.specs.declared.operation.Operation.the-variants.{Read, SuppliedCount, SkipForward}
 use Rattle.operations.specs.declared.store.Store.{Store}
 use Rattle.operations.specs.Operation.{numberOf, sameOperation, suppliesCount, isRead, bringsRecord}
 use Rattle.operations.specs.Store.{heldCount}
@@ -27,10 +27,10 @@ use Rattle.transfers.specs.declared.expected.Expected.{Expected}
 use Rattle.transfers.specs.declared.expected.Expected.the-variants.{Whole, Supplied, Count, Nothing}
 use Rattle.transfers.specs.declared.verdict.Verdict.{Verdict}
 use Rattle.operations.specs.Codes.{offline, blocketteNumberWrong, recoverable, unrecoverable}
-use Rattle.status.specs.Drives.{mfm, gcr, isGcr}
+use Rattle.status.specs.Drives.{gcr, isGcr}
 use Rattle.transfers.specs.Data.{checkStore}
 use Rattle.transfers.specs.Expected.{wholeCode, expectedWhole, expectedSupplied, expectedOf, unmarkedRefusal, imageRefusal}
-use Rattle.transfers.specs.Results.{Result, resultRefusal, isGone, codeReported, finalCode, readsGcr, usesImage, recordCount, usedCount, verdictOf, fitting}
+use Rattle.transfers.specs.Results.{Result, resultRefusal, isGone, codeReported, finalCode, readsGcr, recordCount, usedCount, verdictOf, fitting}
 use Rattle.transfers.proofs.DataLaws.{gcr-alike}
 
 -- ---- a result that is not refused
