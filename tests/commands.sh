@@ -44,7 +44,7 @@ one_line() { # FILE
 # ---- the copy of the tree, and the stand-in for rt ----
 
 mkdir -p tree/bench tree/tests tree/docs stand_in bare tmp
-cp -r "$root"/{ctc-record,session,VERSION,README.md,crates.txt,.ci,tools,examples,include,sessions} tree/
+cp -r "$root"/{ctc,ctc-record,session,VERSION,README.md,crates.txt,.ci,tools,examples,include,sessions} tree/
 cp "$root/bench/run" tree/bench/
 cp "$root/tests/fuzz" tree/tests/
 while IFS=: read -r crate _; do
@@ -65,7 +65,7 @@ stands_on() { # CRATE
     done
     printf '%s\n' "${found[@]}"
 }
-for crate in records session trial; do stands_on "$crate" >"$crate.crates"; done
+for crate in records session jobs trial; do stands_on "$crate" >"$crate.crates"; done
 
 # in place of all tests, so that .ci/run of the copy comes to an end
 printf '#!/bin/sh\necho 3 passed, 0 failed\n' >tree/tests/run
@@ -91,8 +91,8 @@ staticlib)
     echo "rt: target/staticlib/lib\$2.a has the functions of \$2 that are marked #[no_mangle] pub extern \"C\""
     ;;
 check)
-    proved \$(cat '$folder/session.crates')
-    made '$program' target/bin/session
+    proved \$(cat "$folder/\$2.crates")
+    made '$program' "target/bin/\$2"
     echo "rt: ok"
     ;;
 ci)
@@ -155,18 +155,30 @@ refuses() { # MESSAGE-PART COMMAND WORDS...
     [ ! -s said ] || no "it said $(cat said)" || return
     nothing_done
 }
-for command in session ctc-record .ci/run bench/run tests/fuzz; do
+for command in session ctc ctc-record .ci/run bench/run tests/fuzz; do
     check "$command --help does nothing else" helps "$command" --help
     check "$command -h does nothing else" helps "$command" -h
     check "$command --version is what VERSION has" says_version "$command" "$command"
     case $command in
-    session | ctc-record) check "$command: a word that is none" refuses -- "$command" --wrong ;;
+    session | ctc | ctc-record) check "$command: a word that is none" refuses -- "$command" --wrong ;;
     *) check "$command: a word that is none" refuses wrong "$command" wrong ;;
     esac
 done
+helps_for() { # WORD WHAT-IT-NAMES
+    fresh
+    without_rt tree/ctc "$1" --help
+    ended 0 || return
+    grep -qF -- "$2" said || no "it does not name $2: $(cat said)" || return
+    nothing_done
+}
+check "ctc session --help does nothing else" helps_for session ./session
+check "ctc jobs --help does nothing else" helps_for jobs "./ctc jobs"
+check "ctc record --help does nothing else" helps_for record ctc-record
+check "ctc: no word" refuses "session, jobs or record" ctc
+check "ctc jobs: two files" refuses "one file at a time" ctc jobs a b
 check "session: two files" refuses "one file at a time" session sessions/example.session sessions/example.session
 check "fuzz: two words" refuses "one word at most" tests/fuzz 1 2
-check "build: a word that is none" refuses "library, session or trial" tools/build wrong
+check "build: a word that is none" refuses "library, session, jobs or trial" tools/build wrong
 
 # The script has the tool's rules: the same answer without the library as the tool gives.
 same_as_tool() { # WORDS...
@@ -250,6 +262,7 @@ builds() { # library|session|trial CRATES
 }
 check "the progress of the library ends at its total" builds library "$(wc -l <records.crates)"
 check "the progress of the session program ends at its total" builds session "$(wc -l <session.crates)"
+check "the progress of the jobs program ends at its total" builds jobs "$(wc -l <jobs.crates)"
 check "the progress of the trial library ends at its total" builds trial "$(wc -l <trial.crates)"
 
 no_time_announced() {
@@ -366,7 +379,7 @@ ci_builds() {
     fresh
     with_rt bash tree/.ci/run
     ended 0 || return
-    [ "$(grep -v '^fmt' rt.calls | paste -sd ,)" = "ci,staticlib records,check session,staticlib trial" ] ||
+    [ "$(grep -v '^fmt' rt.calls | paste -sd ,)" = "ci,staticlib records,check session,check jobs,staticlib trial" ] ||
         no "rt was asked for $(paste -sd , rt.calls)"
 }
 check ".ci/run builds all that the tests need" ci_builds

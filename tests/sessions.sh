@@ -1,23 +1,22 @@
 #!/usr/bin/env bash
 # Plays every stored session and compares the answers.
 #
-#   tests/sessions.sh PROGRAM
+#   tests/sessions.sh PROGRAM [JOBS]
 #
-# PROGRAM reads a session from standard input and prints one answer a line. Line n of
-# sessions/NAME.answers belongs to line n of sessions/NAME.session. Of a session that
-# does not pass, the first line whose answer differs is shown. The lines and answers
-# that docs/SESSIONS.md quotes must be those of the stored sessions. The last line is
-# 'N passed, M failed'; the exit status is 1 where anything failed or nothing ran.
+# PROGRAM reads a session from standard input and prints one answer a line; it plays the
+# sessions in sessions/. JOBS does so with sessions of jobs; it plays those in
+# sessions/jobs/, where it is given. Line n of NAME.answers belongs to line n of
+# NAME.session. Of a session that does not pass, the first line whose answer differs is
+# shown. The lines and answers that docs/SESSIONS.md and docs/JOBS.md quote must be those
+# of the stored sessions. The last line is 'N passed, M failed'; the exit status is 1
+# where anything failed or nothing ran.
 set -uo pipefail
 
-if [ $# -ne 1 ]; then
-    echo "usage: tests/sessions.sh PROGRAM" >&2
+if [ $# -lt 1 ] || [ $# -gt 2 ]; then
+    echo "usage: tests/sessions.sh PROGRAM [JOBS]" >&2
     exit 2
 fi
-program=$(readlink -m "$1")
 root=$(dirname "$(dirname "$(readlink -f "${BASH_SOURCE[0]}")")")
-sessions=$root/sessions
-page=$root/docs/SESSIONS.md
 folder=$(mktemp -d) || exit 2
 trap 'rm -rf -- "$folder"' EXIT
 
@@ -81,30 +80,51 @@ same() {
         "they differ from character $(differs_at "${stored[n]-}" "${got[n]-}") on"
 }
 
-play() { # NAME
-    local session=$sessions/$1.session answers=$sessions/$1.answers status=0 lines
+play() { # PROGRAM SESSIONS NAME
+    local program=$1 session=$root/$2/$3.session answers=$root/$2/$3.answers name=$3 status=0 lines
     if [ ! -f "$answers" ]; then
-        fail "$1" "sessions/$1.answers is missing"
+        fail "$name" "$2/$name.answers is missing"
         return
     fi
     # the last line counts without its end too
     lines=$(awk 'END { print NR }' "$session")
     if [ "$lines" -ne "$(wc -l <"$answers")" ]; then
-        fail "$1" "$lines lines and $(wc -l <"$answers") stored answers"
+        fail "$name" "$lines lines and $(wc -l <"$answers") stored answers"
         return
     fi
     timeout 60 "$program" <"$session" >"$folder/said" 2>"$folder/errors" || status=$?
     if [ "$status" -ne 0 ]; then
-        fail "$1" "the program ended with status $status" "$(head -c 200 "$folder/errors")"
+        fail "$name" "the program ended with status $status" "$(head -c 200 "$folder/errors")"
         return
     fi
-    same "$1" "$session" "$answers" "$folder/said"
+    same "$name" "$session" "$answers" "$folder/said"
 }
 
-# The page quotes a session in blocks that begin with '```session NAME'. Line and answer
+play_all() { # PROGRAM SESSIONS
+    local program session answers name ran=0
+    program=$(readlink -m "$1")
+    if [ ! -f "$program" ] || [ ! -x "$program" ]; then
+        fail "$1 is missing or cannot be run"
+        return
+    fi
+    for session in "$root/$2"/*.session; do
+        [ -e "$session" ] || continue
+        play "$program" "$2" "$(basename "$session" .session)"
+        ran=$((ran + 1))
+    done
+    [ "$ran" -gt 0 ] || fail "$2" "there is no session"
+    for answers in "$root/$2"/*.answers; do
+        [ -e "$answers" ] || continue
+        name=$(basename "$answers" .answers)
+        [ -f "$root/$2/$name.session" ] || fail "$name" "$2/$name.session is missing"
+    done
+}
+
+# A page quotes a session in blocks that begin with '```session NAME'. Line and answer
 # take turns there, parted by blanks or line ends; '0{n}' stands for n digits 0. All blocks
 # of a session together are its lines and answers, without the comments.
-quoted() { # writes folder/quoted/NAME
+quoted() { # PAGE; writes folder/quoted/NAME
+    rm -rf "$folder/quoted"
     mkdir -p "$folder/quoted"
     awk -v folder="$folder/quoted" '
         function zeros(n,    text) { while (n-- > 0) text = text "0"; return text }
@@ -118,21 +138,21 @@ quoted() { # writes folder/quoted/NAME
         /^```session / { name = $2; inside = 1; next }
         /^```/ { inside = 0; next }
         inside { for (i = 1; i <= NF; i++) print full($i) >(folder "/" name) }
-    ' "$page"
+    ' "$1"
 }
 
-stored_pairs() { # NAME
-    paste -d '\n' "$sessions/$1.session" "$sessions/$1.answers" |
+stored_pairs() { # SESSIONS NAME
+    paste -d '\n' "$root/$1/$2.session" "$root/$1/$2.answers" |
         awk 'NR % 2 { line = $0; next } line !~ /^#/ { print line; print }'
 }
 
-the_page() {
-    local file name missing=()
-    if [ ! -f "$page" ]; then
-        fail "docs/SESSIONS.md" "it is missing"
+the_page() { # PAGE SESSIONS
+    local page=$1 sessions=$root/$2 file name missing=()
+    if [ ! -f "$root/$page" ]; then
+        fail "$page" "it is missing"
         return
     fi
-    quoted
+    quoted "$root/$page"
     for file in "$sessions"/story-*.session "$folder"/quoted/*; do
         [ -e "$file" ] || continue
         name=$(basename "$file" .session)
@@ -140,41 +160,28 @@ the_page() {
         [ "$file" = "$folder/quoted/$name" ] && [[ $name == story-* ]] &&
             [ -f "$sessions/$name.session" ] && continue
         if [ ! -f "$sessions/$name.session" ] || [ ! -f "$sessions/$name.answers" ]; then
-            fail "docs/SESSIONS.md quotes $name" "it is not stored"
+            fail "$page quotes $name" "it is not stored"
         elif [ ! -f "$folder/quoted/$name" ]; then
-            fail "docs/SESSIONS.md quotes $name" "the page has no line of it"
+            fail "$page quotes $name" "the page has no line of it"
         else
-            stored_pairs "$name" >"$folder/pairs"
-            same "docs/SESSIONS.md quotes $name" "$folder/pairs" "$folder/pairs" "$folder/quoted/$name"
+            stored_pairs "$2" "$name" >"$folder/pairs"
+            same "$page quotes $name" "$folder/pairs" "$folder/pairs" "$folder/quoted/$name"
         fi
     done
     for file in "$sessions"/*.session; do
         [ -e "$file" ] || continue
         name=$(basename "$file" .session)
-        grep -qF -e "\`$name\`" -e "\`sessions/$name.session\`" "$page" || missing+=("$name")
+        grep -qF -e "\`$name\`" -e "\`$2/$name.session\`" "$root/$page" || missing+=("$name")
     done
     if [ "${#missing[@]}" -eq 0 ]; then
-        pass "docs/SESSIONS.md names every session"
+        pass "$page names every session"
     else
-        fail "docs/SESSIONS.md names every session" "not named: ${missing[*]}"
+        fail "$page names every session" "not named: ${missing[*]}"
     fi
 }
 
-if [ ! -f "$program" ] || [ ! -x "$program" ]; then
-    fail "$1 is missing or cannot be run"
-    finish
-fi
-ran=0
-for session in "$sessions"/*.session; do
-    [ -e "$session" ] || continue
-    play "$(basename "$session" .session)"
-    ran=$((ran + 1))
-done
-[ "$ran" -gt 0 ] || fail "sessions" "there is no session"
-for answers in "$sessions"/*.answers; do
-    [ -e "$answers" ] || continue
-    name=$(basename "$answers" .answers)
-    [ -f "$sessions/$name.session" ] || fail "$name" "sessions/$name.session is missing"
-done
-the_page
+play_all "$1" sessions
+the_page docs/SESSIONS.md sessions
+[ $# -eq 1 ] || play_all "$2" sessions/jobs
+the_page docs/JOBS.md sessions/jobs
 finish

@@ -69,3 +69,11 @@ blockettesUnlike = 14
 -- "15 a place that is neither in the host bytes nor the value for none" (document 02, Wish 6)
 abbrev pub noSuchPlace : ℕ
 noSuchPlace = 15
+
+-- "16 a job above 3, a store naming no drive or a reset store" (document 02, Wish 8)
+abbrev pub storeNotTaken : ℕ
+storeNotTaken = 16
+
+-- "17 that job's queue holds eight"
+abbrev pub queueFull : ℕ
+queueFull = 17

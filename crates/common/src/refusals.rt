@@ -39,3 +39,7 @@ pub const COUNTS_DIFFER: u32 = 13;
 pub const BLOCKETTES_UNLIKE: u32 = 14;
 // "a place that is neither in the host bytes nor the value for none"
 pub const NO_SUCH_PLACE: u32 = 15;
+// "a job above 3, a store naming no drive or a reset store"
+pub const STORE_NOT_TAKEN: u32 = 16;
+// "that job's queue holds eight"
+pub const QUEUE_FULL: u32 = 17;

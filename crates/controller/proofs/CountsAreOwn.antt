@@ -41,14 +41,14 @@ use Rattle.controller.specs.Controller.{fresh, carried}
 use Rattle.controller.specs.Stores.{pastTest, orderMove, begin, follow, clearOutcome, carryOutOn, carryOut}
 use Rattle.controller.specs.Records.{wordsOf, withAfter, dataDone, resultDone}
 use Rattle.controller.specs.Machine.{unchanged, reportNoted, dataIn, resultIn, Call, Exchange, plain, step, run}
-use Rattle.controller.specs.Machine.Call.{byte, taken, broken, report, hostData, result, tick, reset}
-use Rattle.controller.specs.Lists.{notRefused, isTaken, holdsStore, carriesOut, lastStore, heldStore, noStore, asksFor}
+use Rattle.controller.specs.Machine.Call.{byte, taken, broken, report, hostData, result, tick, reset, hand}
+use Rattle.controller.specs.Lists.{notRefused, holdsStore, bringsStore, storeBrought, carriesOut, lastStore, noStore, asksFor}
 use Rattle.controller.specs.Counts.{OwnRecord, suppliedBy, passedBy, recordAfter, ownRecord, Sends, ValidFrom, CountsAreOwn}
 use Rattle.controller.specs.Counts.OwnRecord.{noRecord, recordOf}
 use Rattle.controller.proofs.Courses.{decoded, by-test-of}
 use Rattle.controller.proofs.Steps.Resting.{by-free, Free, Rests, ended-rests, settled-rests, go-refused-rests, ending-rests}
 use Rattle.controller.proofs.Steps.Strings.{marked, HeldUpToDate, SentUpToDate, StringsUpToDate, ended-strings, settled-strings, go-refused-strings, ending-strings}
-use Rattle.controller.proofs.Steps.{stated, exchanged, turnOf, LinkCall, SaysNo, OfRefusals, OfLink, OfStores, OfNo, OfData, OfResults, Kinds, data-for, result-for, by-step}
+use Rattle.controller.proofs.Steps.{stated, exchanged, turnOf, LinkCall, SaysNo, OfRefusals, OfLink, OfStores, OfHandings, OfNo, OfData, OfResults, Kinds, data-for, result-for, by-step}
 
 -- ---- what is kept from call to call
 
@@ -115,18 +115,18 @@ as-before :
     → Goes (lastStore last c x) (ownRecord (lastStore last c x) own c x) t
 unfolding lastStore
 as-before c x last own t none same goes =
-    subst (λ (store : Store). Goes store (ownRecord store own c x) t) (sym (pick-no (heldStore c) last none))
+    subst (λ (store : Store). Goes store (ownRecord store own c x) t) (sym (pick-no (storeBrought c (x .call)) last none))
     (subst (λ (later : OwnRecord). Goes last later t) (sym same) goes)
 
 refusals-case : OfRefusals Keeps
 unfolding carriesOut notRefused ownRecord SentUpToDate
 refusals-case c call number space check some at-space at-check last own before =
     as-before c (exchanged call (unchanged number c space check)) last own _
-    (ap (λ (t : Bool). isTaken call && (t && holdsStore c)) some ∙ and-false (isTaken call)) (pick-no (recordAfter last own c call) own some)
+    (ap (λ (t : Bool). t && bringsStore c call) some) (pick-no (recordAfter last own c call) own some)
     (record { kept = record { hand = before .hand; valid = before .valid; holds = before .holds }; says = tt })
 
 link-case : OfLink Keeps
-unfolding LinkCall lastStore carriesOut isTaken notRefused holdsStore ownRecord recordAfter pick
+unfolding LinkCall lastStore carriesOut bringsStore storeBrought notRefused holdsStore ownRecord recordAfter pick
 link-case c (byte value) t free rests strings none last own before = rests-keep last own (c .body) t rests (strings (before .holds)) (before .valid)
 link-case c broken t free rests strings none last own before = rests-keep last own (c .body) t rests (strings (before .holds)) (before .valid)
 link-case c tick t free rests strings none last own before = rests-keep last own (c .body) t rests (strings (before .holds)) (before .valid)
@@ -138,9 +138,10 @@ link-case c (report drive r) t links rests strings none last own before = absurd
 link-case c (hostData host space check) t links rests strings none last own before = absurd links
 link-case c (result r space check) t links rests strings none last own before = absurd links
 link-case c reset t links rests strings none last own before = absurd links
+link-case c (hand store) t links rests strings none last own before = absurd links
 
 no-case : OfNo Keeps
-unfolding SaysNo lastStore carriesOut isTaken notRefused ownRecord recordAfter pick
+unfolding SaysNo lastStore carriesOut bringsStore storeBrought notRefused ownRecord recordAfter pick
 no-case b held (byte value) refuses last own before = rests-keep last own b _ (go-refused-rests b held) (go-refused-strings b held) (before .valid)
 no-case b held broken refuses last own before = rests-keep last own b _ (go-refused-rests b held) (go-refused-strings b held) (before .valid)
 no-case b held taken refuses last own before = absurd refuses
@@ -149,6 +150,7 @@ no-case b held (hostData host space check) refuses last own before = absurd refu
 no-case b held (result r space check) refuses last own before = absurd refuses
 no-case b held tick refuses last own before = absurd refuses
 no-case b held reset refuses last own before = absurd refuses
+no-case b held (hand store) refuses last own before = absurd refuses
 
 -- ---- a store is carried out: it has no record yet, and bit 22 is clear
 
@@ -205,12 +207,16 @@ module _ (store : Store) where
       (λ drive. decoded-opens _ (askedIn store _) refl (asked-operation _ (askedFor store)))
 
 stores-case : OfStores Keeps
-unfolding lastStore carriesOut isTaken notRefused holdsStore offered ownRecord recordAfter pick
+unfolding lastStore carriesOut bringsStore storeBrought notRefused holdsStore offered ownRecord recordAfter pick
 stores-case b s lead last own before =
     let store = storeOf s in
     let t = carryOut b store in
     subst₂ (λ (next : Store) (later : OwnRecord). Goes next later t) (sym (pick-yes store last (ap not lead)))
     (sym (pick-yes noRecord own (ap not lead))) (carried-opens store b)
+
+handings-case : OfHandings Keeps
+unfolding lastStore carriesOut bringsStore storeBrought notRefused ownRecord recordAfter pick
+handings-case b s store last own before = carried-opens store b
 
 -- ---- the calls of a store
 
@@ -218,7 +224,7 @@ stores-case b s lead last own before =
 written :
     (b : Body) (held : Store) (drive : Drive) (host : Host) (space check : List ℕ)
     → Keeps (stated b (DataAwaited held)) (exchanged (hostData host space check) (dataDone b drive held host space check))
-unfolding dataDone settleData dataWords orderMove lastStore carriesOut isTaken notRefused ownRecord recordAfter InHand HeldUpToDate SentUpToDate pick
+unfolding dataDone settleData dataWords orderMove lastStore carriesOut bringsStore storeBrought notRefused ownRecord recordAfter InHand HeldUpToDate SentUpToDate pick
 written b held drive host space check last own before =
     record { kept = record { hand = before .hand; valid = before .valid; holds = tt }; says = tt }
 
@@ -304,7 +310,7 @@ ended :
     (b : Body) (operation : Operation) (held : Store) (drive : Drive) (r : Result) (space check : List ℕ)
     → resultRefusal drive operation held r (length check) ≡ 0
     → Keeps (stated b (ResultAwaited operation held)) (exchanged (result r space check) (resultDone b drive operation held r space check))
-unfolding resultDone settleResult resultWords resultBits withRetry lastStore carriesOut isTaken notRefused ownRecord recordAfter InHand pick
+unfolding resultDone settleResult resultWords resultBits withRetry lastStore carriesOut bringsStore storeBrought notRefused ownRecord recordAfter InHand pick
 ended b operation held drive r space check good last own before =
     let mine = before .hand in
     let verdict = verdictOf drive operation held r in
@@ -320,12 +326,13 @@ results-case b operation held r space check = result-for Keeps refusals-case b h
 -- ---- every call, and every list
 
 keeps : Kinds Keeps
-unfolding yesToGo resetState startBody noOutcome lastStore carriesOut isTaken notRefused ownRecord recordAfter InHand HeldUpToDate SentUpToDate pick
+unfolding yesToGo resetState startBody noOutcome lastStore carriesOut bringsStore storeBrought notRefused ownRecord recordAfter InHand HeldUpToDate SentUpToDate pick
 keeps =
     record {
       refusals = refusals-case;
       link = link-case;
       stores = stores-case;
+      handings = handings-case;
       reports = λ c n r within last own before. record { kept = record { hand = before .hand; valid = before .valid; holds = before .holds }; says = tt };
       yes = λ b held value accepts last own before. record { kept = record { hand = before .hand; valid = before .valid; holds = tt }; says = tt };
       no = no-case;

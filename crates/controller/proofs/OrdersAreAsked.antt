@@ -44,12 +44,12 @@ use Rattle.controller.specs.Controller.{fresh, carried}
 use Rattle.controller.specs.Stores.{endWith, pastTest, orderMove, begin, follow, clearOutcome, carryOutOn, carryOut}
 use Rattle.controller.specs.Records.{wordsOf, withStatus, withAfter, dataDone, resultDone}
 use Rattle.controller.specs.Machine.{unchanged, reportNoted, dataIn, resultIn, Call, Exchange, plain, step, run}
-use Rattle.controller.specs.Machine.Call.{byte, taken, broken, report, hostData, result, tick, reset}
+use Rattle.controller.specs.Machine.Call.{byte, taken, broken, report, hostData, result, tick, reset, hand}
 use Rattle.controller.specs.Lists.{notRefused, holdsStore, heldStore}
 use Rattle.controller.specs.Orders.{Settings, resetSettings, freshSettings, withPending, entered, gapsOf, orderAsked, askedNoted, storeNoted, callNoted, noted, Asked, issued, AskedFrom, OrdersAreAsked}
 use Rattle.controller.proofs.Courses.{decoded}
 use Rattle.controller.proofs.Steps.Resting.{NoOrder, ended-rests, settled-rests, go-refused-rests, ending-rests}
-use Rattle.controller.proofs.Steps.{stated, exchanged, LinkCall, SaysNo, OfRefusals, OfLink, OfStores, OfReports, OfNo, OfData, OfResults, Kinds, data-for, result-for, by-step}
+use Rattle.controller.proofs.Steps.{stated, exchanged, LinkCall, SaysNo, OfRefusals, OfLink, OfStores, OfHandings, OfReports, OfNo, OfData, OfResults, Kinds, data-for, result-for, by-step}
 use Rattle.controller.proofs.OrdersAreAsked.Agreement.{Agreeing, Kept, Matches, Pending, Complying, Complies, orderBy, entered-other, entered-own, put-agrees, quiet-complies, rests-comply, same-order}
 
 -- ---- calls that carry out no store
@@ -75,6 +75,7 @@ link-case c (report drive r) t links rests strings none a before = absurd links
 link-case c (hostData host space check) t links rests strings none a before = absurd links
 link-case c (result r space check) t links rests strings none a before = absurd links
 link-case c reset t links rests strings none a before = absurd links
+link-case c (hand store) t links rests strings none a before = absurd links
 
 no-case : OfNo Complying
 unfolding SaysNo noted notRefused callNoted pick
@@ -86,6 +87,7 @@ no-case b held (hostData host space check) refuses a before = absurd refuses
 no-case b held (result r space check) refuses a before = absurd refuses
 no-case b held tick refuses a before = absurd refuses
 no-case b held reset refuses a before = absurd refuses
+no-case b held (hand store) refuses a before = absurd refuses
 
 -- ---- a report
 
@@ -280,6 +282,10 @@ stores-case b s lead a before =
     let store = storeOf s in
     subst (λ (later : Settings). Complies later (carryOut b store)) (sym (pick-yes (storeNoted a (gapsOf (b .drives)) store) a (ap not lead))) (carried-complies a b store (before .agrees))
 
+handings-case : OfHandings Complying
+unfolding noted notRefused callNoted pick
+handings-case b s store a before = carried-complies a b store (before .agrees)
+
 -- ---- the calls of a store
 
 -- whatever drive's density the image has
@@ -320,6 +326,7 @@ complying =
       refusals = refusals-case;
       link = link-case;
       stores = stores-case;
+      handings = handings-case;
       reports = reports-case;
       yes = λ b held value accepts a before. quiet-complies a b (DataAwaited held) Nothing tt (record { agrees = before .agrees; pending = before .pending });
       no = no-case;

@@ -39,14 +39,14 @@ use Rattle.controller.specs.Controller.{fresh, carried}
 use Rattle.controller.specs.Stores.{settle, endWith, endOperation, pastTest, orderMove, begin, follow, clearOutcome, carryOutOn, carryOut}
 use Rattle.controller.specs.Records.{wordsOf, withAfter, dataDone, resultDone}
 use Rattle.controller.specs.Machine.{unchanged, dataIn, resultIn, Call, Exchange, plain, step, run}
-use Rattle.controller.specs.Machine.Call.{byte, taken, broken, report, hostData, result, tick, reset}
+use Rattle.controller.specs.Machine.Call.{byte, taken, broken, report, hostData, result, tick, reset, hand}
 use Rattle.controller.specs.Lists.{notRefused, holdsStore, heldStore}
 use Rattle.controller.specs.Separation.{asksReset}
 use Rattle.controller.specs.Handed.{resetsAll, owedAfter, owes, holdsStoreIn, Due, owedStill, DueFrom, RecordsAreHanded}
 use Rattle.controller.proofs.Courses.{decoded, by-test-of}
 use Rattle.controller.proofs.RetriesAreTrusted.{completed-outcome, ended-outcome}
 use Rattle.controller.proofs.Steps.Resting.{by-free, Free, Rests, settled-rests, ending-rests}
-use Rattle.controller.proofs.Steps.{stated, exchanged, LinkCall, SaysNo, OfRefusals, OfLink, OfStores, OfNo, OfData, OfResults, Kinds, data-for, result-for, by-step}
+use Rattle.controller.proofs.Steps.{stated, exchanged, LinkCall, SaysNo, OfRefusals, OfLink, OfStores, OfHandings, OfNo, OfData, OfResults, Kinds, data-for, result-for, by-step}
 
 -- ---- what is kept from call to call: a record is owed where a store is in hand
 
@@ -140,6 +140,10 @@ stores-case b s lead owed same =
     subst (λ (later : Bool). Due later (carried (carryOut b store)) (carryOut b store .handed)) (sym (pick-yes (not (resetsAll store)) owed (ap not lead)))
     (carried-due store b)
 
+handings-case : OfHandings Dues
+unfolding owes owedAfter notRefused pick
+handings-case b s store owed same = carried-due store b
+
 -- ---- the other calls
 
 refusals-case : OfRefusals Dues
@@ -166,6 +170,7 @@ link-case c (report drive r) t links rests strings none owed same = absurd links
 link-case c (hostData host space check) t links rests strings none owed same = absurd links
 link-case c (result r space check) t links rests strings none owed same = absurd links
 link-case c reset t links rests strings none owed same = absurd links
+link-case c (hand store) t links rests strings none owed same = absurd links
 
 no-case : OfNo Dues
 unfolding SaysNo owes owedAfter notRefused noToGo Due holdsStoreIn pick
@@ -177,6 +182,7 @@ no-case b held (hostData host space check) refuses owed same = absurd refuses
 no-case b held (result r space check) refuses owed same = absurd refuses
 no-case b held tick refuses owed same = absurd refuses
 no-case b held reset refuses owed same = absurd refuses
+no-case b held (hand store) refuses owed same = absurd refuses
 
 -- whatever drive is written
 written :
@@ -212,6 +218,7 @@ dues =
       refusals = refusals-case;
       link = link-case;
       stores = stores-case;
+      handings = handings-case;
       reports = λ c n r within owed same. same;
       yes = λ b held value accepts owed same. same;
       no = no-case;

@@ -28,6 +28,7 @@ unmoved =
       refusals = refusals-case;
       link = λ c call t links rests strings none refused. absurd (refused refl);
       stores = λ b s lead refused. absurd (refused refl);
+      handings = λ b s store refused. absurd (refused refl);
       reports = λ c n r within refused. absurd (refused refl);
       yes = λ b held value accepts refused. absurd (refused refl);
       no = λ b held call says refused. absurd (refused refl);

@@ -33,9 +33,9 @@ use Rattle.controller.specs.declared.controller.Reply.{Reply}
 use Rattle.controller.specs.Controller.{carried, refused}
 use Rattle.controller.specs.Stores.{carryOut}
 use Rattle.controller.specs.Records.{Answer, dataDone, resultDone}
-use Rattle.controller.specs.Machine.{unchanged, byteIn, brokenIn, tickIn, byteCall, brokenCall, tickCall, carryOutString, takenIn, takenCall, reportNoted, reportCall, resetCall, dataFor, dataIn, dataCall, resultFor, resultIn, resultCall, Call, Exchange, plain, step}
+use Rattle.controller.specs.Machine.{unchanged, byteIn, brokenIn, tickIn, handIn, byteCall, brokenCall, tickCall, handCall, carryOutString, takenIn, takenCall, reportNoted, reportCall, resetCall, dataFor, dataIn, dataCall, resultFor, resultIn, resultCall, Call, Exchange, plain, step}
 use Rattle.controller.specs.Refused.{lentSpace, lentCheck}
-use Rattle.controller.specs.Machine.Call.{byte, taken, broken, report, hostData, result, tick, reset}
+use Rattle.controller.specs.Machine.Call.{byte, taken, broken, report, hostData, result, tick, reset, hand}
 use Rattle.controller.proofs.Steps.Resting.{Free, NoOrder, Rests, idle-rests, given-up-rests, byte-rests, send-rests, completed-rests, tick-rests, loaded-rests}
 use Rattle.controller.proofs.Steps.Handing.{Unhanded, idle-unhanded, completed-unhanded, byte-unhanded, given-up-unhanded, send-unhanded, tick-unhanded, loaded-unhanded}
 use Rattle.controller.proofs.Steps.Strings.{HeldUpToDate, SentUpToDate, StringsUpToDate, idle-strings, given-up-strings, byte-strings, send-strings, completed-strings, tick-strings, loaded-strings}
@@ -58,6 +58,7 @@ LinkCall c (report drive r) = ⊥
 LinkCall c (hostData host space check) = ⊥
 LinkCall c (result r space check) = ⊥
 LinkCall c reset = ⊥
+LinkCall c (hand store) = ⊥
 
 -- an answer to GO that is a no
 unfoldable pub SaysNo : Call → Type 0
@@ -69,6 +70,7 @@ SaysNo (hostData host space check) = ⊥
 SaysNo (result r space check) = ⊥
 SaysNo tick = ⊥
 SaysNo reset = ⊥
+SaysNo (hand store) = ⊥
 
 -- what a reply leaves and does
 abbrev pub turnOf : Reply → Turn
@@ -104,6 +106,10 @@ OfStores P =
     → eqb (s .c0) loadLead ≡ false
     → P (stated b (AckOffered s)) (exchanged taken (plain (carried (carryOut b (storeOf s)))))
 
+-- a store is handed over
+abbrev pub OfHandings : Claim → Type 0
+OfHandings P = (b : Body) (s : Collected) (store : Store) → P (stated b (Collecting s)) (exchanged (hand store) (plain (carried (carryOut b store))))
+
 abbrev pub OfReports : Claim → Type 0
 OfReports P = (c : Controller) (n r : ℕ) → n ≤ 3 → P c (exchanged (report n r) (plain (carried (reportNoted c n r))))
 
@@ -136,6 +142,7 @@ pub record Kinds (P : Claim) : Type 0 where
   pub refusals : OfRefusals P
   pub link : OfLink P
   pub stores : OfStores P
+  pub handings : OfHandings P
   pub reports : OfReports P
   pub yes : OfYes P
   pub no : OfNo P
@@ -215,6 +222,18 @@ module _ (P : Claim) (kinds : Kinds P) where
     tick-in (ResultAwaited operation held) = refuses (stated b (ResultAwaited operation held)) _ 4 refl refl refl
     tick-in (EndOffered interrupt) = refuses (stated b (EndOffered interrupt)) _ 4 refl refl refl
 
+    hand-in : (store : Store) (phase : Phase) → P (stated b phase) (exchanged (hand store) (plain (handIn (stated b phase) b store phase)))
+    unfolding lentSpace lentCheck handIn
+    hand-in store (Collecting s) =
+        pick-by (λ (r : Reply). P (stated b (Collecting s)) (exchanged (hand store) (plain r))) (eqb (s .length) 0)
+        (λ idle. kinds .handings b s store) (λ part. refuses (stated b (Collecting s)) _ 4 refl refl refl)
+    hand-in store (AckOffered s) = refuses (stated b (AckOffered s)) _ 4 refl refl refl
+    hand-in store (Sending s) = refuses (stated b (Sending s)) _ 4 refl refl refl
+    hand-in store (GoOffered held) = refuses (stated b (GoOffered held)) _ 4 refl refl refl
+    hand-in store (DataAwaited held) = refuses (stated b (DataAwaited held)) _ 4 refl refl refl
+    hand-in store (ResultAwaited operation held) = refuses (stated b (ResultAwaited operation held)) _ 4 refl refl refl
+    hand-in store (EndOffered interrupt) = refuses (stated b (EndOffered interrupt)) _ 4 refl refl refl
+
     taken-in : (phase : Phase) → P (stated b phase) (exchanged taken (plain (takenIn (stated b phase) b phase)))
     unfolding lentSpace lentCheck takenIn carryOutString offered LinkCall Free
     taken-in (AckOffered s) =
@@ -269,12 +288,13 @@ module _ (P : Claim) (kinds : Kinds P) where
         (λ few. let below = leb-false 4 n few in kinds .reports c n r (omega arith))
 
     pub by-step : (call : Call) → P c (exchanged call (step c call))
-    unfolding lentSpace lentCheck step byteCall brokenCall tickCall takenCall reportCall resetCall dataCall resultCall
+    unfolding lentSpace lentCheck step byteCall brokenCall tickCall handCall takenCall reportCall resetCall dataCall resultCall
     by-step (byte value) = by-soundness (byte value) _ refl refl (byte-in (c .body) value (c .phase))
     by-step broken = by-soundness broken _ refl refl (broken-in (c .body) (c .phase))
     by-step tick = by-soundness tick _ refl refl (tick-in (c .body) (c .phase))
     by-step taken = by-soundness taken _ refl refl (taken-in (c .body) (c .phase))
     by-step (report n r) = by-soundness (report n r) _ refl refl (reported-at n r)
+    by-step (hand store) = by-soundness (hand store) _ refl refl (hand-in (c .body) store (c .phase))
     by-step reset = by-soundness reset _ refl refl (kinds .resets c)
     by-step (hostData host space check) =
         pick-by (λ (a : Answer). P c (exchanged (hostData host space check) a)) (isSound (c .body) (c .phase))

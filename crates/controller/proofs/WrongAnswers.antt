@@ -1,4 +1,4 @@
--- For each of the eight calls, and for the function that makes a fresh controller, two wrong answers that its contract does not allow. The
+-- For each of the nine calls, and for the function that makes a fresh controller, two wrong answers that its contract does not allow. The
 -- contract is `Allows` (Demands/Contracts.antt), as the toolchain reads it from the function.
 -- Assumes nothing.
 use mathlib.Core.Path.{_≡_, refl, sym, ap, subst, _∙_}
@@ -49,8 +49,8 @@ use Rattle.controller.specs.declared.controller.Reply.{Reply}
 use Rattle.controller.specs.Controller.{fresh}
 use Rattle.controller.specs.Stores.{settle, endWith, orderMove, endOperation, carryOut}
 use Rattle.controller.specs.Records.{Answer, dataDone, resultDone}
-use Rattle.controller.specs.Machine.{byteIn, brokenIn, tickIn, byteCall, brokenCall, tickCall, carryOutString, takenIn, takenCall, reportNoted, reportCall, resetCall, dataFor, dataIn, dataCall, resultFor, resultIn, resultCall, Call, step}
-use Rattle.controller.specs.Machine.Call.{byte, taken, broken, report, hostData, result, tick, reset}
+use Rattle.controller.specs.Machine.{byteIn, brokenIn, tickIn, handIn, byteCall, brokenCall, tickCall, handCall, carryOutString, takenIn, takenCall, reportNoted, reportCall, resetCall, dataFor, dataIn, dataCall, resultFor, resultIn, resultCall, Call, step}
+use Rattle.controller.specs.Machine.Call.{byte, taken, broken, report, hostData, result, tick, reset, hand}
 use Rattle.controller.proofs.controller.fresh_controller.Reads as fresh-reads
 use Rattle.controller.proofs.Demands.Contracts.{Allows, answers-are-steps}
 
@@ -167,6 +167,32 @@ taken-drive-4-with-code-00 b s lead names high =
     (pick-by (λ (r : Reply). (r .refusal ≡ 0) × (r .controller .body .outcome .result .code ≡ 0) → ⊥) (isSound b (AckOffered s))
     (λ sane w. pick-by (λ (t : Turn). t .body .outcome .result .code ≡ 0 → ⊥) (eqb (s .c0) loadLead) (λ load. absurd (lead (eqb-true _ _ load)))
     (λ stored. named-above b (storeOf s) names high) (w .1))
+    (λ hurt w. nonzero 1 refl (w .0)))
+
+-- ---- hand
+
+-- it is carried out while a string is collected
+pub hand-while-a-string-is-collected :
+    (b : Body) (s : Collected) (store : Store) → (s .length ≡ 0 → ⊥) → Excludes (at b (Collecting s)) (hand store) (λ a. a .reply .refusal ≡ 0)
+unfolding step handCall handIn
+hand-while-a-string-is-collected b s store some =
+    excluded _ _ _
+    (pick-by (λ (r : Reply). r .refusal ≡ 0 → ⊥) (isSound b (Collecting s))
+    (λ sane. pick-by (λ (r : Reply). r .refusal ≡ 0 → ⊥) (eqb (s .length) 0) (λ none. absurd (some (eqb-true _ 0 none))) (λ part. nonzero 4 refl))
+    (λ hurt. nonzero 1 refl))
+
+-- a store that names a drive above 3 goes without code 01
+pub hand-drive-4-with-code-00 :
+    (b : Body) (s : Collected) (store : Store)
+    → namesDrive store ≡ true
+    → 4 ≤ namedDrive store
+    → Excludes (at b (Collecting s)) (hand store) (λ a. (a .reply .refusal ≡ 0) × (a .reply .controller .body .outcome .result .code ≡ 0))
+unfolding step handCall handIn
+hand-drive-4-with-code-00 b s store names high =
+    excluded _ _ _
+    (pick-by (λ (r : Reply). (r .refusal ≡ 0) × (r .controller .body .outcome .result .code ≡ 0) → ⊥) (isSound b (Collecting s))
+    (λ sane. pick-by (λ (r : Reply). (r .refusal ≡ 0) × (r .controller .body .outcome .result .code ≡ 0) → ⊥) (eqb (s .length) 0)
+    (λ none w. named-above b store names high (w .1)) (λ part w. nonzero 4 refl (w .0)))
     (λ hurt w. nonzero 1 refl (w .0)))
 
 -- ---- broken

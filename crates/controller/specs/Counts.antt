@@ -25,7 +25,7 @@ use Rattle.controller.specs.declared.controller.Controller.{Controller}
 use Rattle.controller.specs.declared.controller.Reply.{Reply}
 use Rattle.controller.specs.Controller.{fresh}
 use Rattle.controller.specs.Machine.{Call, Exchange}
-use Rattle.controller.specs.Machine.Call.{byte, taken, broken, report, hostData, result, tick, reset}
+use Rattle.controller.specs.Machine.Call.{byte, taken, broken, report, hostData, result, tick, reset, hand}
 use Rattle.controller.specs.Lists.{notRefused, holdsStore, lastStore, noStore, asksFor}
 
 -- ---- the record of a store
@@ -51,6 +51,7 @@ passedBy store r =
 -- this call's included.
 unfoldable pub recordAfter : Store → OwnRecord → Controller → Call → OwnRecord
 recordAfter store own c taken = pick (holdsStore c) noRecord own
+recordAfter store own c (hand given) = noRecord
 recordAfter store own c (result r space check) = passedBy store r
 recordAfter store own c (byte b) = own
 recordAfter store own c broken = own

@@ -16,7 +16,7 @@ use Rattle.controller.specs.declared.controller.Controller.{Controller}
 use Rattle.controller.specs.declared.controller.Reply.{Reply}
 use Rattle.controller.specs.Controller.{fresh}
 use Rattle.controller.specs.Machine.{Call, Exchange}
-use Rattle.controller.specs.Machine.Call.{byte, taken, broken, report, hostData, result, tick, reset}
+use Rattle.controller.specs.Machine.Call.{byte, taken, broken, report, hostData, result, tick, reset, hand}
 use Rattle.controller.specs.Lists.{notRefused, holdsStore, heldStore}
 use Rattle.controller.specs.Separation.{asksReset}
 
@@ -29,6 +29,7 @@ resetsAll store = not (namesUnknown store) && asksReset (askedFor store)
 -- a call not refused: a store that is carried out owes its record, but for one that resets the controller; a reset drops what is owed
 unfoldable pub owedAfter : Bool → Controller → Call → Bool
 owedAfter owed c taken = pick (holdsStore c) (not (resetsAll (heldStore c))) owed
+owedAfter owed c (hand store) = not (resetsAll store)
 owedAfter owed c reset = false
 owedAfter owed c (byte b) = owed
 owedAfter owed c broken = owed

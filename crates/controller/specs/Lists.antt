@@ -15,22 +15,11 @@ use Rattle.controller.specs.declared.controller.Controller.{Controller}
 use Rattle.link.specs.Bytes.{loadLead}
 use Rattle.link.specs.State.{storeOf, offered}
 use Rattle.controller.specs.Machine.{Call, Exchange}
-use Rattle.controller.specs.Machine.Call.{byte, taken, broken, report, hostData, result, tick, reset}
+use Rattle.controller.specs.Machine.Call.{byte, taken, broken, report, hostData, result, tick, reset, hand}
 
 -- the call is carried out
 unfoldable pub notRefused : Exchange → Bool
 notRefused x = eqb (x .answer .reply .refusal) 0
-
--- the host takes the ACK
-unfoldable pub isTaken : Call → Bool
-isTaken taken = true
-isTaken (byte b) = false
-isTaken broken = false
-isTaken (report drive r) = false
-isTaken (hostData host space check) = false
-isTaken (result r space check) = false
-isTaken tick = false
-isTaken reset = false
 
 -- the string whose ACK is offered is a store, and not a load
 unfoldable pub holdsStore : Controller → Bool
@@ -40,17 +29,41 @@ holdsStore c = not (eqb (offered (c .phase) .c0) loadLead)
 abbrev pub heldStore : Controller → Store
 heldStore c = storeOf (offered (c .phase))
 
--- "A store is carried out where a taken not refused meets its ACK"
-unfoldable pub carriesOut : Controller → Exchange → Bool
-carriesOut c x = isTaken (x .call) && (notRefused x && holdsStore c)
-
--- the last store carried out, this call's included: "GO answers, data calls and results not refused belong to the last such store"
-unfoldable pub lastStore : Store → Controller → Exchange → Store
-lastStore last c x = pick (carriesOut c x) (heldStore c) last
-
 -- before the first store: one that names no drive
 abbrev pub noStore : Store
 noStore = record { address = 0; first = 0; second = 0; third = 0; fourth = 0 }
+
+-- whether a call brings a store: a taken that meets a store's ACK, and a handing
+unfoldable pub bringsStore : Controller → Call → Bool
+bringsStore c taken = holdsStore c
+bringsStore c (hand store) = true
+bringsStore c (byte b) = false
+bringsStore c broken = false
+bringsStore c (report drive r) = false
+bringsStore c (hostData host space check) = false
+bringsStore c (result r space check) = false
+bringsStore c tick = false
+bringsStore c reset = false
+
+-- the store that it brings
+unfoldable pub storeBrought : Controller → Call → Store
+storeBrought c taken = heldStore c
+storeBrought c (hand store) = store
+storeBrought c (byte b) = noStore
+storeBrought c broken = noStore
+storeBrought c (report drive r) = noStore
+storeBrought c (hostData host space check) = noStore
+storeBrought c (result r space check) = noStore
+storeBrought c tick = noStore
+storeBrought c reset = noStore
+
+-- "A store is carried out where a taken not refused meets its ACK"; one "handed over is carried out as if its ACK had just been taken"
+unfoldable pub carriesOut : Controller → Exchange → Bool
+carriesOut c x = notRefused x && bringsStore c (x .call)
+
+-- the last store carried out, this call's included: "GO answers, data calls and results not refused belong to the last such store"
+unfoldable pub lastStore : Store → Controller → Exchange → Store
+lastStore last c x = pick (carriesOut c x) (storeBrought c (x .call)) last
 
 -- a store that asks for this operation
 unfoldable pub asksFor : Operation → Decoded → Bool

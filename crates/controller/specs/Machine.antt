@@ -1,5 +1,5 @@
--- The machine of document 01, with what document 02 asks for: its eight calls as one type, a step, and a run over a list of calls. "Calls: byte; taken; broken; report;
--- data; result; tick; reset. The state goes in and the next state comes out, with one action or none".
+-- The machine of document 01, with what document 02 asks for: its nine calls as one type, a step, and a run over a list of calls. "Calls: byte; taken; broken; report;
+-- data; result; tick; reset. The state goes in and the next state comes out, with one action or none"; the ninth hands over a store (document 02, Wish 8).
 -- Assumes nothing.
 use Prim.Native.Nat.{ℕ}
 use mathlib.Core.Bool.{Bool, not}
@@ -32,7 +32,7 @@ use Rattle.transfers.specs.Results.{Result, resultRefusal}
 use Rattle.controller.specs.Records.{Answer, dataDone, resultDone}
 use Rattle.link.specs.Damaged.{isSound}
 
--- ---- the eight calls
+-- ---- the nine calls
 
 -- A byte, in each phase; the answers while data or a result is awaited are refusals.
 unfoldable pub byteIn : Controller → Body → ℕ → Phase → Reply
@@ -98,6 +98,20 @@ takenIn c b (EndOffered interrupt) = refused linkNotAwaited c
 -- the ACK is taken
 unfoldable pub takenCall : Controller → Reply
 takenCall c = pick (isSound (c .body) (c .phase)) (takenIn c (c .body) (c .phase)) (refused stateDamaged c)
+
+-- "A store handed over is carried out as if its ACK had just been taken."; "A handing when not idle is refused as 4" (document 02, Wish 8)
+unfoldable pub handIn : Controller → Body → Store → Phase → Reply
+handIn c b store (Collecting s) = pick (eqb (s .length) 0) (carried (carryOut b store)) (refused notIdle c)
+handIn c b store (AckOffered s) = refused notIdle c
+handIn c b store (Sending s) = refused notIdle c
+handIn c b store (GoOffered held) = refused notIdle c
+handIn c b store (DataAwaited held) = refused notIdle c
+handIn c b store (ResultAwaited operation held) = refused notIdle c
+handIn c b store (EndOffered interrupt) = refused notIdle c
+
+-- a store is handed over
+unfoldable pub handCall : Controller → Store → Reply
+handCall c store = pick (isSound (c .body) (c .phase)) (handIn c (c .body) store (c .phase)) (refused stateDamaged c)
 
 -- a report is noted, in any phase
 abbrev pub reportNoted : Controller → ℕ → ℕ → Turn
@@ -168,6 +182,7 @@ pub data Call : Type 0 where
   result : Result → List ℕ → List ℕ → Call
   tick : Call
   reset : Call
+  hand : Store → Call
 
 -- an answer of a call that is lent nothing
 abbrev pub plain : Reply → Answer
@@ -183,6 +198,7 @@ step c (hostData host space check) = dataCall c host space check
 step c (result r space check) = resultCall c r space check
 step c tick = plain (tickCall c)
 step c reset = plain (resetCall c)
+step c (hand store) = plain (handCall c store)
 
 -- a call and its answer
 pub record Exchange : Type 0 where

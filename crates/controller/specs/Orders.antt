@@ -25,7 +25,7 @@ use Rattle.link.specs.declared.state.Action.the-variants.{Nothing, Byte, Text, 
 use Rattle.controller.specs.declared.controller.Controller.{Controller}
 use Rattle.controller.specs.Controller.{fresh}
 use Rattle.controller.specs.Machine.{Call, Exchange}
-use Rattle.controller.specs.Machine.Call.{byte, taken, broken, report, hostData, result, tick, reset}
+use Rattle.controller.specs.Machine.Call.{byte, taken, broken, report, hostData, result, tick, reset, hand}
 use Rattle.controller.specs.Lists.{notRefused, holdsStore, heldStore}
 
 -- ---- the settings that a list makes
@@ -99,6 +99,7 @@ callNoted a c (report drive r) =
       guard = a .guard;
       pending = a .pending;
     }
+callNoted a c (hand store) = storeNoted a (gapsOf (c .body .drives)) store
 callNoted a c reset = resetSettings (a .report)
 callNoted a c (byte b) = a
 callNoted a c broken = a

@@ -8,7 +8,7 @@ use Rattle.link.specs.declared.state.Handed.the-variants.{NoneHanded}
 use Rattle.controller.specs.declared.controller.Controller.{Controller}
 use Rattle.controller.specs.Records.{Answer}
 use Rattle.controller.specs.Machine.{Call}
-use Rattle.controller.specs.Machine.Call.{byte, taken, broken, report, hostData, result, tick, reset}
+use Rattle.controller.specs.Machine.Call.{byte, taken, broken, report, hostData, result, tick, reset, hand}
 
 -- the space that a call is lent; the calls that are lent nothing have none
 unfoldable pub lentSpace : Call → List ℕ
@@ -20,6 +20,7 @@ lentSpace broken = []
 lentSpace (report drive r) = []
 lentSpace tick = []
 lentSpace reset = []
+lentSpace (hand store) = []
 
 -- the check store, "lent to data and result calls only"
 unfoldable pub lentCheck : Call → List ℕ
@@ -31,6 +32,7 @@ lentCheck broken = []
 lentCheck (report drive r) = []
 lentCheck tick = []
 lentCheck reset = []
+lentCheck (hand store) = []
 
 -- "state and buffers unchanged, no action": and no byte is given, and no record handed back
 pub record Unchanged (c : Controller) (call : Call) (answer : Answer) : Type 0 where

@@ -26,8 +26,8 @@ use Rattle.controller.specs.Controller.{fresh}
 use Rattle.transfers.specs.Data.{Host}
 use Rattle.transfers.specs.Results.{Result}
 use Rattle.controller.specs.Machine.{Call, Exchange}
-use Rattle.controller.specs.Machine.Call.{byte, taken, broken, report, hostData, result, tick, reset}
-use Rattle.controller.specs.Lists.{notRefused, holdsStore, heldStore, carriesOut, lastStore, noStore, asksRead, after}
+use Rattle.controller.specs.Machine.Call.{byte, taken, broken, report, hostData, result, tick, reset, hand}
+use Rattle.controller.specs.Lists.{notRefused, holdsStore, storeBrought, carriesOut, lastStore, noStore, asksRead, after}
 
 -- ---- the history of a drive
 
@@ -67,6 +67,7 @@ eventOf d store c (byte b) = pick (awaitsGo (c .phase) && isOf d store) (goAnswe
 eventOf d store c broken = pick (awaitsGo (c .phase) && isOf d store) (goAnswered false ∷ []) []
 eventOf d store c (hostData host space check) = pick (isOf d store) (dataCame host ∷ []) []
 eventOf d store c (result r space check) = pick (isOf d store) (resultCame r (length space) ∷ []) []
+eventOf d store c (hand given) = pick (isOf d store) (storeEvent store ∷ []) []
 eventOf d store c tick = []
 eventOf d store c reset = []
 
@@ -111,6 +112,7 @@ transferOf d store bytes (byte b) = []
 transferOf d store bytes taken = []
 transferOf d store bytes broken = []
 transferOf d store bytes (report drive r) = []
+transferOf d store bytes (hand given) = []
 transferOf d store bytes tick = []
 transferOf d store bytes reset = []
 
@@ -153,11 +155,12 @@ isReset (report drive r) = false
 isReset (hostData host space check) = false
 isReset (result r space check) = false
 isReset tick = false
+isReset (hand store) = false
 
 -- every store carried out names its drive, and neither a store nor a call resets the controller
 unfoldable pub admits : Controller → Exchange → Bool
 admits c x =
-    pick (carriesOut c x) (namesDrive (heldStore c) && not (resets (heldStore c)))
+    pick (carriesOut c x) (namesDrive (storeBrought c (x .call)) && not (resets (storeBrought c (x .call))))
     (not (notRefused x && isReset (x .call)))
 
 -- of every call of a list

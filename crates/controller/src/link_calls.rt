@@ -1,4 +1,4 @@
-// The calls that are lent nothing: byte, broken, tick, taken, report and reset. Each refuses a damaged state, then goes by the phase.
+// The calls that are lent nothing: byte, broken, tick, hand, taken, report and reset. Each refuses a damaged state, then goes by the phase.
 use crate::controller::Controller;
 use crate::controller::Reply;
 use crate::controller::carried;
@@ -29,8 +29,9 @@ use link::state::Phase;
 use link::state::Turn;
 use link::state::store_of;
 use operations::store::DRIVES;
+use operations::store::Store;
 ghost use mathlib.Core.Path.{_≡_};
-ghost use Rattle.controller.specs.Machine.{isDamaged, carryOutString, byteCall, brokenCall, tickCall, takenCall, reportCall, resetCall};
+ghost use Rattle.controller.specs.Machine.{isDamaged, carryOutString, byteCall, brokenCall, tickCall, takenCall, reportCall, resetCall, handCall};
 
 // Whether a field of the state is out of range.
 pub fn is_damaged(c: Controller) -> bool
@@ -104,6 +105,23 @@ impl Controller {
         };
         if string.length == 0 {
             return carried(idle_tick(self.body, string));
+        }
+        refused(NOT_IDLE, self)
+    }
+
+    // A store is handed over, which is carried out where nothing is collected.
+    pub fn hand(self, store: Store) -> Reply
+        ensures { λ r. ⌜ r ≡ handCall self store ⌝ }
+    {
+        if is_damaged(self) {
+            return refused(STATE_DAMAGED, self);
+        }
+        let phase = self.phase;
+        let Phase::Collecting(string) = phase else {
+            return refused(NOT_IDLE, self);
+        };
+        if string.length == 0 {
+            return carried(carry_out(self.body, store));
         }
         refused(NOT_IDLE, self)
     }

@@ -28,7 +28,7 @@ fn is_digit(base: u8, d: u8) -> bool
 }
 
 // Whether every byte is.
-fn all_digits(base: u8, s: &[u8]) -> bool
+pub fn all_digits(base: u8, s: &[u8]) -> bool
     ensures { λ r. ⌜ r ≡ allDigits base (now (s .entry)) ⌝ }
 {
     let end = s.len();

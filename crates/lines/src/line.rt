@@ -66,7 +66,7 @@ fn field_end(s: &[u8]) -> usize
 }
 
 // The first field.
-fn field_of(s: &[u8]) -> &[u8]
+pub fn field_of(s: &[u8]) -> &[u8]
     ensures { λ r. ⌜ now r ≡ fieldOf (now (s .entry)) ⌝ }
 {
     let end = field_end(s);
@@ -74,7 +74,7 @@ fn field_of(s: &[u8]) -> &[u8]
 }
 
 // What comes after a field of so many bytes and its comma.
-fn after(s: &[u8], count: usize) -> &[u8]
+pub fn after(s: &[u8], count: usize) -> &[u8]
     requires { ⌜ count ≤ length (now s) ⌝ }
     ensures { λ r. ⌜ now r ≡ after (now (s .entry)) count ⌝ }
 {

@@ -11,7 +11,7 @@ ghost use Rattle.lines.specs.Print.{digitOf, actionLetter};
 ghost use Rattle.lines.specs.Print.{byteText, bytesText, refusalText, sixText, actionText, headText, answerText, unreadableText};
 
 // A digit below 16.
-fn digit_of(n: u8) -> u8
+pub fn digit_of(n: u8) -> u8
     requires { ⌜ n < 16 ⌝ }
     ensures { λ r. ⌜ r ≡ digitOf n ⌝ }
 {
@@ -22,7 +22,7 @@ fn digit_of(n: u8) -> u8
 }
 
 // One byte of text.
-fn put(byte: u8, out: &mut [u8], at: usize) -> usize
+pub fn put(byte: u8, out: &mut [u8], at: usize) -> usize
     requires { ⌜ at < length (now out) ⌝ }
     ensures { λ r. ⌜ (r ≡ at + 1) × (take r (now (out .exit)) ≡ take at (now (out .entry)) ++ (byte ∷ [])) ⌝ }
 {
@@ -31,7 +31,7 @@ fn put(byte: u8, out: &mut [u8], at: usize) -> usize
 }
 
 // A byte in hexadecimal.
-fn put_byte(byte: u8, out: &mut [u8], at: usize) -> usize
+pub fn put_byte(byte: u8, out: &mut [u8], at: usize) -> usize
     requires { ⌜ at + 2 ≤ length (now out) ⌝ }
     ensures { λ r. ⌜ (r ≡ at + 2) × (take r (now (out .exit)) ≡ take at (now (out .entry)) ++ byteText byte) ⌝ }
 {
@@ -40,7 +40,7 @@ fn put_byte(byte: u8, out: &mut [u8], at: usize) -> usize
 }
 
 // Bytes in hexadecimal.
-fn put_bytes(bytes: &[u8], out: &mut [u8], at: usize) -> usize
+pub fn put_bytes(bytes: &[u8], out: &mut [u8], at: usize) -> usize
     requires { ⌜ at + 2 * length (now bytes) ≤ length (now out) ⌝ }
     ensures { λ r. ⌜ (r ≡ at + 2 * length (now (bytes .entry)))
         × (take r (now (out .exit)) ≡ take at (now (out .entry)) ++ bytesText (now (bytes .entry))) ⌝ }
@@ -102,7 +102,7 @@ fn put_action(action: Action, out: &mut [u8], at: usize) -> usize
 }
 
 // Refusal, action and its bytes, each with a comma.
-fn print_head(refusal: u32, action: Action, out: &mut [u8]) -> usize
+pub fn print_head(refusal: u32, action: Action, out: &mut [u8]) -> usize
     requires { ⌜ headMost ≤ length (now out) ⌝ }
     ensures { λ r. ⌜ (r ≤ headMost) × (take r (now (out .exit)) ≡ headText refusal action) ⌝ }
 {

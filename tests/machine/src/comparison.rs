@@ -17,6 +17,8 @@ const WINDOWS: [usize; 7] = [13, 10, 9, 6, 4, 2, 1];
 pub struct Program {
     pub path: String,
     pub arguments: Vec<String>,
+    /// Whether it plays sessions of jobs.
+    pub jobs: bool,
     pub time_limit: Duration,
 }
 
@@ -109,7 +111,11 @@ impl Program {
         session: &[u8],
         limit: Duration,
     ) -> std::io::Result<Option<Difference>> {
-        let right = lines::run(session, None);
+        let right = if self.jobs {
+            lines::run_of_jobs(session, None)
+        } else {
+            lines::run(session, None)
+        };
         let run = self.run(session, limit)?;
         if run.trouble.is_none() && run.output == right {
             return Ok(None);

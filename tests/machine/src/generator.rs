@@ -1,7 +1,10 @@
 //! Random sessions that go deep: the generator runs the machine, so it knows what is awaited.
 
+use crate::jobs::{Store, JOBS, QUEUE_LIMIT};
 use crate::lines::{write_hex, Session, HOST_LIMIT, IMAGE_LIMIT, MARKS_LIMIT};
-use crate::machine::{code, link, report, Drive, Entry, Job, Operation, Phase, OPERATIONS};
+use crate::machine::{
+    address, code, link, report, Drive, Entry, Job, Operation, Phase, OPERATIONS,
+};
 use crate::records::{self, Density, BLOCKETTE, GOOD, RECORD_LIMIT, TORN};
 use std::collections::VecDeque;
 
@@ -84,6 +87,8 @@ pub struct Generator {
     session: Session,
     /// Whether stores with a supplied count are made.
     supplied: bool,
+    /// Whether jobs queue most of the stores.
+    jobs: bool,
     /// Lines that were decided on together, such as the bytes of a string.
     planned: VecDeque<Vec<u8>>,
     /// Loads still to be made after a result, to see what it left.
@@ -97,10 +102,23 @@ pub struct Generator {
 
 impl Generator {
     pub fn new(seed: u64, supplied: bool) -> Generator {
+        Generator::playing(seed, supplied, false)
+    }
+
+    pub fn of_jobs(seed: u64) -> Generator {
+        Generator::playing(seed, true, true)
+    }
+
+    fn playing(seed: u64, supplied: bool, jobs: bool) -> Generator {
         let mut generator = Generator {
             random: Random::new(seed),
-            session: Session::new(None),
+            session: if jobs {
+                Session::of_jobs(None)
+            } else {
+                Session::new(None)
+            },
             supplied,
+            jobs,
             planned: VecDeque::new(),
             looks: 0,
             look_at_primary: false,
@@ -123,6 +141,8 @@ impl Generator {
             let line = line.clone();
             self.take_back = None;
             line
+        } else if self.jobs && self.disturbed_by_jobs() {
+            self.of_jobs_at_any_time()
         } else if self.random.below(50) == 0 {
             self.disturbance()
         } else if self.planned.is_empty() && self.may_show_review() && self.random.chance(6) {
@@ -262,6 +282,8 @@ impl Generator {
         if self.looks > 0 {
             self.looks -= 1;
             self.plan_look();
+        } else if self.jobs && self.random.chance(60) {
+            return self.of_jobs_when_idle();
         } else if !self.session.machine.changed && self.random.chance(15) {
             self.plan_review();
         } else if self.session.machine.enable && self.random.chance(30) {
@@ -526,8 +548,19 @@ impl Generator {
             operand[0] = 0x81;
         }
         let unused = self.random.pick(&[0, 0, 0, 0x5A]);
-        let mut string = vec![link::STORE, address | operation << 4];
-        string.extend_from_slice(&operand);
+        let address = address | operation << 4;
+        self.plan_given(Store { address, operand }, unused);
+    }
+
+    /// A store that comes over the link or that a job queues.
+    fn plan_given(&mut self, store: Store, unused: u8) {
+        if self.jobs && self.waiting() < 3 * JOBS && self.random.chance(70) {
+            let line = self.queued(store);
+            self.planned.push_back(line);
+            return;
+        }
+        let mut string = vec![link::STORE, store.address];
+        string.extend_from_slice(&store.operand);
         string.push(unused);
         self.plan_string(string);
     }
@@ -574,7 +607,8 @@ impl Generator {
         };
         let [high, low] = count.to_be_bytes();
         let unused = random.pick(&[0, 0, 0, 0x5A]);
-        self.plan_string(vec![link::STORE, address, first, second, high, low, unused]);
+        let operand = [first, second, high, low];
+        self.plan_given(Store { address, operand }, unused);
     }
 
     /// A gap of some kind, a guard, what may come between, and something that changes the tape.
@@ -683,6 +717,150 @@ impl Generator {
             }
             self.planned.push_back(byte_line(byte));
         }
+    }
+
+    // Jobs --------------------------------------------------------------------------------------
+
+    /// What the dispatcher is asked while nothing else goes on: mostly to hand over.
+    fn of_jobs_when_idle(&mut self) -> Vec<u8> {
+        match self.random.below(24) {
+            0..=3 if self.waiting() < 2 * JOBS => self.plan_burst(),
+            5 => self.plan_full_queue(),
+            6 => {
+                // Neither the queues nor the turn go with a reset.
+                if self.random.chance(50) {
+                    self.planned.push_back(b"Z".to_vec());
+                } else {
+                    self.plan_string(vec![link::STORE, 0, 0, 0, 0, 0, 0]);
+                    self.planned.push_back(b"T".to_vec());
+                }
+                self.planned.push_back(HAND.to_vec());
+            }
+            7 => return self.refused_store(),
+            8..=11 if !self.session.machine.changed => {
+                // A hand does not review.
+                self.planned.push_front(HAND.to_vec());
+                self.looks = 1;
+                self.look_at_primary = true;
+                return self.report_and_take_back(1);
+            }
+            12..=15 if self.waiting() == 0 => self.plan_burst(),
+            _ => return HAND.to_vec(),
+        }
+        self.planned.pop_front().unwrap_or_default()
+    }
+
+    /// Seldom where strings are collected, which is most of the time.
+    fn disturbed_by_jobs(&mut self) -> bool {
+        let collecting = matches!(self.session.machine.phase, Phase::Collecting { .. });
+        self.random.chance(if collecting { 4 } else { 12 })
+    }
+
+    /// Stores are queued, and handings refused, whatever goes on.
+    fn of_jobs_at_any_time(&mut self) -> Vec<u8> {
+        match self.random.below(20) {
+            0..=7 => {
+                let store = self.short_store();
+                self.queued(store)
+            }
+            8 => self.refused_store(),
+            9 | 10 => {
+                let lines: Vec<&[u8]> = UNREADABLE_OF_JOBS.split(|&byte| byte == b'|').collect();
+                self.random.pick(&lines).to_vec()
+            }
+            11 if self.random.chance(30) => b"Z".to_vec(),
+            _ => HAND.to_vec(),
+        }
+    }
+
+    /// How many stores are queued.
+    fn waiting(&self) -> usize {
+        let queues = &self.session.machine.queues.of_job;
+        queues.iter().map(VecDeque::len).sum()
+    }
+
+    /// Some stores of some jobs.
+    fn plan_burst(&mut self) {
+        for _ in 0..1 + self.random.below(6) {
+            let store = self.short_store();
+            let line = self.queued(store);
+            self.planned.push_back(line);
+        }
+    }
+
+    /// As many stores of one job as its queue holds, one more or less, then one handed over and another queued.
+    fn plan_full_queue(&mut self) {
+        let job = self.random.below(JOBS);
+        let there = self.session.machine.queues.of_job[job].len();
+        let more = QUEUE_LIMIT - there + self.random.below(3);
+        for _ in 0..more.saturating_sub(1) {
+            let store = self.short_store();
+            self.planned.push_back(queue_line(job, store));
+        }
+        if self.random.chance(30) {
+            let line = self.refused_store();
+            self.planned.push_back(line);
+        }
+        if self.random.chance(50) {
+            self.planned.push_back(HAND.to_vec());
+            let store = self.short_store();
+            self.planned.push_back(queue_line(job, store));
+        }
+    }
+
+    fn queued(&mut self, store: Store) -> Vec<u8> {
+        let job = self.random.below(JOBS);
+        // Needless zeros are readable.
+        if self.random.chance(2) {
+            let line = queue_line(job, store);
+            return [b"Q,00", &line[2..]].concat();
+        }
+        queue_line(job, store)
+    }
+
+    /// A store that may be queued and takes few lines; its last bytes tell it from others.
+    fn short_store(&mut self) -> Store {
+        let random = &mut self.random;
+        let [high, low] = [random.byte(), random.byte()];
+        let small = random.below(4) as u8;
+        let control = random.pick(&[0, 1, 3, 4, 8, 9, 0x0A, 0x0B, 0x0C, 0x0D, 0x0D, 0x10, 0x11]);
+        let (operation, operand) = match random.below(16) {
+            0..=4 => (4, [0, 0, high, low]),
+            5 => (4, [0x40, 0, 0, 0]),
+            6 | 7 => (5, [0, random.pick(&[0, 0, 1]), 0, small]),
+            8 => (6, [0, 0, high, low]),
+            9 => (random.pick(&[1, 2, 7]), [0, 0, high, low]),
+            10 | 11 => (3, [0, 0, high, 0x20 | small]),
+            12 => (4, [0x80, 0, 0, small]),
+            _ => (3, [0, 0, high, control]),
+        };
+        let mut address = operation << 4 | address::NAMES_DRIVE | random.below(4) as u8;
+        if random.chance(6) {
+            address |= 4;
+        }
+        if random.chance(30) {
+            address |= address::INTERRUPT;
+        }
+        Store { address, operand }
+    }
+
+    /// A store that no queue takes: of a job above 3, without a drive, or a reset, alone or together.
+    fn refused_store(&mut self) -> Vec<u8> {
+        let mut store = self.short_store();
+        let mut job = self.random.below(JOBS);
+        let full = &self.session.machine.queues.of_job;
+        if let Some(of_full) = full.iter().position(|queue| queue.len() == QUEUE_LIMIT) {
+            job = of_full;
+        }
+        let drive = store.address & address::DRIVE;
+        match self.random.below(6) {
+            0 => job = self.random.pick(&[4, 5, 6, 7, 8, 128, 255]),
+            1 | 2 => store.address &= !address::NAMES_DRIVE,
+            3 => store.address = address::NAMES_DRIVE | drive & 3,
+            4 => store.address = address::NAMES_DRIVE | drive | 4,
+            _ => store.address = drive,
+        }
+        queue_line(job, store)
     }
 
     // Sends -------------------------------------------------------------------------------------
@@ -1115,11 +1293,28 @@ S,99999999999999999999999,22|S,18446744073709551616,22|\
 D|D,0|D,000|D,0g|D,AA,|D,AA,BB|D,aa|D,A A|Q|?|#K|\xEF\xBB\xBFK|\
 R|R,|R,00,0,0,,|R,00,0,0,,,0,|R,,0,0,,,0";
 
+/// The same of jobs.
+const UNREADABLE_OF_JOBS: &[u8] = b"H,|h|HH|H | H|H\r|H,0|H,00|q,0,48,00000000|\
+Q|Q,|Q,0|Q,0,48|Q,0,48,|Q,,48,00000000|Q,0,,00000000|Q,0,48,00000000,|Q,0,48,00000000,0|\
+Q,256,48,00000000|Q,-1,48,00000000|Q,+1,48,00000000|Q,A,48,00000000|Q, 0,48,00000000|Q,0 ,48,00000000|\
+Q,18446744073709551616,48,00000000|Q,99999999999999999999,48,00000000|\
+Q,0,4,00000000|Q,0,048,00000000|Q,0,4a,00000000|Q,0,4G,00000000|Q,0,0x48,00000000|\
+Q,0,48,0000000|Q,0,48,000000|Q,0,48,000000000|Q,0,48,0000000000|Q,0,48,0000000a|Q,0,48,0000000G|\
+Q,0,48,0000 0000|Q,0,48,00,00,00,00|Q,0,48,00000000\r|Q,0,48, 00000000|#H|H#";
+
+const HAND: &[u8] = b"H";
+
 /// The report of a drive that passes every test.
 const READY: u8 = report::INSTALLED | report::SELECTABLE;
 
 fn byte_line(byte: u8) -> Vec<u8> {
     format!("B,{byte:02X}").into_bytes()
+}
+
+fn queue_line(job: usize, store: Store) -> Vec<u8> {
+    let mut line = format!("Q,{job},{:02X},", store.address).into_bytes();
+    write_hex(&store.operand, &mut line);
+    line
 }
 
 fn report_line(drive: usize, report: u8) -> Vec<u8> {
@@ -1192,6 +1387,11 @@ pub fn session(seed: u64, lines: usize) -> Vec<u8> {
 /// The same without stores that supply a count, for a program that does not know them.
 pub fn session_without_supplied(seed: u64, lines: usize) -> Vec<u8> {
     write_session(Generator::new(seed, false), seed, lines)
+}
+
+/// A session of jobs.
+pub fn session_of_jobs(seed: u64, lines: usize) -> Vec<u8> {
+    write_session(Generator::of_jobs(seed), seed, lines)
 }
 
 fn write_session(mut generator: Generator, seed: u64, lines: usize) -> Vec<u8> {

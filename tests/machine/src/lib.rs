@@ -1,12 +1,14 @@
-//! The cartridge controller of document 01, with document 02's first three wishes and its sixth,
-//! written from those documents, READING.md and READING-02.md alone, with a generator of sessions and
-//! a comparison of another program with it.
+//! The cartridge controller of document 01, with document 02's first four wishes and its sixth to
+//! eighth, written from those documents, READING.md and READING-02.md alone, with a generator of
+//! sessions and a comparison of another program with it.
 //!
 //! `machine < SESSION` answers a session, `generate SEED LINES` prints a random one, and
-//! `compare PROGRAM` runs both programs on many and shrinks the first difference.
+//! `compare PROGRAM` runs both programs on many and shrinks the first difference. With `--jobs` as
+//! their first word all three do so with sessions of jobs.
 
 pub mod comparison;
 pub mod generator;
+pub mod jobs;
 pub mod lines;
 pub mod machine;
 pub mod mutants;

@@ -1,6 +1,7 @@
-//! Session lines: reading a call, printing its answer.
+//! Lines of sessions and of sessions of jobs: reading a call, printing its answer.
 
-use crate::machine::{Action, Machine, Refusal, Reported};
+use crate::jobs::{Queues, Store};
+use crate::machine::{Action, Answer, Machine, Record, Reported};
 use crate::mutants::Mutant;
 use crate::records::{CHECK_BYTES, NO_PLACE};
 
@@ -32,6 +33,28 @@ pub enum Line {
     },
     Tick,
     Reset,
+    Queue {
+        job: u8,
+        store: Store,
+    },
+    Hand,
+}
+
+/// Reads a line of a session of jobs: those of a session and two more.
+pub fn read_of_jobs(line: &[u8]) -> Option<Line> {
+    let mut fields = line.split(|&byte| byte == b',');
+    let read = match fields.next()? {
+        b"Q" => Line::Queue {
+            job: decimal(fields.next()?, 255)? as u8,
+            store: Store {
+                address: hex_byte(fields.next()?)?,
+                operand: hex_bytes(fields.next()?, 4)?.try_into().ok()?,
+            },
+        },
+        b"H" => Line::Hand,
+        _ => return read(line),
+    };
+    fields.next().is_none().then_some(read)
 }
 
 /// Reads a line, without its #0A; none if it is unreadable.
@@ -126,6 +149,8 @@ pub fn write_hex(bytes: &[u8], out: &mut Vec<u8>) {
 #[derive(Clone)]
 pub struct Session {
     pub machine: Machine,
+    /// Whether jobs queue stores, and the record handed back is printed as a fifth field.
+    jobs: bool,
     /// Z keeps it: it is the program's, not the machine's.
     pub check_store: [u8; CHECK_BYTES],
     image_space: Vec<u8>,
@@ -136,25 +161,48 @@ impl Session {
     pub fn new(mutant: Option<Mutant>) -> Session {
         Session {
             machine: Machine {
+                queues: Queues::fresh_with(mutant),
                 mutant,
                 ..Machine::fresh()
             },
+            jobs: false,
             check_store: [0; CHECK_BYTES],
             image_space: vec![0; IMAGE_LIMIT],
             host_space: vec![0; HOST_LIMIT],
         }
     }
 
-    /// Answers one line, given without its #0A, and prints the answer with one.
-    pub fn answer(&mut self, line: &[u8], out: &mut Vec<u8>) {
-        match read(line) {
-            Some(line) => self.call(&line, out),
-            None => out.extend_from_slice(b"?,-,,\n"),
+    pub fn of_jobs(mutant: Option<Mutant>) -> Session {
+        Session {
+            jobs: true,
+            ..Session::new(mutant)
         }
     }
 
-    fn call(&mut self, line: &Line, out: &mut Vec<u8>) {
+    /// Answers one line, given without its #0A, and prints the answer with one.
+    pub fn answer(&mut self, line: &[u8], out: &mut Vec<u8>) {
+        let line = if self.jobs {
+            read_of_jobs(line)
+        } else {
+            read(line)
+        };
+        let record = match line {
+            Some(line) => self.call(&line, out),
+            None => {
+                out.extend_from_slice(b"?,-,,");
+                None
+            }
+        };
+        if self.jobs {
+            print_record(record, out);
+        }
+        out.push(b'\n');
+    }
+
+    /// Makes the call, prints four fields and gives the record handed back.
+    fn call(&mut self, line: &Line, out: &mut Vec<u8>) -> Option<Record> {
         let machine = &mut self.machine;
+        let mut transferred: &[u8] = &[];
         let answer = match line {
             Line::Byte(byte) => machine.byte(*byte),
             Line::Taken => machine.taken(),
@@ -162,12 +210,15 @@ impl Session {
             Line::Report { drive, report } => machine.report(*drive, *report),
             Line::Tick => machine.tick(),
             Line::Reset => machine.reset(),
+            Line::Queue { job, store } => machine.queue(*job, *store),
+            Line::Hand => machine.hand(),
             Line::Data(host) => {
                 let (space, check_store) = (&mut self.image_space, &mut self.check_store);
-                return match machine.data(host, NO_PLACE, space, check_store) {
-                    Ok((action, length)) => print(action, &self.image_space[..length], out),
-                    Err(refusal) => print_refusal(refusal, out),
-                };
+                let answer = machine.data(host, NO_PLACE, space, check_store);
+                answer.map(|(action, length)| {
+                    transferred = &self.image_space[..length];
+                    action
+                })
             }
             Line::Result {
                 code,
@@ -186,47 +237,62 @@ impl Session {
                     marks,
                 };
                 let host_space = &mut self.host_space[..*space];
-                return match machine.result(reported, host_space, &mut self.check_store) {
-                    Ok((action, length)) => print(action, &self.host_space[..length], out),
-                    Err(refusal) => print_refusal(refusal, out),
-                };
+                let answer = machine.result(reported, host_space, &mut self.check_store);
+                answer.map(|(action, length)| {
+                    transferred = &self.host_space[..length];
+                    action
+                })
             }
         };
-        match answer {
-            Ok(action) => print(action, &[], out),
-            Err(refusal) => print_refusal(refusal, out),
-        }
+        let record = match machine.mutant {
+            Some(Mutant::RecordByRefused) if answer.is_err() => Some(machine.settled()),
+            _ => machine.record.take(),
+        };
+        print(answer, transferred, out);
+        record
     }
 }
 
-fn print(action: Action, transferred: &[u8], out: &mut Vec<u8>) {
-    match action {
-        Action::None => out.extend_from_slice(b"0,-,"),
-        Action::Byte(byte) => {
+fn print(answer: Answer, transferred: &[u8], out: &mut Vec<u8>) {
+    match answer {
+        Err(refusal) => out.extend_from_slice(format!("{},-,", refusal as u8).as_bytes()),
+        Ok(Action::None) => out.extend_from_slice(b"0,-,"),
+        Ok(Action::Byte(byte)) => {
             out.extend_from_slice(b"0,A,");
             write_hex(&[byte], out);
         }
-        Action::String(string) => {
+        Ok(Action::String(string)) => {
             out.extend_from_slice(b"0,P,");
             write_hex(&string, out);
         }
-        Action::Order(order) => {
+        Ok(Action::Order(order)) => {
             out.extend_from_slice(b"0,M,");
             write_hex(&order, out);
         }
     }
     out.push(b',');
     write_hex(transferred, out);
-    out.push(b'\n');
 }
 
-fn print_refusal(refusal: Refusal, out: &mut Vec<u8>) {
-    out.extend_from_slice(format!("{},-,,\n", refusal as u8).as_bytes());
+fn print_record(record: Option<Record>, out: &mut Vec<u8>) {
+    let printed = match record {
+        Some(record) => format!(",{:02X}:{}:{}", record.code, record.motion, record.count),
+        None => ",-".to_string(),
+    };
+    out.extend_from_slice(printed.as_bytes());
 }
 
 /// The answers to a whole session.
 pub fn run(session: &[u8], mutant: Option<Mutant>) -> Vec<u8> {
-    let mut machine = Session::new(mutant);
+    run_in(Session::new(mutant), session)
+}
+
+/// The answers to a whole session of jobs.
+pub fn run_of_jobs(session: &[u8], mutant: Option<Mutant>) -> Vec<u8> {
+    run_in(Session::of_jobs(mutant), session)
+}
+
+fn run_in(mut machine: Session, session: &[u8]) -> Vec<u8> {
     let mut out = Vec::new();
     for line in split(session) {
         machine.answer(line, &mut out);

@@ -1,10 +1,12 @@
 //! The controller: its state and the eight calls, as document 01 has them, with document 02's first
-//! three wishes, its sixth and its seventh: the read whose count the host supplies, the retry bit that
-//! hosts can trust, records of 65,535 bytes, host bytes with bad parity, and a write guard for each drive.
+//! four wishes and its sixth to eighth: the read whose count the host supplies, the retry bit that
+//! hosts can trust, records of 65,535 bytes, code, motion and count of each finished store, host bytes
+//! with bad parity, a write guard for each drive, and two calls for the stores that four jobs queue.
 //!
 //! Refusal 1, a damaged state, is not here: the state's types and the calls keep it whole.
 
-use crate::mutants::{Limited, Mutant};
+use crate::jobs::{Queues, Store};
+use crate::mutants::{Limited, Mutant, Way};
 use crate::records::{self, Density, Verdict, BLOCKETTE};
 
 // ---------------------------------------------------------------------------------------------
@@ -317,6 +319,8 @@ pub enum Refusal {
     MarkValue = 10,
     ImageSpace = 11,
     Place = 15,
+    Store = 16,
+    QueueFull = 17,
 }
 
 /// What a call has the controller do.
@@ -326,6 +330,14 @@ pub enum Action {
     Byte(u8),
     String([u8; 6]),
     Order([u8; 6]),
+}
+
+/// What became of a finished store; the count is what secondary holds.
+#[derive(Clone, Copy, Debug, PartialEq, Eq)]
+pub struct Record {
+    pub code: u8,
+    pub motion: u8,
+    pub count: u16,
 }
 
 pub type Answer = Result<Action, Refusal>;
@@ -463,6 +475,9 @@ pub struct Machine {
     pub tertiary: u32,
     pub quintary: u32,
     pub phase: Phase,
+    pub queues: Queues,
+    /// Left by the call that settles a code; whoever makes the call takes it.
+    pub record: Option<Record>,
     pub mutant: Option<Mutant>,
 }
 
@@ -630,7 +645,7 @@ fn wanted_lengths(
 }
 
 // ---------------------------------------------------------------------------------------------
-// Execute: the eight calls, loads and stores
+// Execute: the calls, loads and stores
 // ---------------------------------------------------------------------------------------------
 
 impl Default for Machine {
@@ -651,6 +666,8 @@ impl Machine {
             tertiary: 0,
             quintary: 0,
             phase: IDLE,
+            queues: Queues::fresh(),
+            record: None,
             mutant: None,
         }
     }
@@ -694,8 +711,11 @@ impl Machine {
         if string[0] == link::LOAD {
             Ok(self.load(string[1]))
         } else {
-            let operand = [string[2], string[3], string[4], string[5]];
-            Ok(self.store(string[1], operand))
+            let action = self.store(Store {
+                address: string[1],
+                operand: [string[2], string[3], string[4], string[5]],
+            });
+            Ok(self.unrecorded(Way::Taken, action))
         }
     }
 
@@ -861,6 +881,7 @@ impl Machine {
             None => self.drive().density,
         };
         check_reported(job, density, &reported, self.mutant)?;
+        let secondary_before = self.secondary;
 
         // The tape may have gone meanwhile: then nothing that was reported is used.
         let tape_gone = job.operation.moves_tape()
@@ -988,7 +1009,14 @@ impl Machine {
         if self.wrong(Mutant::GuardClearedByResult) {
             self.drive_mut().guard = false;
         }
-        Ok((self.end(job), delivered))
+        if self.wrong(Mutant::RecordCountBefore) {
+            self.record = self.record.map(|record| Record {
+                count: secondary_before,
+                ..record
+            });
+        }
+        let action = self.end(job);
+        Ok((self.unrecorded(Way::Result, action), delivered))
     }
 
     /// Time passes while nothing is collected.
@@ -1007,19 +1035,84 @@ impl Machine {
 
     /// The reset by call.
     pub fn reset(&mut self) -> Answer {
-        self.start_anew(Mutant::GuardKeptByCall);
+        self.start_anew(Way::Call);
         Ok(Action::None)
     }
 
-    /// Fresh, but for the reports, which count as reviewed; the mutant keeps the guards as well.
-    fn start_anew(&mut self, keeps_guards: Mutant) {
-        let kept = self.wrong(keeps_guards);
+    /// A job queues a store. Accepted in every phase: it waits for its turn.
+    pub fn queue(&mut self, job: u8, store: Store) -> Answer {
+        if self.phase != IDLE && self.wrong(Mutant::JobsQueuedWhenIdle) {
+            return Err(Refusal::NotIdle);
+        }
+        self.queues.put(job, store, self.mutant)?;
+        Ok(Action::None)
+    }
+
+    /// The next store that a job has queued is handed over, and carried out as if its ACK had just
+    /// been taken.
+    pub fn hand(&mut self) -> Answer {
+        let refused = match self.mutant {
+            Some(Mutant::JobsHandedWhenBusy) => false,
+            Some(Mutant::JobsHandedWhenCollecting) => {
+                !matches!(self.phase, Phase::Collecting { .. })
+            }
+            Some(Mutant::JobsNothingWhenBusy) if self.queues.is_empty() => false,
+            _ => self.phase != IDLE,
+        };
+        if refused {
+            let next = self.queues.next_job(None);
+            if let (Some(Mutant::JobsServedByRefused), Some(job)) = (self.mutant, next) {
+                self.queues.last_served = job;
+            }
+            return Err(Refusal::NotIdle);
+        }
+        match self.queues.take(self.mutant) {
+            Some(store) => {
+                if self.wrong(Mutant::JobsReviewedFirst) {
+                    self.review();
+                }
+                let action = self.store(store);
+                Ok(self.unrecorded(Way::Hand, action))
+            }
+            None => {
+                match self.mutant {
+                    Some(Mutant::JobsNothingReviewed) => self.review(),
+                    Some(Mutant::JobsServedByNothing) => {
+                        self.queues.last_served = (self.queues.last_served + 1) % 4
+                    }
+                    _ => {}
+                }
+                Ok(Action::None)
+            }
+        }
+    }
+
+    /// Drops the record of a store that ended this way, where the rule that hands it back is broken.
+    fn unrecorded(&mut self, way: Way, action: Action) -> Action {
+        if self.wrong(Mutant::RecordMissing(way)) {
+            self.record = None;
+        }
+        action
+    }
+
+    /// Fresh, but for the reports, which count as reviewed, and for what the jobs have queued.
+    fn start_anew(&mut self, way: Way) {
+        let kept = self.wrong(Mutant::GuardKept(way));
         let drives = self.drives.map(|drive| Drive {
             guard: drive.guard && kept || self.wrong(Mutant::GuardSetByReset),
             ..Drive::fresh(drive.report)
         });
+        let mut queues = self.queues.clone();
+        match self.mutant {
+            Some(Mutant::JobsEmptied(by)) if by == way => queues.of_job = Default::default(),
+            Some(Mutant::JobsServedAnew(by)) if by == way => {
+                queues.last_served = Queues::fresh().last_served
+            }
+            _ => {}
+        }
         *self = Machine {
             drives,
+            queues,
             mutant: self.mutant,
             ..Machine::fresh()
         };
@@ -1107,9 +1200,9 @@ impl Machine {
     // Stores
     // -----------------------------------------------------------------------------------------
 
-    fn store(&mut self, address: u8, operand: [u8; 4]) -> Action {
+    fn store(&mut self, store: Store) -> Action {
+        let Store { address, operand } = store;
         let interrupt = address & address::INTERRUPT != 0;
-        let names_drive = address & address::NAMES_DRIVE != 0;
         let number = (address & address::DRIVE) as usize;
 
         if self.wrong(Mutant::CountValidLeft) {
@@ -1119,7 +1212,7 @@ impl Machine {
         }
         let last_drive = self.selected;
         let last_density = self.drive().density;
-        if names_drive {
+        if store.names_drive() {
             if number > 3 {
                 return self.end_with(code::NO_SUCH_DRIVE, interrupt);
             }
@@ -1146,7 +1239,7 @@ impl Machine {
         match decoded {
             Decoded::Code(code) => self.end_with(code, interrupt),
             Decoded::Reset => {
-                self.start_anew(Mutant::GuardKeptByStore);
+                self.start_anew(Way::Taken);
                 Action::None
             }
             Decoded::Track(track) => {
@@ -1161,11 +1254,11 @@ impl Machine {
                     };
                     drive.guard &= !track_clears;
                 }
-                self.complete(interrupt)
+                self.finish(interrupt)
             }
             Decoded::Enable(enable) => {
                 self.enable = enable;
-                self.complete(interrupt)
+                self.finish(interrupt)
             }
             Decoded::Guard(guard) => self.set_guard(guard, last_drive, interrupt),
             Decoded::Density(density) => {
@@ -1173,7 +1266,7 @@ impl Machine {
                 let drive = self.drive_mut();
                 drive.density = density;
                 drive.guard &= !clears;
-                self.complete(interrupt)
+                self.finish(interrupt)
             }
             Decoded::Operation(operation) => self.start(Job {
                 operation,
@@ -1203,7 +1296,7 @@ impl Machine {
             Some(Mutant::GuardLosesGap) => self.drive_mut().gap = Gap::Lost,
             _ => {}
         }
-        self.complete(interrupt && !self.wrong(Mutant::GuardStoreSilent))
+        self.finish(interrupt && !self.wrong(Mutant::GuardStoreSilent))
     }
 
     /// Whether the selected drive passes the test of an operation.
@@ -1272,7 +1365,8 @@ impl Machine {
     fn no_go(&mut self, job: Job) -> Action {
         let retry = !self.wrong(Mutant::RetryNotByNoGo);
         self.settle(code::NO_GO, motion::NONE, retry);
-        self.end(job)
+        let action = self.end(job);
+        self.unrecorded(Way::NoGo, action)
     }
 
     /// Whether a result asks a retry: by its final code, or by a bit of 16-20 that counts.
@@ -1299,18 +1393,34 @@ impl Machine {
         by_code || self.outcome & counted != 0
     }
 
-    /// Puts code and motion in the outcome, and the retry bit.
+    /// Puts code and motion in the outcome, and the retry bit; secondary is as it will stay.
     fn settle(&mut self, code: u8, motion: u8, retry: bool) {
         self.outcome |= code as u32 * primary::CODE;
         self.outcome |= motion as u32 * primary::MOTION;
         if retry {
             self.outcome |= primary::RETRY;
         }
+        self.record = Some(self.settled());
+    }
+
+    /// Code, motion and count as primary and secondary have them.
+    pub fn settled(&self) -> Record {
+        Record {
+            code: self.code(),
+            motion: ((self.outcome / primary::MOTION) & 3) as u8,
+            count: self.secondary,
+        }
     }
 
     // -----------------------------------------------------------------------------------------
     // Complete: EOR, review, interrupt, sends
     // -----------------------------------------------------------------------------------------
+
+    /// A store that sets something is done at once, with code 0.
+    fn finish(&mut self, interrupt: bool) -> Action {
+        self.settle(code::GOOD, motion::NONE, false);
+        self.complete(interrupt)
+    }
 
     /// A code found before anything started ends the store, without EOR.
     fn end_with(&mut self, code: u8, interrupt: bool) -> Action {

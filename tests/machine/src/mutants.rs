@@ -164,10 +164,8 @@ pub enum Mutant {
     GuardNotKnown,
     /// 0A sets it and 0B clears it.
     GuardExchanged,
-    /// A reset by call keeps it.
-    GuardKeptByCall,
-    /// A reset by store keeps it.
-    GuardKeptByStore,
+    /// A reset by this way keeps it.
+    GuardKept(Way),
     /// A reset sets it.
     GuardSetByReset,
     /// A store that selects a drive takes the guard of the last one along.
@@ -206,6 +204,76 @@ pub enum Mutant {
     GuardTested,
     /// Its store gives no interrupt.
     GuardStoreSilent,
+    // The record of code, motion and count.
+    /// A store that ends this way hands none back.
+    RecordMissing(Way),
+    /// A refused call hands back that of the last store.
+    RecordByRefused,
+    /// A result's has the count that secondary held before.
+    RecordCountBefore,
+    // Four jobs.
+    /// Job 1 comes first at the start.
+    JobsStartWith1,
+    /// The turn begins with the last served job itself.
+    JobsLastServedFirst,
+    /// The turn always begins with job 0.
+    JobsFromJob0,
+    /// The turn goes downward.
+    JobsDownward,
+    /// An empty queue is not passed over: nothing is handed over.
+    JobsEmptyNotPassed,
+    /// A hand that is refused counts the job that it would have served.
+    JobsServedByRefused,
+    /// A hand that finds nothing passes the turn on.
+    JobsServedByNothing,
+    /// A queue holds nine.
+    JobsNinthTaken,
+    /// A queue holds seven.
+    JobsEighthRefused,
+    /// All queues together hold eight.
+    JobsOneLimitForAll,
+    /// A store handed over leaves a full queue full.
+    JobsPlaceKept,
+    /// A queue hands over its last store first.
+    JobsLastInFirstOut,
+    /// 17 before 16.
+    JobsFullFirst,
+    /// A job above 3 is counted over from 0.
+    JobsWrapped,
+    /// A store that names no drive is queued.
+    JobsNoDriveQueued,
+    /// A reset store is queued.
+    JobsResetQueued,
+    /// A reset store is queued where it names drive 4-7.
+    JobsHighResetQueued,
+    /// Any store that names drive 4-7 is refused.
+    JobsHighDriveRefused,
+    /// Stores are queued while idle only.
+    JobsQueuedWhenIdle,
+    /// A hand is not refused, whatever is under way.
+    JobsHandedWhenBusy,
+    /// A hand drops what was collected.
+    JobsHandedWhenCollecting,
+    /// A hand with nothing queued is never refused.
+    JobsNothingWhenBusy,
+    /// A hand with nothing queued reviews.
+    JobsNothingReviewed,
+    /// A hand reviews before its store.
+    JobsReviewedFirst,
+    /// A reset by this way empties the queues.
+    JobsEmptied(Way),
+    /// After a reset by this way job 0 comes first.
+    JobsServedAnew(Way),
+}
+
+/// How a reset comes, or by which call a store ends.
+#[derive(Clone, Copy, Debug, PartialEq, Eq)]
+pub enum Way {
+    Call,
+    Taken,
+    Hand,
+    NoGo,
+    Result,
 }
 
 /// What bears a count: a store, the image of a read or forward skip, that of a reverse skip.
@@ -453,8 +521,8 @@ pub const MUTANTS: [Mutant; 107] = [
     Mutant::LongWriteIsLength,
     Mutant::GuardNotKnown,
     Mutant::GuardExchanged,
-    Mutant::GuardKeptByCall,
-    Mutant::GuardKeptByStore,
+    Mutant::GuardKept(Way::Call),
+    Mutant::GuardKept(Way::Taken),
     Mutant::GuardSetByReset,
     Mutant::GuardOfLastDrive,
     Mutant::GuardStoreOfLastDrive,
@@ -480,4 +548,42 @@ pub const MUTANTS: [Mutant; 107] = [
     Mutant::GuardLosesGap,
     Mutant::GuardTested,
     Mutant::GuardStoreSilent,
+];
+
+/// Wrong rules that only sessions of jobs show; `--jobs --mutant N` counts from 1 in this order.
+pub const JOB_MUTANTS: [Mutant; 34] = [
+    Mutant::RecordMissing(Way::Taken),
+    Mutant::RecordMissing(Way::Hand),
+    Mutant::RecordMissing(Way::NoGo),
+    Mutant::RecordMissing(Way::Result),
+    Mutant::RecordByRefused,
+    Mutant::RecordCountBefore,
+    Mutant::JobsStartWith1,
+    Mutant::JobsLastServedFirst,
+    Mutant::JobsFromJob0,
+    Mutant::JobsDownward,
+    Mutant::JobsEmptyNotPassed,
+    Mutant::JobsServedByRefused,
+    Mutant::JobsServedByNothing,
+    Mutant::JobsNinthTaken,
+    Mutant::JobsEighthRefused,
+    Mutant::JobsOneLimitForAll,
+    Mutant::JobsPlaceKept,
+    Mutant::JobsLastInFirstOut,
+    Mutant::JobsFullFirst,
+    Mutant::JobsWrapped,
+    Mutant::JobsNoDriveQueued,
+    Mutant::JobsResetQueued,
+    Mutant::JobsHighResetQueued,
+    Mutant::JobsHighDriveRefused,
+    Mutant::JobsQueuedWhenIdle,
+    Mutant::JobsHandedWhenBusy,
+    Mutant::JobsHandedWhenCollecting,
+    Mutant::JobsNothingWhenBusy,
+    Mutant::JobsNothingReviewed,
+    Mutant::JobsReviewedFirst,
+    Mutant::JobsEmptied(Way::Call),
+    Mutant::JobsEmptied(Way::Taken),
+    Mutant::JobsServedAnew(Way::Call),
+    Mutant::JobsServedAnew(Way::Taken),
 ];

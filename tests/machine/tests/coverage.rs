@@ -687,6 +687,111 @@ fn wanted_of_guard() -> Vec<String> {
     wanted.iter().map(|what| format!("guard: {what}")).collect()
 }
 
+/// As many as tests/run compares.
+const SESSIONS_OF_JOBS: u64 = 250;
+
+fn count_session_of_jobs(seed: u64, counts: &mut Counts) {
+    let mut count = |name: String| *counts.entry(name).or_insert(0) += 1;
+    let text = generator::session_of_jobs(seed, LINES);
+    let mut session = Session::of_jobs(None);
+    let mut out = Vec::new();
+    for line in lines::split(&text) {
+        let before = session.machine.clone();
+        out.clear();
+        session.answer(line, &mut out);
+        let after = &session.machine;
+        let answer = String::from_utf8_lossy(&out).trim_end().to_string();
+        let fields: Vec<&str> = answer.split(',').collect();
+        let (refusal, record) = (fields[0], fields[4]);
+        let call = match lines::read_of_jobs(line) {
+            Some(Line::Queue { .. }) => "queue",
+            Some(Line::Hand) => "hand",
+            Some(Line::Taken) => "taken",
+            Some(Line::Result { .. }) => "result",
+            Some(Line::Reset) => "reset",
+            Some(Line::Byte(_) | Line::Broken) => "link",
+            Some(_) => "other",
+            None if line.starts_with(b"Q") => "unreadable queue",
+            None if line.starts_with(b"H") => "unreadable hand",
+            None => "unreadable",
+        };
+        let phase = match before.phase {
+            Phase::Sending { .. } => "sending".to_string(),
+            phase => phase_name(&phase),
+        };
+        count(format!("{call} {refusal}, {phase}"));
+        if let Some((code, _)) = record.split_once(':') {
+            count(format!("{call} hands back {code}"));
+        }
+        let queued = !before.queues.is_empty();
+        let handed = before.queues != after.queues && call == "hand";
+        if handed {
+            let served = (before.queues.last_served, after.queues.last_served);
+            count(format!("{} served after {}", served.1, served.0));
+            count(format!("handed over, then {}", phase_name(&after.phase)));
+        } else {
+            count(format!("{call} {refusal}, queued {queued}"));
+        }
+        if after.queues.of_job.iter().all(|queue| queue.len() > 1) {
+            count("all jobs wait".to_string());
+        }
+    }
+}
+
+#[test]
+fn sessions_of_jobs_reach_everything() {
+    let mut counts = Counts::new();
+    for seed in 1..=SESSIONS_OF_JOBS {
+        count_session_of_jobs(seed, &mut counts);
+    }
+    for (name, count) in &counts {
+        println!("{count:7} {name}");
+    }
+    let mut wanted = vec!["all jobs wait".to_string()];
+    let busy = [
+        "collecting",
+        "ACK offered",
+        "sending",
+        "GO offered",
+        "data awaited",
+        "result awaited",
+        "EOR offered",
+    ];
+    for phase in busy.iter().chain(&["idle"]) {
+        wanted.extend(["queue 0", "queue 16", "reset 0"].map(|call| format!("{call}, {phase}")));
+        wanted.extend(["queue", "hand"].map(|call| format!("unreadable {call} ?, {phase}")));
+    }
+    wanted.push("queue 17, idle".to_string());
+    wanted.push("queue 17, result awaited".to_string());
+    wanted.extend(busy.map(|phase| format!("hand 4, {phase}")));
+    for queued in [false, true] {
+        wanted.push(format!("hand 4, queued {queued}"));
+        wanted.push(format!("reset 0, queued {queued}"));
+    }
+    wanted.push("hand 0, queued false".to_string());
+    for code in 0..=4 {
+        wanted.push(format!("hand hands back {code:02X}"));
+        wanted.push(format!("taken hands back {code:02X}"));
+    }
+    wanted.push("link hands back 05".to_string());
+    for code in [
+        "00", "07", "0A", "0B", "12", "13", "14", "15", "16", "17", "18",
+    ] {
+        wanted.push(format!("result hands back {code}"));
+    }
+    for last in 0..4 {
+        wanted.extend((0..4).map(|next| format!("{next} served after {last}")));
+    }
+    for phase in ["idle", "GO offered", "result awaited"] {
+        wanted.push(format!("handed over, then {phase}"));
+    }
+    let missing: Vec<&String> = wanted
+        .iter()
+        .filter(|name| !counts.contains_key(*name))
+        .collect();
+    assert!(missing.is_empty(), "not reached: {missing:?}");
+}
+
 /// With the stores switched off, no first operand byte is 80 and no such result is awaited.
 #[test]
 fn sessions_without_supplied() {
@@ -770,6 +875,9 @@ fn a_seed_gives_one_session() {
             generator::session(seed, 300),
             generator::session_without_supplied(seed, 300)
         );
+        let of_jobs = generator::session_of_jobs(seed, 300);
+        assert_eq!(of_jobs, generator::session_of_jobs(seed, 300));
+        assert_ne!(of_jobs, generator::session(seed, 300));
     }
     assert_ne!(generator::session(1, 300), generator::session(2, 300));
 }

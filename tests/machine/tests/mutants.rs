@@ -1,12 +1,14 @@
 //! The comparison finds each wrong rule, a crash and a hang, and nothing where nothing is wrong.
 
-use machine::mutants::{guards_turned_round, limits_lowered, retry_turned_round, Mutant, MUTANTS};
+use machine::mutants::{guards_turned_round, limits_lowered, retry_turned_round};
+use machine::mutants::{Mutant, JOB_MUTANTS, MUTANTS};
 use machine::{generator, lines};
 use std::process::{Command, Output};
 
-fn compare(program: &str, options: &[&str]) -> (Output, String) {
+/// The first words have the program among them, or stand before it.
+fn compare(first: &[&str], options: &[&str]) -> (Output, String) {
     let output = Command::new(env!("CARGO_BIN_EXE_compare"))
-        .arg(program)
+        .args(first)
         .args(options)
         .output()
         .unwrap();
@@ -18,10 +20,25 @@ const MACHINE: &str = env!("CARGO_BIN_EXE_machine");
 
 #[test]
 fn each_mutant_is_found() {
-    for (index, mutant) in MUTANTS.iter().enumerate() {
+    each_is_found(&MUTANTS, false);
+}
+
+/// In as many sessions as tests/run compares.
+#[test]
+fn each_mutant_of_jobs_is_found() {
+    each_is_found(&JOB_MUTANTS, true);
+}
+
+fn each_is_found(mutants: &[Mutant], jobs: bool) {
+    let word: &[&str] = if jobs { &["--jobs"] } else { &[] };
+    let run = if jobs { lines::run_of_jobs } else { lines::run };
+    let sessions = if jobs { "250" } else { "600" };
+    for (index, mutant) in mutants.iter().enumerate() {
         let number = (index + 1).to_string();
-        let options = ["--sessions", "600", "--", "--mutant", &number];
-        let (output, text) = compare(MACHINE, &options);
+        let mut options = vec![MACHINE, "--sessions", sessions, "--"];
+        options.extend(word);
+        options.extend(["--mutant", &number]);
+        let (output, text) = compare(word, &options);
         assert_eq!(output.status.code(), Some(1), "{mutant:?}: {text}");
         assert!(text.starts_with("seed "), "{mutant:?}: {text}");
         // The shrunk session replays: it still tells the two apart, at its last line.
@@ -32,8 +49,8 @@ fn each_mutant_is_found() {
             .position(|window| window == heading)
             .unwrap();
         let session = &output.stdout[at + heading.len()..];
-        let right = lines::run(session, None);
-        let wrong = lines::run(session, Some(*mutant));
+        let right = run(session, None);
+        let wrong = run(session, Some(*mutant));
         let right: Vec<&[u8]> = lines::split(&right).collect();
         let wrong: Vec<&[u8]> = lines::split(&wrong).collect();
         let last = right.len() - 1;
@@ -78,17 +95,19 @@ fn all_found(mut left: Vec<Mutant>) {
 
 #[test]
 fn the_machine_is_like_itself() {
-    let (output, text) = compare(
-        MACHINE,
-        &["--seed", "900", "--sessions", "20", "--lines", "300"],
-    );
-    assert_eq!(output.status.code(), Some(0), "{text}");
-    assert_eq!(text, "compared 20 sessions, 6000 lines: no difference\n");
+    let numbers = ["--seed", "900", "--sessions", "20", "--lines", "300"];
+    let options = [&[MACHINE], &numbers[..]].concat();
+    let of_jobs = [&options[..], &["--", "--jobs"]].concat();
+    for (word, options) in [(&[][..], options), (&["--jobs"], of_jobs)] {
+        let (output, text) = compare(word, &options);
+        assert_eq!(output.status.code(), Some(0), "{text}");
+        assert_eq!(text, "compared 20 sessions, 6000 lines: no difference\n");
+    }
 }
 
 #[test]
 fn a_crash_and_a_hang_are_differences() {
-    let (output, text) = compare("/bin/false", &["--sessions", "1", "--lines", "20"]);
+    let (output, text) = compare(&["/bin/false"], &["--sessions", "1", "--lines", "20"]);
     assert_eq!(output.status.code(), Some(1), "{text}");
     assert!(
         text.contains("(nothing more)") && text.contains("exit status: 1"),
@@ -98,7 +117,7 @@ fn a_crash_and_a_hang_are_differences() {
     let script = ["-c", "\"$0\"; exit 3", MACHINE];
     let mut options = vec!["--sessions", "1", "--lines", "20", "--"];
     options.extend(script);
-    let (output, text) = compare("/bin/sh", &options);
+    let (output, text) = compare(&["/bin/sh"], &options);
     assert_eq!(output.status.code(), Some(1), "{text}");
     assert!(text.contains("exit status: 3"), "{text}");
     let options = [
@@ -111,10 +130,10 @@ fn a_crash_and_a_hang_are_differences() {
         "--",
         "30",
     ];
-    let (output, text) = compare("/bin/sleep", &options);
+    let (output, text) = compare(&["/bin/sleep"], &options);
     assert_eq!(output.status.code(), Some(1), "{text}");
     assert!(text.contains("hangs"), "{text}");
     // A program that is not there is no difference but a failure of the comparison.
-    let (output, _) = compare("/nowhere/at/all", &["--sessions", "1"]);
+    let (output, _) = compare(&["/nowhere/at/all"], &["--sessions", "1"]);
     assert_eq!(output.status.code(), Some(2));
 }

@@ -13,8 +13,8 @@ use Rattle.controller.specs.declared.controller.Reply.{Reply}
 use Rattle.controller.specs.declared.controller.Transfer.{Transfer}
 use Rattle.controller.specs.Controller.{fresh}
 use Rattle.controller.specs.Records.{Answer, answered}
-use Rattle.controller.specs.Machine.{byteCall, takenCall, brokenCall, reportCall, dataCall, resultCall, tickCall, resetCall, Call, plain, step}
-use Rattle.controller.specs.Machine.Call.{byte, taken, broken, report, hostData, result, tick, reset}
+use Rattle.controller.specs.Machine.{byteCall, takenCall, brokenCall, reportCall, dataCall, resultCall, tickCall, resetCall, handCall, Call, plain, step}
+use Rattle.controller.specs.Machine.Call.{byte, taken, broken, report, hostData, result, tick, reset, hand}
 use Rattle.controller.proofs.controller.Controller.byte.Reads as byte-reads
 use Rattle.controller.proofs.controller.Controller.taken.Reads as taken-reads
 use Rattle.controller.proofs.controller.Controller.broken.Reads as broken-reads
@@ -23,6 +23,7 @@ use Rattle.controller.proofs.controller.Controller.data.Reads as data-r
 use Rattle.controller.proofs.controller.Controller.result.Reads as result-reads
 use Rattle.controller.proofs.controller.Controller.tick.Reads as tick-reads
 use Rattle.controller.proofs.controller.Controller.reset.Reads as reset-reads
+use Rattle.controller.proofs.controller.Controller.hand.Reads as hand-reads
 use Rattle.controller.proofs.controller.Controller.byte.Met as byte-met
 use Rattle.controller.proofs.controller.Controller.byte.Statement as byte-statement
 use Rattle.controller.proofs.controller.Controller.taken.Met as taken-met
@@ -38,7 +39,9 @@ use Rattle.controller.proofs.controller.Controller.result.Statement as 
 use Rattle.controller.proofs.controller.Controller.tick.Met as tick-met
 use Rattle.controller.proofs.controller.Controller.tick.Statement as tick-statement
 use Rattle.controller.proofs.controller.Controller.reset.Met as reset-met
+use Rattle.controller.proofs.controller.Controller.hand.Met as hand-met
 use Rattle.controller.proofs.controller.Controller.reset.Statement as reset-statement
+use Rattle.controller.proofs.controller.Controller.hand.Statement as hand-statement
 use Rattle.controller.proofs.controller.fresh_controller.Met as fresh-met
 use Rattle.controller.proofs.controller.fresh_controller.Statement as fresh-statement
 
@@ -97,6 +100,7 @@ Allows c tick = Plainly (λ (r : Reply). tick-reads.Post tt (c, tt) r (c, tt))
 Allows c (hostData host space check) = DataLent c host space check
 Allows c (result r space check) = ResultLent c r space check
 Allows c reset = Plainly (λ (r : Reply). reset-reads.Post tt (c, tt) r (c, tt))
+Allows c (hand store) = Plainly (λ (r : Reply). hand-reads.Post tt (c, (store, tt)) r (c, (store, tt)))
 
 -- an allowed answer is the machine's
 pub answers-are-steps : (c : Controller) (call : Call) (answer : Answer) → Allows c call answer → answer ≡ step c call
@@ -118,6 +122,7 @@ answers-are-steps c (result r space check) answer allowed =
     (allowed .holds-image) (allowed .holds-marks)
     ∙ ap₂ (λ (s k : List ℕ). resultCall c r s k) (allowed .holds-space) (allowed .holds-check)
 answers-are-steps c reset answer allowed = allowed .same ∙ ap plain (allowed .promise)
+answers-are-steps c (hand store) answer allowed = allowed .same ∙ ap plain (allowed .promise)
 
 -- the machine's own answer is allowed
 pub steps-are-allowed : (c : Controller) (call : Call) → Allows c call (step c call)
@@ -156,6 +161,7 @@ steps-are-allowed c (result r space check) =
     }
 steps-are-allowed c tick = record { reply = tickCall c; promise = refl; same = refl }
 steps-are-allowed c reset = record { reply = resetCall c; promise = refl; same = refl }
+steps-are-allowed c (hand store) = record { reply = handCall c store; promise = refl; same = refl }
 
 -- ---- the functions
 
@@ -170,6 +176,7 @@ pub record Meet (M : Type 1) : Type 2 where
   pub result : result-statement.statement M
   pub tick : tick-statement.statement M
   pub reset : reset-statement.statement M
+  pub hand : hand-statement.statement M
 
 pub all-met : {M : Type 1} → Meet M
 all-met =
@@ -183,4 +190,5 @@ all-met =
       result = result-met.met;
       tick = tick-met.met;
       reset = reset-met.met;
+      hand = hand-met.met;
     }

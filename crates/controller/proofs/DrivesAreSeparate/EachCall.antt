@@ -11,22 +11,23 @@ use Rattle.common.proofs.PickLaws.{both-hold, pick-yes, pick-no}
 use Rattle.operations.specs.declared.store.Store.{Store}
 use Rattle.operations.specs.Store.{namesDrive}
 use Rattle.link.specs.declared.state.Phase.{Phase}
-use Rattle.link.specs.declared.state.Phase.the-variants.{AckOffered}
+use Rattle.link.specs.declared.state.Phase.the-variants.{Collecting, AckOffered}
 use Rattle.link.specs.declared.state.Turn.{Turn}
 use Rattle.controller.specs.declared.controller.Controller.{Controller}
 use Rattle.link.specs.Bytes.{ack}
 use Rattle.controller.specs.Controller.{carried}
 use Rattle.link.specs.State.{storeOf, offered}
 use Rattle.controller.specs.Stores.{carryOut}
+use Rattle.controller.specs.Records.{dataDone, resultDone}
 use Rattle.controller.specs.Machine.{dataIn, resultIn, Call, Exchange, plain, step}
-use Rattle.controller.specs.Machine.Call.{byte, taken, broken, report, hostData, result, tick, reset}
-use Rattle.controller.specs.Lists.{notRefused, isTaken, holdsStore, carriesOut, heldStore, lastStore}
+use Rattle.controller.specs.Machine.Call.{byte, taken, broken, report, hostData, result, tick, reset, hand}
+use Rattle.controller.specs.Lists.{notRefused, holdsStore, bringsStore, storeBrought, carriesOut, lastStore}
 use Rattle.controller.specs.Separation.{isOf, storeEvent, awaitsGo, eventOf, bytesGiven, transferOf, isReset, resets, admits}
 use Rattle.controller.specs.Separation.Event.{goAnswered}
 use Rattle.controller.proofs.Steps.Resting.{by-free, Free, Rests}
-use Rattle.controller.proofs.Steps.{stated, exchanged, LinkCall, SaysNo, OfRefusals, OfLink, OfStores, OfNo, OfData, OfResults, OfResets, Kinds, data-for, result-for, by-step}
+use Rattle.controller.proofs.Steps.{stated, exchanged, LinkCall, SaysNo, OfRefusals, OfLink, OfStores, OfHandings, OfNo, OfData, OfResults, OfResets, Kinds, data-for, result-for, by-step}
 use Rattle.controller.proofs.DrivesAreSeparate.Views.{viewOf, InHand, free-held, free-view, rests-view, none-for, Follows, refused-follows, passes-follows}
-use Rattle.controller.proofs.DrivesAreSeparate.Stores.{carried-follows}
+use Rattle.controller.proofs.DrivesAreSeparate.Stores.{carried-event, carried-follows}
 use Rattle.controller.proofs.DrivesAreSeparate.Calls.{report-follows, go-taken-follows, go-refused-follows, data-follows, result-follows}
 
 -- with nothing in hand no answer to GO is awaited
@@ -47,12 +48,12 @@ module _ (d : ℕ) (low : d ≤ 3) where
       → Follows d (viewOf d last c) last c x
       → Follows d (viewOf d last c) (lastStore last c x) c x
   unfolding lastStore
-  kept c x last none = subst (λ (next : Store). Follows d (viewOf d last c) next c x) (sym (pick-no (heldStore c) last none))
+  kept c x last none = subst (λ (next : Store). Follows d (viewOf d last c) next c x) (sym (pick-no (storeBrought c (x .call)) last none))
 
   refusals-case : OfRefusals Followed
   unfolding carriesOut notRefused
   refusals-case c call number space check some at-space at-check last held admitted =
-      kept c _ last (ap (λ (t : Bool). isTaken call && (t && holdsStore c)) some ∙ and-false (isTaken call))
+      kept c _ last (ap (λ (t : Bool). t && bringsStore c call) some)
       (refused-follows d last c call number 0 space check some held)
 
   -- with nothing in hand before and after, a call is no event of the drive
@@ -70,7 +71,7 @@ module _ (d : ℕ) (low : d ≤ 3) where
       (free-held last _ _ (rests .free))
 
   link-case : OfLink Followed
-  unfolding LinkCall eventOf transferOf holdsStore lastStore carriesOut isTaken pick
+  unfolding LinkCall eventOf transferOf holdsStore lastStore carriesOut bringsStore storeBrought notRefused pick
   link-case c (byte value) t free rests strings none last held admitted =
       rest-follows c (byte value) t last free rests (pick-no (goAnswered (eqb value ack) ∷ []) [] (ap (λ (go : Bool). go && isOf d last) (free-goes (c .phase) free))) refl
   link-case c broken t free rests strings none last held admitted =
@@ -79,15 +80,16 @@ module _ (d : ℕ) (low : d ≤ 3) where
   link-case c taken t (free, load) rests strings none last held admitted =
       let x : Exchange = exchanged taken (plain (carried t)) in
       let none = ap not load in
-      kept c x last (ap (λ (t : Bool). notRefused x && t) none ∙ and-false (notRefused x))
+      kept c x last none
       (rest-follows c taken t last free rests (pick-no (storeEvent last ∷ []) [] (ap (λ (t : Bool). t && isOf d last) none)) refl)
   link-case c (report drive r) t links rests strings none last held admitted = absurd links
   link-case c (hostData host space check) t links rests strings none last held admitted = absurd links
   link-case c (result r space check) t links rests strings none last held admitted = absurd links
   link-case c reset t links rests strings none last held admitted = absurd links
+  link-case c (hand store) t links rests strings none last held admitted = absurd links
 
   stores-case : OfStores Followed
-  unfolding lastStore carriesOut isTaken notRefused holdsStore offered admits Free
+  unfolding lastStore carriesOut bringsStore storeBrought notRefused holdsStore offered admits Free transferOf
   stores-case b s lead last held admitted =
       let c = stated b (AckOffered s) in
       let taking = storeOf s in
@@ -95,10 +97,19 @@ module _ (d : ℕ) (low : d ≤ 3) where
       let holds = ap not lead in
       let (names, keeps) = both-hold (namesDrive taking) (not (resets taking)) (sym (pick-yes _ _ holds) ∙ admitted) in
       subst (λ (next : Store). Follows d (viewOf d last c) next c x) (sym (pick-yes taking last holds))
-      (subst (λ v. Follows d v taking c x) (sym (free-view d last c tt)) (carried-follows d low c taking holds names (not-true (resets taking) keeps)))
+      (subst (λ v. Follows d v taking c x) (sym (free-view d last c tt)) (carried-follows d low c taking taken (carried-event d taking c holds) (λ bytes. refl) names (not-true (resets taking) keeps)))
+
+  handings-case : OfHandings Followed
+  unfolding lastStore carriesOut bringsStore storeBrought notRefused admits Free eventOf transferOf pick
+  handings-case b s store last held admitted =
+      let c = stated b (Collecting s) in
+      let x : Exchange = exchanged (hand store) (plain (carried (carryOut b store))) in
+      let (names, keeps) = both-hold (namesDrive store) (not (resets store)) admitted in
+      subst (λ v. Follows d v store c x) (sym (free-view d last c tt))
+      (carried-follows d low c store (hand store) refl (λ bytes. refl) names (not-true (resets store) keeps))
 
   no-case : OfNo Followed
-  unfolding SaysNo InHand eventOf awaitsGo transferOf lastStore carriesOut isTaken pick
+  unfolding SaysNo InHand eventOf awaitsGo transferOf lastStore carriesOut bringsStore storeBrought notRefused pick
   no-case b held (byte value) refuses last mine admitted = go-refused-follows d low last b held (byte value) (eqb value ack) refl refl refuses
   no-case b held broken refuses last mine admitted = go-refused-follows d low last b held broken false refl refl refl
   no-case b held taken refuses last mine admitted = absurd refuses
@@ -107,29 +118,31 @@ module _ (d : ℕ) (low : d ≤ 3) where
   no-case b held (result r space check) refuses last mine admitted = absurd refuses
   no-case b held tick refuses last mine admitted = absurd refuses
   no-case b held reset refuses last mine admitted = absurd refuses
+  no-case b held (hand store) refuses last mine admitted = absurd refuses
 
   writes-case : OfData Followed
-  unfolding dataIn InHand lastStore carriesOut isTaken pick
+  unfolding dataIn dataDone InHand lastStore carriesOut bringsStore storeBrought notRefused pick
   writes-case b held host space check =
       data-for Followed refusals-case b held _ host space check (λ last mine admitted. data-follows d last b held host space check mine)
 
   results-case : OfResults Followed
-  unfolding resultIn InHand lastStore carriesOut isTaken pick
+  unfolding resultIn resultDone InHand lastStore carriesOut bringsStore storeBrought notRefused pick
   results-case b operation held r space check =
       result-for Followed refusals-case b held _ operation r space check (λ good last mine admitted. result-follows d low last b operation held r space check mine)
 
   -- a reset is not admitted
   resets-case : OfResets Followed
-  unfolding admits carriesOut isTaken notRefused isReset pick
+  unfolding admits carriesOut bringsStore storeBrought notRefused isReset pick
   resets-case c last held admitted = absurd (false≢true admitted)
 
   followed : Kinds Followed
-  unfolding lastStore carriesOut isTaken InHand pick
+  unfolding lastStore carriesOut bringsStore storeBrought notRefused InHand pick
   followed =
       record {
         refusals = refusals-case;
         link = link-case;
         stores = stores-case;
+        handings = handings-case;
         reports = λ c n r within last held admitted. report-follows d low last c n r within held;
         yes = λ b held value yes last mine admitted. go-taken-follows d low last b held value yes mine;
         no = no-case;

@@ -34,7 +34,7 @@ use Rattle.operations.specs.Course.{testOf, courseOf}
 use Rattle.operations.proofs.DensityLaws.{by-density, asked-operation}
 use Rattle.controller.specs.Controller.{carried}
 use Rattle.controller.specs.Stores.{endWith, motionOrder, pastTest, orderMove, begin, follow, clearOutcome, carryOutOn, carryOut}
-use Rattle.controller.specs.Machine.{plain}
+use Rattle.controller.specs.Machine.{Call, plain}
 use Rattle.controller.specs.Machine.Call.{taken, report}
 use Rattle.controller.specs.Lists.{holdsStore}
 use Rattle.controller.specs.Separation.{Output, isOf, storeEvent, eventOf, ordersFor, transferOf, asksReset, resets}
@@ -265,19 +265,21 @@ pub other-number : (d : ℕ) (store : Store) → namesDrive store ≡ true → i
 unfolding isOf
 other-number d store names other = eqb-false (namedDrive store) d (subst (λ (t : Bool). (t && eqb (namedDrive store) d) ≡ false) names other)
 
--- ---- taken
+-- ---- a store is taken or handed over
 
-carried-event :
+pub carried-event :
     (d : ℕ) (store : Store) (c : Controller)
     → holdsStore c ≡ true
     → eventOf d store c taken ≡ pick (isOf d store) (storeEvent store ∷ []) []
 unfolding eventOf
 carried-event d store c holds = ap (λ (t : Bool). pick (t && isOf d store) (storeEvent store ∷ []) []) holds
 
-module _ (d : ℕ) (low : d ≤ 3) (c : Controller) (store : Store) (holds : holdsStore c ≡ true) (names : namesDrive store ≡ true) where
+-- of a call that brings the store, whichever it is
+module _ (d : ℕ) (low : d ≤ 3) (c : Controller) (store : Store) (call : Call) (event : eventOf d store c call ≡ pick (isOf d store) (storeEvent store ∷ []) [])
+    (still : (bytes : List ℕ) → transferOf d store bytes call ≡ []) (names : namesDrive store ≡ true) where
   -- what is answered to it
   abbrev answered : Turn → Type 0
-  answered t = Follows d (resting (seen d (c .body))) store c (record { call = taken; answer = plain (carried t) })
+  answered t = Follows d (resting (seen d (c .body))) store c (record { call = call; answer = plain (carried t) })
 
   -- what it asks for of a drive, by that drive's density
   abbrev askedOn : ℕ → Decoded
@@ -289,10 +291,10 @@ module _ (d : ℕ) (low : d ≤ 3) (c : Controller) (store : Store) (holds : hol
   unknown-follows b same high =
       let rests = ended-rests b store illegalDrive in
       let differs : namedDrive store ≡ d → ⊥ = λ e. omega arith in
-      owned-follows d store c _ _ (storeEvent store) (carried-event d store c holds) (λ own. absurd (differs (own-number d store names own)))
+      owned-follows d store c _ _ (storeEvent store) event (λ own. absurd (differs (own-number d store names own)))
       (λ other. record {
         view = rests-view d low store _ _ rests ∙ ap (λ (drives : Drives). resting (copyReport (driveOf drives d))) same;
-        transfer = refl;
+        transfer = still _;
         quiet = none-for d _ (rests .quiet);
       })
       (free-held store _ _ (rests .free))
@@ -307,17 +309,17 @@ module _ (d : ℕ) (low : d ≤ 3) (c : Controller) (store : Store) (holds : hol
       let asked = askedOn (namedDrive store) in
       let stays = by-density (λ (x : Decoded). asksReset x ≡ false) _ (askedFor store) keeps (λ operation is. refl) in
       let next = carried (decoded (withSelected b (namedDrive store)) store asked) .controller in
-      owned-follows d store c _ _ (storeEvent store) (carried-event d store c holds)
+      owned-follows d store c _ _ (storeEvent store) event
       (λ own.
       let e = own-number d store names own in
       let starts = decoded-own d low store b (namedDrive store) e asked stays in
       record {
         done = refl;
         view = own-view d store next _ own (starts .view ∙ ap (λ (n : ℕ). begins (seen d b) (bare store) (askedOn n)) e);
-        given = starts .given ∙ ap (λ (n : ℕ). givenAtStore d (seen d b) (bare store) (askedOn n)) e;
+        given = rw still (starts .given ∙ ap (λ (n : ℕ). givenAtStore d (seen d b) (bare store) (askedOn n)) e);
       })
       (λ other. let leaves = decoded-other d low store b (namedDrive store) within (other-number d store names other) asked stays in
-      record { view = other-view d store next _ other (leaves .same); transfer = refl; quiet = leaves .quiet })
+      record { view = other-view d store next _ other (leaves .same); transfer = still _; quiet = leaves .quiet })
       (decoded-held d low store b (namedDrive store) asked stays
       (λ (operation : Operation) (asks : asked ≡ Operate operation).
       record { same = refl; selects = refl; names = names; low = within; asks = asked-operation _ (askedFor store) operation asks }))

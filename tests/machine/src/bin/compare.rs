@@ -1,5 +1,6 @@
-//! `compare PROGRAM [--seed S] [--sessions N] [--lines L] [--supplied 0] [-- ARGUMENTS of PROGRAM]`
+//! `compare [--jobs] PROGRAM [--seed S] [--sessions N] [--lines L] [--supplied 0] [-- ARGUMENTS of PROGRAM]`
 //!
+//! `--jobs` makes sessions of jobs.
 //! `--supplied 0` makes no stores that supply a count, for a program that does not know them.
 //! Exit 0: no difference; 1: a difference, shrunk and printed; 2: the comparison itself failed.
 
@@ -18,11 +19,13 @@ struct Options {
 }
 
 fn options() -> Option<Options> {
-    let mut arguments = std::env::args().skip(1);
+    let mut arguments = std::env::args().skip(1).peekable();
+    let jobs = arguments.next_if(|first| first == "--jobs").is_some();
     let mut options = Options {
         program: Program {
             path: arguments.next()?,
             arguments: Vec::new(),
+            jobs,
             time_limit: TIME_LIMIT,
         },
         seed: 1,
@@ -51,7 +54,7 @@ fn options() -> Option<Options> {
 fn main() -> ExitCode {
     let Some(options) = options() else {
         eprintln!(
-            "usage: compare PROGRAM [--seed S] [--sessions N] [--lines L] [--seconds LIMIT] \
+            "usage: compare [--jobs] PROGRAM [--seed S] [--sessions N] [--lines L] [--seconds LIMIT] \
              [--supplied 0] [-- ARGUMENTS of PROGRAM]"
         );
         return ExitCode::from(2);
@@ -72,7 +75,9 @@ fn compare(options: &Options) -> io::Result<bool> {
     let mut compared = 0;
     for session in 0..options.sessions {
         let seed = options.seed.wrapping_add(session);
-        let text = if options.supplied {
+        let text = if options.program.jobs {
+            generator::session_of_jobs(seed, options.lines)
+        } else if options.supplied {
             generator::session(seed, options.lines)
         } else {
             generator::session_without_supplied(seed, options.lines)

@@ -1,18 +1,26 @@
 //! `generate SEED LINES [0]`: prints a random session; the same seed gives the same one.
 //! With the 0 there are no stores that supply a count.
+//! `generate --jobs SEED LINES`: prints one of jobs.
 
 use machine::generator;
 use std::io::{self, Write};
 use std::process::ExitCode;
 
 fn main() -> ExitCode {
-    let arguments: Vec<String> = std::env::args().skip(1).collect();
+    let mut arguments: Vec<String> = std::env::args().skip(1).collect();
+    let jobs = arguments.first().is_some_and(|first| first == "--jobs");
+    if jobs {
+        arguments.remove(0);
+    }
     let numbers: Option<Vec<u64>> = arguments.iter().map(|text| text.parse().ok()).collect();
     let text = match numbers.as_deref() {
+        Some([seed, lines]) if jobs => generator::session_of_jobs(*seed, *lines as usize),
         Some([seed, lines]) => generator::session(*seed, *lines as usize),
-        Some([seed, lines, 0]) => generator::session_without_supplied(*seed, *lines as usize),
+        Some([seed, lines, 0]) if !jobs => {
+            generator::session_without_supplied(*seed, *lines as usize)
+        }
         _ => {
-            eprintln!("usage: generate SEED LINES [0]");
+            eprintln!("usage: generate SEED LINES [0] | generate --jobs SEED LINES");
             return ExitCode::from(2);
         }
     };

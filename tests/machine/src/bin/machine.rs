@@ -1,7 +1,8 @@
-//! `machine [--mutant N]`: reads session lines to the end of standard input, prints the answers.
+//! `machine [--jobs] [--mutant N]`: reads session lines to the end of standard input, prints the answers.
+//! With `--jobs` they are those of jobs.
 
 use machine::lines::Session;
-use machine::mutants::MUTANTS;
+use machine::mutants::{Mutant, JOB_MUTANTS, MUTANTS};
 use std::io::{self, Read, Write};
 use std::process::ExitCode;
 
@@ -11,18 +12,28 @@ const PIECE: usize = 1 << 18;
 fn main() -> ExitCode {
     let arguments: Vec<String> = std::env::args().skip(1).collect();
     let arguments: Vec<&str> = arguments.iter().map(String::as_str).collect();
-    let mutant = match arguments[..] {
+    let (jobs, arguments) = match arguments[..] {
+        ["--jobs", ref rest @ ..] => (true, rest),
+        ref all => (false, all),
+    };
+    let mutants: &[Mutant] = if jobs { &JOB_MUTANTS } else { &MUTANTS };
+    let mutant = match arguments {
         [] => None,
         ["--mutant", number] => {
             let number = number.parse::<usize>().unwrap_or(0);
-            match MUTANTS.get(number.wrapping_sub(1)) {
+            match mutants.get(number.wrapping_sub(1)) {
                 Some(mutant) => Some(*mutant),
-                None => return usage(),
+                None => return usage(mutants.len()),
             }
         }
-        _ => return usage(),
+        _ => return usage(mutants.len()),
     };
-    match answer_all(Session::new(mutant)) {
+    let session = if jobs {
+        Session::of_jobs(mutant)
+    } else {
+        Session::new(mutant)
+    };
+    match answer_all(session) {
         Ok(()) => ExitCode::SUCCESS,
         Err(error) => {
             eprintln!("machine: {error}");
@@ -31,8 +42,8 @@ fn main() -> ExitCode {
     }
 }
 
-fn usage() -> ExitCode {
-    eprintln!("usage: machine [--mutant 1-{}]", MUTANTS.len());
+fn usage(mutants: usize) -> ExitCode {
+    eprintln!("usage: machine [--jobs] [--mutant 1-{mutants}]");
     ExitCode::from(2)
 }
 

@@ -10,6 +10,15 @@ impl Bench {
         Bench(Session::new(None))
     }
 
+    /// A session of jobs, with tape in all drives.
+    pub fn of_jobs() -> Bench {
+        let mut bench = Bench(Session::of_jobs(None));
+        for drive in 0..4 {
+            bench.says(&format!("S,{drive},22"), "0,-,,,-");
+        }
+        bench
+    }
+
     /// With tape in drive 0, ready for everything.
     pub fn ready() -> Bench {
         let mut bench = Bench::new();

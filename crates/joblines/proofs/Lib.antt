@@ -1,0 +1,4 @@
+pub mod TextLaws
+pub mod LineLaws
+pub mod PlayLaws
+pub mod WrongAnswers

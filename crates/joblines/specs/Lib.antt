@@ -1,0 +1,4 @@
+pub mod Limits
+pub mod Line
+pub mod Print
+pub mod Play

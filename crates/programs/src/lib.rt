@@ -1,0 +1,8 @@
+// What the programs `session` and `jobs` do alike: lines are read from standard input to its end, and each is answered as soon as it is there.
+//
+// The language has no generics, so that the state is one struct for both programs: which of them runs, and a dispatcher, of which `session` uses the
+// controller alone.
+mod batch;
+mod buffers;
+pub mod player;
+pub mod run;

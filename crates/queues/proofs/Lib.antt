@@ -1,0 +1,3 @@
+pub mod JobLaws
+pub mod WaitingLaws
+pub mod TurnLaws
