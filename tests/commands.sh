@@ -65,7 +65,7 @@ stands_on() { # CRATE
     done
     printf '%s\n' "${found[@]}"
 }
-for crate in records session jobs trial; do stands_on "$crate" >"$crate.crates"; done
+for crate in records session jobs table trial; do stands_on "$crate" >"$crate.crates"; done
 
 # in place of all tests, so that .ci/run of the copy comes to an end
 printf '#!/bin/sh\necho 3 passed, 0 failed\n' >tree/tests/run
@@ -173,12 +173,14 @@ helps_for() { # WORD WHAT-IT-NAMES
 }
 check "ctc session --help does nothing else" helps_for session ./session
 check "ctc jobs --help does nothing else" helps_for jobs "./ctc jobs"
+check "ctc table --help does nothing else" helps_for table "./ctc table"
 check "ctc record --help does nothing else" helps_for record ctc-record
-check "ctc: no word" refuses "session, jobs or record" ctc
+check "ctc: no word" refuses "session, jobs, table or record" ctc
 check "ctc jobs: two files" refuses "one file at a time" ctc jobs a b
+check "ctc table: a word" refuses "no word is taken" ctc table a
 check "session: two files" refuses "one file at a time" session sessions/example.session sessions/example.session
 check "fuzz: two words" refuses "one word at most" tests/fuzz 1 2
-check "build: a word that is none" refuses "library, session, jobs or trial" tools/build wrong
+check "build: a word that is none" refuses "library, session, jobs, table or trial" tools/build wrong
 
 # The script has the tool's rules: the same answer without the library as the tool gives.
 same_as_tool() { # WORDS...
@@ -263,6 +265,7 @@ builds() { # library|session|trial CRATES
 check "the progress of the library ends at its total" builds library "$(wc -l <records.crates)"
 check "the progress of the session program ends at its total" builds session "$(wc -l <session.crates)"
 check "the progress of the jobs program ends at its total" builds jobs "$(wc -l <jobs.crates)"
+check "the progress of the table program ends at its total" builds table "$(wc -l <table.crates)"
 check "the progress of the trial library ends at its total" builds trial "$(wc -l <trial.crates)"
 
 no_time_announced() {
@@ -292,6 +295,7 @@ built_with() { # library|session|trial RT-CALL
 }
 check "another kit builds the library anew" built_with library "staticlib records"
 check "another kit builds the session program anew" built_with session "check session"
+check "another kit builds the table program anew" built_with table "check table"
 check "another kit builds the trial library anew" built_with trial "staticlib trial"
 not_built_here() {
     fresh
@@ -301,6 +305,17 @@ not_built_here() {
     ended 0 && [ "$(cat rt.calls)" = "staticlib records" ]
 }
 check "a library of an unknown kit is built anew" not_built_here
+table_built() {
+    fresh
+    with_rt tree/ctc table
+    ended 0 "the table program" || return
+    [ "$(cat rt.calls)" = "check table" ] || no "rt was asked for $(cat rt.calls)" || return
+    rm rt.calls
+    with_rt tree/ctc table
+    ended 0 || return
+    [ ! -e rt.calls ] || no "built twice"
+}
+check "ctc table proves and builds what is missing" table_built
 
 # ---- a folder that cannot be written ----
 
@@ -348,7 +363,7 @@ not_permitted() { # COMMAND WORDS...
 }
 # the fuzzer's compiler is not come to
 export CLANG=true
-for command in tree/session tree/ctc-record "tree/tools/build library" tree/bench/run tree/tests/fuzz tree/.ci/run; do
+for command in tree/session tree/ctc-record "tree/ctc table" "tree/tools/build library" tree/bench/run tree/tests/fuzz tree/.ci/run; do
     # shellcheck disable=SC2086 # words of a call
     check "a file in place of target/ is told: ${command#tree/}" file_in_place $command
     # shellcheck disable=SC2086
@@ -379,7 +394,7 @@ ci_builds() {
     fresh
     with_rt bash tree/.ci/run
     ended 0 || return
-    [ "$(grep -v '^fmt' rt.calls | paste -sd ,)" = "ci,staticlib records,check session,check jobs,staticlib trial" ] ||
+    [ "$(grep -v '^fmt' rt.calls | paste -sd ,)" = "ci,staticlib records,check session,check jobs,check table,staticlib trial" ] ||
         no "rt was asked for $(paste -sd , rt.calls)"
 }
 check ".ci/run builds all that the tests need" ci_builds

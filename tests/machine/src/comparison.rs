@@ -1,5 +1,6 @@
 //! Another program against the machine, session by session, with shrinking of a difference.
 
+use crate::kinds::Kind;
 use crate::lines;
 use std::io::{Read, Write};
 use std::process::{Command, Stdio};
@@ -8,7 +9,7 @@ use std::time::{Duration, Instant};
 
 /// A program that has not ended by then hangs.
 pub const TIME_LIMIT: Duration = Duration::from_secs(20);
-/// Shrinking stops here with what it has.
+/// As long as one may wait for a shrunk session.
 pub const SHRINK_LIMIT: Duration = Duration::from_secs(60);
 /// Chunks that are dropped at every place: they fit stores and loads with their answers.
 const WINDOWS: [usize; 7] = [13, 10, 9, 6, 4, 2, 1];
@@ -17,9 +18,10 @@ const WINDOWS: [usize; 7] = [13, 10, 9, 6, 4, 2, 1];
 pub struct Program {
     pub path: String,
     pub arguments: Vec<String>,
-    /// Whether it plays sessions of jobs.
-    pub jobs: bool,
+    pub kind: Kind,
     pub time_limit: Duration,
+    /// Shrinking stops here with what it has.
+    pub shrink_limit: Duration,
 }
 
 /// What a program made of a session.
@@ -111,11 +113,7 @@ impl Program {
         session: &[u8],
         limit: Duration,
     ) -> std::io::Result<Option<Difference>> {
-        let right = if self.jobs {
-            lines::run_of_jobs(session, None)
-        } else {
-            lines::run(session, None)
-        };
+        let right = self.kind.right(session);
         let run = self.run(session, limit)?;
         if run.trouble.is_none() && run.output == right {
             return Ok(None);
@@ -153,7 +151,7 @@ impl Program {
         session: &[u8],
         found: Difference,
     ) -> std::io::Result<(Vec<Vec<u8>>, Difference)> {
-        let end = Instant::now() + SHRINK_LIMIT;
+        let end = Instant::now() + self.shrink_limit;
         let mut kept: Vec<Vec<u8>> = lines::split(session).map(<[u8]>::to_vec).collect();
         let mut difference = found;
         // A hanging program is asked often, so a short wait must do. Any other keeps its time: on a
@@ -163,7 +161,14 @@ impl Program {
         } else {
             self.time_limit
         };
-        let cut: Vec<Vec<u8>> = kept[..kept.len().min(difference.line + 1)].to_vec();
+        let needed = |line: usize| {
+            if self.kind.answers_lines() {
+                line + 1
+            } else {
+                usize::MAX
+            }
+        };
+        let cut: Vec<Vec<u8>> = kept[..kept.len().min(needed(difference.line))].to_vec();
         if let Some(again) = self.difference_within(&join(&cut), limit)? {
             kept = cut;
             difference = again;
@@ -190,7 +195,7 @@ impl Program {
                     match self.difference_within(&join(&shorter), limit)? {
                         Some(again) => {
                             // What stands behind the first difference is of no use.
-                            shorter.truncate(again.line + 1);
+                            shorter.truncate(needed(again.line));
                             kept = shorter;
                             difference = again;
                             dropped = true;

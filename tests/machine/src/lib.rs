@@ -4,12 +4,15 @@
 //!
 //! `machine < SESSION` answers a session, `generate SEED LINES` prints a random one, and
 //! `compare PROGRAM` runs both programs on many and shrinks the first difference. With `--jobs` as
-//! their first word all three do so with sessions of jobs.
+//! their first word all three do so with sessions of jobs, and with `--table` with the table of
+//! document 02's ninth wish.
 
 pub mod comparison;
 pub mod generator;
 pub mod jobs;
+pub mod kinds;
 pub mod lines;
 pub mod machine;
 pub mod mutants;
 pub mod records;
+pub mod table;

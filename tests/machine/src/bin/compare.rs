@@ -1,10 +1,12 @@
-//! `compare [--jobs] PROGRAM [--seed S] [--sessions N] [--lines L] [--supplied 0] [-- ARGUMENTS of PROGRAM]`
+//! `compare [--jobs | --table] PROGRAM [--seed S] [--sessions N] [--lines L] [--supplied 0] [-- ARGUMENTS of PROGRAM]`
 //!
-//! `--jobs` makes sessions of jobs.
+//! `--jobs` makes sessions of jobs; `--table` has the table printed.
+//! `--shrink SECONDS` bounds the time for shrinking a difference.
 //! `--supplied 0` makes no stores that supply a count, for a program that does not know them.
 //! Exit 0: no difference; 1: a difference, shrunk and printed; 2: the comparison itself failed.
 
-use machine::comparison::{join, shown, Program, TIME_LIMIT};
+use machine::comparison::{join, shown, Program, SHRINK_LIMIT, TIME_LIMIT};
+use machine::kinds::Kind;
 use machine::{generator, lines};
 use std::io::{self, Write};
 use std::process::ExitCode;
@@ -20,13 +22,17 @@ struct Options {
 
 fn options() -> Option<Options> {
     let mut arguments = std::env::args().skip(1).peekable();
-    let jobs = arguments.next_if(|first| first == "--jobs").is_some();
+    let kind = arguments.peek().and_then(|first| Kind::of_word(first));
+    if kind.is_some() {
+        arguments.next();
+    }
     let mut options = Options {
         program: Program {
             path: arguments.next()?,
             arguments: Vec::new(),
-            jobs,
+            kind: kind.unwrap_or(Kind::Sessions),
             time_limit: TIME_LIMIT,
+            shrink_limit: SHRINK_LIMIT,
         },
         seed: 1,
         sessions: 100,
@@ -45,6 +51,7 @@ fn options() -> Option<Options> {
             "--lines" => options.lines = number as usize,
             "--supplied" => options.supplied = number != 0,
             "--seconds" => options.program.time_limit = Duration::from_secs(number),
+            "--shrink" => options.program.shrink_limit = Duration::from_secs(number),
             _ => return None,
         }
     }
@@ -54,8 +61,9 @@ fn options() -> Option<Options> {
 fn main() -> ExitCode {
     let Some(options) = options() else {
         eprintln!(
-            "usage: compare [--jobs] PROGRAM [--seed S] [--sessions N] [--lines L] [--seconds LIMIT] \
-             [--supplied 0] [-- ARGUMENTS of PROGRAM]"
+            "usage: compare [{}] PROGRAM [--seed S] [--sessions N] [--lines L] [--seconds LIMIT] \
+             [--shrink LIMIT] [--supplied 0] [-- ARGUMENTS of PROGRAM]",
+            Kind::words()
         );
         return ExitCode::from(2);
     };
@@ -75,15 +83,16 @@ fn compare(options: &Options) -> io::Result<bool> {
     let mut compared = 0;
     for session in 0..options.sessions {
         let seed = options.seed.wrapping_add(session);
-        let text = if options.program.jobs {
-            generator::session_of_jobs(seed, options.lines)
-        } else if options.supplied {
-            generator::session(seed, options.lines)
-        } else {
+        let kind = options.program.kind;
+        let text = if kind == Kind::Sessions && !options.supplied {
             generator::session_without_supplied(seed, options.lines)
+        } else {
+            kind.generate(seed, options.lines)
         };
         if let Some(difference) = options.program.difference(&text)? {
-            let line = lines::split(&text).nth(difference.line);
+            let line = lines::split(&text)
+                .nth(difference.line)
+                .filter(|_| kind.answers_lines());
             writeln!(out, "seed {seed}, line {}", difference.line + 1)?;
             if let Some(line) = line {
                 writeln!(out, "  line     {}", shown(&join(&[line.to_vec()])))?;

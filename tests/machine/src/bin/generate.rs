@@ -1,26 +1,31 @@
 //! `generate SEED LINES [0]`: prints a random session; the same seed gives the same one.
 //! With the 0 there are no stores that supply a count.
-//! `generate --jobs SEED LINES`: prints one of jobs.
+//! `generate --jobs SEED LINES`: prints one of jobs, and so with the other words of `compare`.
 
 use machine::generator;
+use machine::kinds::Kind;
 use std::io::{self, Write};
 use std::process::ExitCode;
 
 fn main() -> ExitCode {
     let mut arguments: Vec<String> = std::env::args().skip(1).collect();
-    let jobs = arguments.first().is_some_and(|first| first == "--jobs");
-    if jobs {
+    let kind = arguments.first().and_then(|first| Kind::of_word(first));
+    if kind.is_some() {
         arguments.remove(0);
     }
     let numbers: Option<Vec<u64>> = arguments.iter().map(|text| text.parse().ok()).collect();
     let text = match numbers.as_deref() {
-        Some([seed, lines]) if jobs => generator::session_of_jobs(*seed, *lines as usize),
-        Some([seed, lines]) => generator::session(*seed, *lines as usize),
-        Some([seed, lines, 0]) if !jobs => {
+        Some([seed, lines]) => kind
+            .unwrap_or(Kind::Sessions)
+            .generate(*seed, *lines as usize),
+        Some([seed, lines, 0]) if kind.is_none() => {
             generator::session_without_supplied(*seed, *lines as usize)
         }
         _ => {
-            eprintln!("usage: generate SEED LINES [0] | generate --jobs SEED LINES");
+            eprintln!(
+                "usage: generate SEED LINES [0] | generate {} SEED LINES",
+                Kind::words()
+            );
             return ExitCode::from(2);
         }
     };

@@ -1,8 +1,9 @@
-//! `machine [--jobs] [--mutant N]`: reads session lines to the end of standard input, prints the answers.
-//! With `--jobs` they are those of jobs.
+//! `machine [--jobs | --table] [--mutant N]`: reads session lines to the end of standard input, prints the answers.
+//! With `--jobs` they are those of jobs; with `--table` it prints the table, whatever it reads.
 
+use machine::kinds::Kind;
 use machine::lines::Session;
-use machine::mutants::{Mutant, JOB_MUTANTS, MUTANTS};
+use machine::mutants::{JOB_MUTANTS, MUTANTS};
 use std::io::{self, Read, Write};
 use std::process::ExitCode;
 
@@ -12,28 +13,25 @@ const PIECE: usize = 1 << 18;
 fn main() -> ExitCode {
     let arguments: Vec<String> = std::env::args().skip(1).collect();
     let arguments: Vec<&str> = arguments.iter().map(String::as_str).collect();
-    let (jobs, arguments) = match arguments[..] {
-        ["--jobs", ref rest @ ..] => (true, rest),
-        ref all => (false, all),
+    let (kind, arguments) = match arguments[..] {
+        [word, ref rest @ ..] if Kind::of_word(word).is_some() => (Kind::of_word(word), rest),
+        ref all => (None, all),
     };
-    let mutants: &[Mutant] = if jobs { &JOB_MUTANTS } else { &MUTANTS };
+    let kind = kind.unwrap_or(Kind::Sessions);
     let mutant = match arguments {
         [] => None,
-        ["--mutant", number] => {
-            let number = number.parse::<usize>().unwrap_or(0);
-            match mutants.get(number.wrapping_sub(1)) {
-                Some(mutant) => Some(*mutant),
-                None => return usage(mutants.len()),
-            }
-        }
-        _ => return usage(mutants.len()),
+        ["--mutant", number] => match number.parse::<usize>() {
+            Ok(number) if (1..=kind.mutants()).contains(&number) => Some(number - 1),
+            _ => return usage(kind.mutants()),
+        },
+        _ => return usage(kind.mutants()),
     };
-    let session = if jobs {
-        Session::of_jobs(mutant)
-    } else {
-        Session::new(mutant)
+    let answered = match kind {
+        Kind::Sessions => answer_all(Session::new(mutant.map(|number| MUTANTS[number]))),
+        Kind::Jobs => answer_all(Session::of_jobs(mutant.map(|number| JOB_MUTANTS[number]))),
+        _ => answer_whole(kind, mutant),
     };
-    match answer_all(session) {
+    match answered {
         Ok(()) => ExitCode::SUCCESS,
         Err(error) => {
             eprintln!("machine: {error}");
@@ -43,8 +41,21 @@ fn main() -> ExitCode {
 }
 
 fn usage(mutants: usize) -> ExitCode {
-    eprintln!("usage: machine [--jobs] [--mutant 1-{mutants}]");
+    eprintln!("usage: machine [{}] [--mutant 1-{mutants}]", Kind::words());
     ExitCode::from(2)
+}
+
+/// All is read before anything is answered.
+fn answer_whole(kind: Kind, mutant: Option<usize>) -> io::Result<()> {
+    let mut input = Vec::new();
+    io::stdin().lock().read_to_end(&mut input)?;
+    let answers = match mutant {
+        Some(number) => kind.wrong(&input, number).unwrap_or_default(),
+        None => kind.right(&input),
+    };
+    let mut output = io::stdout().lock();
+    output.write_all(&answers)?;
+    output.flush()
 }
 
 fn answer_all(mut session: Session) -> io::Result<()> {

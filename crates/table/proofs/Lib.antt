@@ -1,0 +1,4 @@
+pub mod OperationLaws
+pub mod TextLaws
+pub mod Demands
+pub mod WrongAnswers
