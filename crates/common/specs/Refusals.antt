@@ -42,7 +42,7 @@ codeNotListed = 7
 abbrev pub flagsAgainstRule : ℕ
 flagsAgainstRule = 8
 
--- "9 count above 16,384 or wrong length of image or marks"
+-- "9 .. wrong length of image or marks"; "Wrong lengths, and host bytes too many for the builder, keep refusal 9." (document 02, Wish 10)
 abbrev pub wrongLength : ℕ
 wrongLength = 9
 

@@ -25,7 +25,7 @@ pub const CHECK_STORE_LENGTH: u32 = 6;
 pub const CODE_NOT_LISTED: u32 = 7;
 // "mark flag against its rule, or late flags above 3"
 pub const FLAGS_AGAINST_RULE: u32 = 8;
-// "count above 16,384 or wrong length of image or marks"
+// wrong length of image or marks, or "host bytes too many for the builder"
 pub const WRONG_LENGTH: u32 = 9;
 // "mark value"
 pub const MARK_VALUE: u32 = 10;

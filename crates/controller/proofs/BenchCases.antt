@@ -12,13 +12,13 @@ use Rattle.blockettes.specs.Xor.{_⊕_, xorAll}
 use Rattle.blockettes.specs.Blockettes.{blocketteAt, numbered, ofParity, foldParity, checkOf}
 use Rattle.marks.specs.Marks.{legalMark, legalMarks, isError, tornMarks}
 use Rattle.marks.specs.Scan.{scanFrom, scanMarks, kindOf, numberOf, defectAt, isFound, findingsOf, checksAlone}
-use Rattle.records.specs.Count.{limit, rotated, countBytes, unrotated, countOf}
+use Rattle.records.specs.Count.{rotated, countBytes, unrotated, countOf}
 use Rattle.records.specs.Image.{blocketteCount, hasBlockettes, blockettesOf, bodyOf, imageOf, imageLength, markCount}
 use Rattle.records.specs.Place.{noPlace, isPlace, asCame, writtenBytes}
 use Rattle.records.specs.Whole.{layoutRefusal, wholeRefusal}
-use Rattle.transfers.specs.Expected.{wholeCode, expectedWhole, expectedSupplied, expectedOf, countRefusal, emptyRefusal, imageRefusal}
+use Rattle.transfers.specs.Expected.{wholeCode, expectedWhole, expectedSupplied, expectedOf, unmarkedRefusal, imageRefusal}
 use Rattle.operations.specs.Operation.{movesTape, isSkip, isSearch, takesMark}
-use Rattle.operations.specs.Decode.{controlOf, countedOf, readOf, decodeOf, inDensity}
+use Rattle.operations.specs.Decode.{controlOf, readOf, decodeOf, inDensity}
 use Rattle.operations.specs.Test.{mayMove}
 use Rattle.operations.specs.Answers.{forwardCodes, reverseCodes, endCodes, suppliedCodes, listedCodes, trailingCodes, clearCodes, isIn, answerOf}
 use Rattle.operations.specs.After.{losesTape, motionOf, gapOf, gapAfter, ownRetry, codeRetry, retryOf}
@@ -40,7 +40,7 @@ use Rattle.controller.specs.Stores.{endWith, settle, endOperation, motio
 use Rattle.transfers.specs.Data.{hostOf, checkBytes, neededBytes, badByte, runsShort, dataRefusal, dataWords, settleData}
 use Rattle.transfers.specs.Results.{markAgainst, resultRefusal, isGone, marksRead, codeReported, finalCode, readsGcr, recordCount, usedCount, verdictOf, readCount, readBytes, deliveredBytes, tornBytes, bytesRead, fitting, resultCheck, resultTertiary, resultQuintary, wroteWell, resultCount, resultBits, withRetry, resultWords, resultGap, settleResult}
 use Rattle.controller.specs.Records.{Answer, dataDone, resultDone}
-use Rattle.link.specs.Damaged.{soundDrive, soundDrives, soundBody, soundLead, soundPart, soundString, soundCount, soundHeld, soundPhase, isSound}
+use Rattle.link.specs.Damaged.{soundDrive, soundDrives, soundBody, soundLead, soundPart, soundString, soundPhase, isSound}
 use Rattle.controller.specs.Machine.{byteIn, brokenIn, tickIn, byteCall, brokenCall, tickCall, carryOutString, takenIn, takenCall, reportNoted, reportCall, resetCall, dataFor, resultFor, dataIn, dataCall, resultIn, resultCall, Call, step}
 use Rattle.controller.specs.Machine.Call.{byte, taken, report, hostData, result}
 
@@ -185,8 +185,8 @@ pub record BenchCases : Type 0 where
 
 pub bench-cases : BenchCases
 unfolding pick given filled _⊕_ xorAll blocketteAt numbered ofParity foldParity checkOf legalMark legalMarks isError tornMarks scanFrom scanMarks kindOf
-    numberOf defectAt limit rotated countBytes unrotated countOf blocketteCount hasBlockettes blockettesOf bodyOf imageOf imageLength markCount
-    layoutRefusal wholeRefusal countRefusal emptyRefusal imageRefusal controlOf countedOf readOf decodeOf inDensity mayMove forwardCodes reverseCodes endCodes suppliedCodes listedCodes trailingCodes clearCodes isIn
+    numberOf defectAt rotated countBytes unrotated countOf blocketteCount hasBlockettes blockettesOf bodyOf imageOf imageLength markCount
+    layoutRefusal wholeRefusal unmarkedRefusal imageRefusal controlOf readOf decodeOf inDensity mayMove forwardCodes reverseCodes endCodes suppliedCodes listedCodes trailingCodes clearCodes isIn
     answerOf losesTape motionOf gapOf gapAfter ownRetry codeRetry retryOf reports driveOf withDrive withReport anyDiffers copyReports freshDrives resetDrives bitOf
     noOutcome anyBit primaryOf secondaryWord digitsOf tertiaryOf quintaryOf reportsWord stringOf orderOf startBody fresh resetState review idle
     primaryNow sendWord sendInterrupt complete wholeLength appendByte loadXor isGoodString firstByte lastByte nextByte yesToSend giveUp noToSend
@@ -195,7 +195,7 @@ unfolding pick given filled _⊕_ xorAll blocketteAt numbered ofParity foldParit
     carryOutOn carryOut checkBytes thrownAway heldCount suppliedCount isPlace asCame writtenBytes neededBytes badByte runsShort dataRefusal dataDone dataFor resultFor takesMark isSkip isSearch markAgainst
     wholeCode expectedWhole expectedSupplied expectedOf resultRefusal movesTape isGone marksRead codeReported finalCode readsGcr resultTertiary resultQuintary resultCheck readBytes fitting
     wroteWell resultCount resultBits withRetry endOperation resultDone isFound findingsOf checksAlone dataWords settleData recordCount usedCount verdictOf readCount
-    deliveredBytes tornBytes bytesRead resultWords resultGap settleResult soundDrive soundDrives soundBody soundLead soundPart soundString soundCount soundHeld soundPhase
+    deliveredBytes tornBytes bytesRead resultWords resultGap settleResult soundDrive soundDrives soundBody soundLead soundPart soundString soundPhase
     isSound byteIn brokenIn tickIn byteCall brokenCall tickCall carryOutString takenIn takenCall reportCall resetCall dataIn dataCall resultIn
     resultCall step
 bench-cases =

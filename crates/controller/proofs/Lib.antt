@@ -1,4 +1,5 @@
 pub mod DamageLaws
+pub mod LongCounts
 pub mod AnswerLaws
 pub mod BenchCases
 pub mod Courses

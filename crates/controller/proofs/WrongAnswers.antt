@@ -15,7 +15,7 @@ use Rattle.marks.specs.Scan.{scanMarks}
 use Rattle.marks.proofs.FindingLaws.{stop-found}
 use Rattle.transfers.specs.declared.expected.Expected.{Expected}
 use Rattle.transfers.specs.declared.expected.Expected.the-variants.{Nothing as NoImage}
-use Rattle.transfers.specs.Expected.{wholeCode, expectedWhole, expectedOf, emptyRefusal, imageRefusal}
+use Rattle.transfers.specs.Expected.{wholeCode, expectedWhole, expectedOf, unmarkedRefusal, imageRefusal}
 use Rattle.status.specs.declared.drives.Drive.{Drive}
 use Rattle.status.specs.declared.strings.Six.{Six}
 use Rattle.status.specs.Drives.{reports, driveOf, freshDrives, resetDrives}
@@ -364,7 +364,7 @@ unfolding expectedOf expectedWhole pick
 no-image store density code = simp (and-false (wholeCode code))
 
 marked-empty : (drive : Drive) (store : Store) (code late : ℕ) (image marks : List ℕ) (check : ℕ) → resultRefusal drive Read store (resultOf code true late image marks) check ≡ 0 → eqb (length image) 0 ≡ true
-unfolding resultRefusal imageRefusal emptyRefusal
+unfolding resultRefusal imageRefusal unmarkedRefusal
 marked-empty drive store code late image marks check good =
     let six = not-refused _ _ _ (nonzero 6 refl) good in
     let seven = not-refused _ _ _ (nonzero 7 refl) (six .1) in

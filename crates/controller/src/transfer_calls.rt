@@ -25,10 +25,7 @@ use transfers::settle::settle_data;
 use transfers::settle::settle_result;
 use transfers::verdict::Ending;
 ghost use mathlib.Core.Path.{_≡_};
-ghost use Prim.Native.Nat.{_≤_};
 ghost use lib.ListN.{length};
-ghost use Rattle.records.specs.Count.{limit};
-ghost use Rattle.operations.specs.Store.{heldCount, suppliedCount};
 ghost use Rattle.transfers.specs.Data.{hostOf, dataRefusal};
 ghost use Rattle.transfers.specs.Results.{resultOf, resultWith, resultRefusal};
 ghost use Rattle.controller.specs.Controller.{refusedTransfer};
@@ -81,7 +78,6 @@ fn data_done(
     space: &mut [u8],
     check: &mut [u8],
 ) -> Transfer
-    requires { ⌜ heldCount store ≤ limit ⌝ }
     requires { ⌜ dataRefusal drive store (length (now host)) place (length (now space)) (length (now check)) ≡ 0 ⌝ }
     ensures { λ r. ⌜ answered r (now (space .exit)) (now (check .exit)) ≡ dataDone b drive store (hostOf (now (host .entry)) place) (now (space .entry)) (now (check .entry)) ⌝ }
 {
@@ -108,7 +104,6 @@ fn result_done(
     check: &mut [u8],
 ) -> Transfer
     requires { ⌜ resultRefusal drive operation store (resultWith ending (now image) (now marks)) (length (now check)) ≡ 0 ⌝ }
-    requires { ⌜ suppliedCount operation store ≤ limit ⌝ }
     ensures { λ r. ⌜ answered r (now (space .exit)) (now (check .exit)) ≡ resultDone b drive operation store (resultWith ending (now (image .entry)) (now (marks .entry))) (now (space .entry)) (now (check .entry)) ⌝ }
 {
     let words = words_of(b);

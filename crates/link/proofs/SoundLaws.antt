@@ -1,27 +1,20 @@
--- What a sound state says of the phase it is in: how long a string is that is being collected, how many noes a send has, and that a
--- held count is within the limit.
+-- What a sound state says of the phase it is in: how long a string is that is being collected, and how many noes a send has.
 -- Assumes nothing.
 use Prim.Native.Nat.{ℕ, _≤_, _<_}
 use native.Mathlib.Omega.{arith}
-use mathlib.Core.Path.{_≡_, sym, ap, _∙_}
-use mathlib.Core.Bool.{Bool, true, false, not, _&&_, _||_, or-true, false≢true}
+use mathlib.Core.Path.{_≡_}
+use mathlib.Core.Bool.{true, _&&_}
 use lib.Dec.{ltb, eqb}
 use borrow.Author.Tests.{ltb-true, leb-true, eqb-true}
 use Rattle.common.proofs.PickLaws.{by-either, both-hold, pick-by}
-use Rattle.records.specs.Count.{limit}
-use Rattle.operations.specs.declared.operation.Operation.{Operation}
-use Rattle.operations.specs.declared.operation.Operation.the-variants.{Write}
-use Rattle.operations.specs.declared.store.Store.{Store}
-use Rattle.operations.specs.Operation.{sameOperation, suppliesCount, holdsCount}
-use Rattle.operations.specs.Store.{heldCount, suppliedCount}
 use Rattle.link.specs.declared.state.Collected.{Collected}
 use Rattle.link.specs.declared.state.Send.{Send}
 use Rattle.link.specs.declared.state.Phase.{Phase}
-use Rattle.link.specs.declared.state.Phase.the-variants.{Collecting, Sending, DataAwaited, ResultAwaited}
+use Rattle.link.specs.declared.state.Phase.the-variants.{Collecting, Sending}
 use Rattle.link.specs.declared.state.Body.{Body}
 use Rattle.link.specs.Bytes.{loadLead, storeLength, mostNoes}
 use Rattle.link.specs.Link.{wholeLength}
-use Rattle.link.specs.Damaged.{soundBody, soundLead, soundPart, soundCount, soundHeld, soundPhase, isSound}
+use Rattle.link.specs.Damaged.{soundBody, soundLead, soundPart, soundPhase, isSound}
 
 whole-at-most : (lead : ℕ) → wholeLength lead ≤ storeLength
 unfolding wholeLength
@@ -47,26 +40,3 @@ collecting-short b phase s whole told = part-short s (rw told at (phase-holds b 
 pub noes-few : (b : Body) (phase : Phase) (send : Send) → isSound b phase ≡ true → phase ≡ Sending send → send .noes ≤ mostNoes
 unfolding soundPhase
 noes-few b phase send whole told = leb-true _ _ (rw told at (phase-holds b phase whole))
-
--- a count that is held for a data call is within the limit
-pub data-count : (b : Body) (phase : Phase) (store : Store) → isSound b phase ≡ true → phase ≡ DataAwaited store → heldCount store ≤ limit
-unfolding soundPhase soundCount
-data-count b phase store whole told = leb-true _ _ (rw told at (phase-holds b phase whole))
-
--- and so is one that is supplied
-held-within : (operation : Operation) (store : Store) → soundHeld operation store ≡ true → suppliedCount operation store ≤ limit
-unfolding soundHeld soundCount suppliedCount
-held-within operation store sound =
-    pick-by (λ (n : ℕ). n ≤ limit) (suppliesCount operation)
-    (λ supplies.
-    let holds : holdsCount operation ≡ true = ap (λ (t : Bool). sameOperation operation Write || t) supplies ∙ or-true (sameOperation operation Write) in
-    by-either (not (holdsCount operation)) (soundCount store) (λ none. absurd (false≢true (sym (ap not holds) ∙ none))) (λ within. leb-true _ _ within) sound)
-    (λ none. omega arith)
-
-pub supplied-within :
-    (b : Body) (phase : Phase) (operation : Operation) (store : Store)
-    → isSound b phase ≡ true
-    → phase ≡ ResultAwaited operation store
-    → suppliedCount operation store ≤ limit
-unfolding soundPhase
-supplied-within b phase operation store whole told = held-within operation store (rw told at (phase-holds b phase whole))

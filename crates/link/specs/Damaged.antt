@@ -1,22 +1,18 @@
 -- A damaged state (document 01, Turned back): "1 a field out of range (track, gap, selected drive, motion 0-3; density 0-1; code 0-31; noes so
 -- far 0-4; secondary 0-65,535; a held count 0-16,384; a held operation one of the eleven; a string's lead #62 or #64, its bytes fewer than
--- its length, or all once ACK is offered; all else may have any value)". Document 02, Wish 1: "a held operation is one of the twelve", by its type.
+-- its length, or all once ACK is offered; all else may have any value)". Document 02, Wish 1: "a held operation is one of the twelve", by its type;
+-- and so is a held count 0-65,535 (document 02, Wishes 3 and 10), the two operand bytes of a store.
 -- Assumes nothing.
-use mathlib.Core.Bool.{Bool, true, not, _&&_, _||_}
+use mathlib.Core.Bool.{Bool, true, _&&_, _||_}
 use lib.Dec.{leb, ltb, eqb}
-use Rattle.records.specs.Count.{limit}
-use Rattle.operations.specs.declared.operation.Operation.{Operation}
-use Rattle.operations.specs.Operation.{holdsCount}
 use Rattle.status.specs.declared.drives.Drive.{Drive}
 use Rattle.status.specs.declared.drives.Drives.{Drives}
 use Rattle.link.specs.declared.state.Collected.{Collected}
-use Rattle.operations.specs.declared.store.Store.{Store}
 use Rattle.link.specs.declared.state.Phase.{Phase}
 use Rattle.link.specs.declared.state.Phase.the-variants.{Collecting, AckOffered, Sending, GoOffered, DataAwaited, ResultAwaited, EndOffered}
 use Rattle.link.specs.declared.state.Body.{Body}
 use Rattle.link.specs.Bytes.{loadLead, storeLead, mostNoes}
 use Rattle.link.specs.Link.{wholeLength}
-use Rattle.operations.specs.Store.{heldCount}
 
 -- "track, gap .. 0-3; density 0-1"
 unfoldable pub soundDrive : Drive → Bool
@@ -43,22 +39,14 @@ soundPart s = eqb (s .length) 0 || (soundLead s && ltb (s .length) (wholeLength 
 unfoldable pub soundString : Collected → Bool
 soundString s = soundLead s && eqb (s .length) (wholeLength (s .c0))
 
--- "a held count 0-16,384"
-unfoldable pub soundCount : Store → Bool
-soundCount store = leb (heldCount store) limit
-
--- a write holds a count, and a supplied one is held
-unfoldable pub soundHeld : Operation → Store → Bool
-soundHeld operation store = not (holdsCount operation) || soundCount store
-
--- what is held in the phase; "noes so far 0-4"
+-- what is held in the phase; "noes so far 0-4"; "all else may have any value"
 unfoldable pub soundPhase : Phase → Bool
 soundPhase (Collecting s) = soundPart s
 soundPhase (AckOffered s) = soundString s
 soundPhase (Sending send) = leb (send .noes) mostNoes
-soundPhase (GoOffered store) = soundCount store
-soundPhase (DataAwaited store) = soundCount store
-soundPhase (ResultAwaited operation store) = soundHeld operation store
+soundPhase (GoOffered store) = true
+soundPhase (DataAwaited store) = true
+soundPhase (ResultAwaited operation store) = true
 soundPhase (EndOffered interrupt) = true
 
 -- no field out of range

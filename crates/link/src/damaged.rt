@@ -6,15 +6,10 @@ use crate::collecting::whole_length;
 use crate::state::Body;
 use crate::state::Collected;
 use crate::state::Phase;
-use operations::operation::Operation;
-use operations::operation::holds_count;
-use operations::store::Store;
-use operations::store::held_count;
-use records::count::LIMIT;
 use status::drives::Drive;
 use status::drives::Drives;
 ghost use mathlib.Core.Path.{_≡_};
-ghost use Rattle.link.specs.Damaged.{soundDrive, soundDrives, soundBody, soundLead, soundPart, soundString, soundCount, soundHeld, soundPhase, isSound};
+ghost use Rattle.link.specs.Damaged.{soundDrive, soundDrives, soundBody, soundLead, soundPart, soundString, soundPhase, isSound};
 
 fn sound_drive(d: Drive) -> bool
     ensures { λ r. ⌜ r ≡ soundDrive d ⌝ }
@@ -58,19 +53,6 @@ fn sound_string(s: Collected) -> bool
     sound_lead(s) & (s.length == whole_length(s.c0))
 }
 
-fn sound_count(store: Store) -> bool
-    ensures { λ r. ⌜ r ≡ soundCount store ⌝ }
-{
-    held_count(store) <= LIMIT
-}
-
-// A held operation with its store: a write holds a count, and so does a read with a supplied one.
-fn sound_held(operation: Operation, store: Store) -> bool
-    ensures { λ r. ⌜ r ≡ soundHeld operation store ⌝ }
-{
-    !holds_count(operation) | sound_count(store)
-}
-
 fn sound_phase(phase: Phase) -> bool
     ensures { λ r. ⌜ r ≡ soundPhase phase ⌝ }
 {
@@ -78,10 +60,7 @@ fn sound_phase(phase: Phase) -> bool
         Phase::Collecting(s) => sound_part(s),
         Phase::AckOffered(s) => sound_string(s),
         Phase::Sending(send) => send.noes <= MOST_NOES,
-        Phase::GoOffered(store) => sound_count(store),
-        Phase::DataAwaited(store) => sound_count(store),
-        Phase::ResultAwaited(operation, store) => sound_held(operation, store),
-        Phase::EndOffered(_) => true,
+        _ => true,
     }
 }
 

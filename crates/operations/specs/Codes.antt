@@ -7,7 +7,7 @@ use Prim.Native.Nat.{ℕ}
 abbrev pub illegalDrive : ℕ
 illegalDrive = 0x01
 
--- "1, 2, 7: code 02"; "others code 02"; "Above 16,384 is code 02."; a supplied count "needs GCR, otherwise code 02"
+-- "1, 2, 7: code 02"; "others code 02"; a supplied count "needs GCR, otherwise code 02"
 abbrev pub illegalStore : ℕ
 illegalStore = 0x02
 

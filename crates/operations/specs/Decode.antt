@@ -1,14 +1,13 @@
--- What a store asks for (document 01, Stores; document 02, Wish 1), by its operation, address bits 1-3, and its four operand bytes.
+-- What a store asks for (document 01, Stores; document 02, Wish 1), by its operation, address bits 1-3, and its first and last operand byte. Its
+-- count is not looked at: "no 16-bit count is above" the limit (document 02, Wish 10).
 -- Assumes nothing.
-use Prim.Native.Nat.{ℕ, _+_, _*_}
+use Prim.Native.Nat.{ℕ}
 use mathlib.Core.Bool.{true, false, _&&_}
-use lib.Dec.{leb, ltb, eqb}
+use lib.Dec.{leb, eqb}
 use Rattle.common.specs.Pick.{pick}
-use Rattle.records.specs.Count.{limit}
 use Rattle.status.specs.Drives.{mfm}
 use Rattle.operations.specs.Codes.{illegalStore, illegalTrack}
 use Rattle.operations.specs.Operation.{suppliesCount}
-use Rattle.operations.specs.declared.operation.Operation.{Operation}
 use Rattle.operations.specs.declared.operation.Operation.the-variants.{Read, CheckBytes, SuppliedCount, Write, Erase, Rewind, FastForward, SkipForward, SkipReverse, SearchForward, SearchReverse, WriteMark}
 use Rattle.operations.specs.declared.decode.Decoded.{Decoded}
 use Rattle.operations.specs.declared.decode.Decoded.the-variants.{Reset, Code, Track, Enable, Guard, Density, Operate}
@@ -34,25 +33,19 @@ controlOf value =
     (pick (eqb value 0x23) (Operate SearchReverse)
     (pick (eqb value 0x24) (Operate WriteMark) (Code illegalStore)))))))))))))))
 
--- "last two: count. Above 16,384 is code 02."; of a supplied count, "a count above the record limit is code 02"
-unfoldable pub countedOf : Operation → ℕ → Decoded
-countedOf operation count = pick (ltb limit count) (Code illegalStore) (Operate operation)
-
--- "4, by first operand byte: 00 read, 40 send check bytes, others 02"; "a store to operation 4 with first operand byte 80 and the count in the
--- last two"
-unfoldable pub readOf : ℕ → ℕ → Decoded
-readOf first count =
+-- "4, by first operand byte: 00 read, 40 send check bytes, others 02"; "a store to operation 4 with first operand byte 80"
+unfoldable pub readOf : ℕ → Decoded
+readOf first =
     pick (eqb first 0x00) (Operate Read)
-    (pick (eqb first 0x40) (Operate CheckBytes) (pick (eqb first 0x80) (countedOf SuppliedCount count) (Code illegalStore)))
+    (pick (eqb first 0x40) (Operate CheckBytes) (pick (eqb first 0x80) (Operate SuppliedCount) (Code illegalStore)))
 
 -- "0: reset"; "1, 2, 7: code 02"; "5: write"; "6: erase"
-unfoldable pub decodeOf : ℕ → ℕ → ℕ → ℕ → Decoded
-decodeOf operation first third fourth =
+unfoldable pub decodeOf : ℕ → ℕ → ℕ → Decoded
+decodeOf operation first last =
     pick (eqb operation 0) Reset
-    (pick (eqb operation 3) (controlOf fourth)
-    (pick (eqb operation 4) (readOf first (third * 256 + fourth))
-    (pick (eqb operation 5) (countedOf Write (third * 256 + fourth))
-    (pick (eqb operation 6) (Operate Erase) (Code illegalStore)))))
+    (pick (eqb operation 3) (controlOf last)
+    (pick (eqb operation 4) (readOf first)
+    (pick (eqb operation 5) (Operate Write) (pick (eqb operation 6) (Operate Erase) (Code illegalStore)))))
 
 -- for a drive of this density: a supplied count "needs GCR, otherwise code 02"
 unfoldable pub inDensity : ℕ → Decoded → Decoded

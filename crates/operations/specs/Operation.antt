@@ -73,10 +73,6 @@ suppliesCount operation = sameOperation operation SuppliedCount
 abbrev pub isRead : Operation → Bool
 isRead operation = sameOperation operation Read || suppliesCount operation
 
--- "write stores, supplied counts": those whose store has a count that is held until the end
-abbrev pub holdsCount : Operation → Bool
-holdsCount operation = sameOperation operation Write || suppliesCount operation
-
 -- "a read or forward skip", whose image says its count
 abbrev pub bringsRecord : Operation → Bool
 bringsRecord operation = sameOperation operation Read || sameOperation operation SkipForward

@@ -33,7 +33,7 @@ selectedBy store selected = pick (namesDrive store) (namedDrive store) selected
 
 -- "1-3 are the operation"
 unfoldable pub askedFor : Store → Decoded
-askedFor store = decodeOf (store .address / 16 % 8) (store .first) (store .third) (store .fourth)
+askedFor store = decodeOf (store .address / 16 % 8) (store .first) (store .fourth)
 
 -- "decode", for the drive that the store selects: by its density
 abbrev pub askedIn : Store → ℕ → Decoded

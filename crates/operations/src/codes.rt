@@ -3,7 +3,7 @@
 // a named drive above 3
 pub const ILLEGAL_DRIVE: u8 = 0x01;
 
-// a store that asks for nothing there is, or a count above the limit
+// a store that asks for nothing there is, or supplies a count to an MFM drive
 pub const ILLEGAL_STORE: u8 = 0x02;
 
 // a track above 3

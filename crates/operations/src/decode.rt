@@ -3,10 +3,9 @@ use crate::codes::ILLEGAL_STORE;
 use crate::codes::ILLEGAL_TRACK;
 use crate::operation::Operation;
 use crate::operation::supplies_count;
-use records::count::LIMIT;
 use status::drives::MFM;
 ghost use mathlib.Core.Path.{_≡_};
-ghost use Rattle.operations.specs.Decode.{controlOf, countedOf, readOf, decodeOf, inDensity};
+ghost use Rattle.operations.specs.Decode.{controlOf, readOf, decodeOf, inDensity};
 
 // A reset, a code that ends the store, a setting of the selected drive or of the controller, or an operation.
 pub enum Decoded {
@@ -43,38 +42,27 @@ fn control_of(value: u8) -> Decoded
     }
 }
 
-// An operation whose store has a count, a write or a read with a supplied count, by it.
-fn counted_of(operation: Operation, count: usize) -> Decoded
-    ensures { λ r. ⌜ r ≡ countedOf operation count ⌝ }
-{
-    if LIMIT < count {
-        return Decoded::Code(ILLEGAL_STORE);
-    }
-    Decoded::Operate(operation)
-}
-
-// A store to operation 4, by its first operand byte, and by its count where that is supplied.
-fn read_of(first: u8, count: usize) -> Decoded
-    ensures { λ r. ⌜ r ≡ readOf first count ⌝ }
+// A store to operation 4, by its first operand byte.
+fn read_of(first: u8) -> Decoded
+    ensures { λ r. ⌜ r ≡ readOf first ⌝ }
 {
     match first {
         0x00 => Decoded::Operate(Operation::Read),
         0x40 => Decoded::Operate(Operation::CheckBytes),
-        0x80 => counted_of(Operation::SuppliedCount, count),
+        0x80 => Decoded::Operate(Operation::SuppliedCount),
         _ => Decoded::Code(ILLEGAL_STORE),
     }
 }
 
-// By the operation, address bits 1-3, and the operand's first, third and fourth byte.
-pub fn decode_of(operation: u8, first: u8, third: u8, fourth: u8) -> Decoded
-    ensures { λ r. ⌜ r ≡ decodeOf operation first third fourth ⌝ }
+// By the operation, address bits 1-3, and the operand's first and last byte.
+pub fn decode_of(operation: u8, first: u8, last: u8) -> Decoded
+    ensures { λ r. ⌜ r ≡ decodeOf operation first last ⌝ }
 {
-    let count = third as usize * 256 + fourth as usize;
     match operation {
         0 => Decoded::Reset,
-        3 => control_of(fourth),
-        4 => read_of(first, count),
-        5 => counted_of(Operation::Write, count),
+        3 => control_of(last),
+        4 => read_of(first),
+        5 => Decoded::Operate(Operation::Write),
         6 => Decoded::Operate(Operation::Erase),
         _ => Decoded::Code(ILLEGAL_STORE),
     }

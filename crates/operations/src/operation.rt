@@ -1,6 +1,6 @@
 // An operation, and what of it counts in more than one rule.
 ghost use mathlib.Core.Path.{_≡_};
-ghost use Rattle.operations.specs.Operation.{rowOf, numberOf, sameOperation, moveOf, orderByte, countsBytes, offersEnd, movesTape, suppliesCount, isRead, holdsCount, bringsRecord, isSkip, isSearch, takesMark};
+ghost use Rattle.operations.specs.Operation.{rowOf, numberOf, sameOperation, moveOf, orderByte, countsBytes, offersEnd, movesTape, suppliesCount, isRead, bringsRecord, isSkip, isSearch, takesMark};
 
 pub enum Operation {
     Read,
@@ -116,13 +116,6 @@ pub fn is_read(operation: Operation) -> bool
     ensures { λ r. ⌜ r ≡ isRead operation ⌝ }
 {
     same_operation(operation, Operation::Read) | supplies_count(operation)
-}
-
-// Whether its store has a count that is held until its end: a write's, or a supplied one.
-pub fn holds_count(operation: Operation) -> bool
-    ensures { λ r. ⌜ r ≡ holdsCount operation ⌝ }
-{
-    same_operation(operation, Operation::Write) | supplies_count(operation)
 }
 
 // A read or a forward skip whose image says its count.

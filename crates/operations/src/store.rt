@@ -59,12 +59,7 @@ pub fn selected_by(store: Store, selected: u8) -> u8
 pub fn asked_for(store: Store) -> Decoded
     ensures { λ r. ⌜ r ≡ askedFor store ⌝ }
 {
-    decode_of(
-        store.address / 16 % 8,
-        store.first,
-        store.third,
-        store.fourth,
-    )
+    decode_of(store.address / 16 % 8, store.first, store.fourth)
 }
 
 // What it asks for of a drive of this density.
@@ -75,14 +70,14 @@ pub fn asked_in(store: Store, density: u8) -> Decoded
 }
 
 // The count of a write, or the supplied one.
-pub fn held_count(store: Store) -> usize
+pub fn held_count(store: Store) -> u16
     ensures { λ r. ⌜ r ≡ heldCount store ⌝ }
 {
-    store.third as usize * 256 + store.fourth as usize
+    store.third as u16 * 256 + store.fourth as u16
 }
 
 // The count that is supplied for an operation, 0 where none is.
-pub fn supplied_count(operation: Operation, store: Store) -> usize
+pub fn supplied_count(operation: Operation, store: Store) -> u16
     ensures { λ r. ⌜ r ≡ suppliedCount operation store ⌝ }
 {
     if supplies_count(operation) {

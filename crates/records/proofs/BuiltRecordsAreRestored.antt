@@ -32,12 +32,12 @@ module _ (bytes image marks : List ℕ) (fits : length bytes ≤ limit) (s : Sho
 
   -- it passes the test
   pub shown-accepted : wholeRefusal image marks 1 ≡ 0
-  shown-accepted = whole-accepted image marks (rw said fits) (rw said long) (rw said marked) (s .legal)
+  shown-accepted = whole-accepted image marks (rw said long) (rw said marked) (s .legal)
 
   -- with at most one error of each parity the restorer does not refuse
   accepted : Once marks → (space : ℕ) → length bytes ≤ space → restoreRefusal image marks space ≡ 0
   accepted once space room =
-      restorer-accepts image marks (rw said fits) (rw said long) (rw said marked) (s .legal) once space (rw said room)
+      restorer-accepts image marks (rw said long) (rw said marked) (s .legal) once space (rw said room)
 
   -- and the restored bytes are those that it was built from
   pub restored-are-the-bytes : Once marks → restoredBytes image marks ≡ bytes

@@ -272,7 +272,7 @@ none-is-a-place handed = by-test (ltb noPlace handed) (λ inside. simp inside) (
 
 whole-as-before : (image marks : List ℕ) → countOf image ≤ earlierLimit → wholeRefusal image marks 1 ≡ earlierWholeRefusal image marks
 unfolding wholeRefusal
-whole-as-before image marks h = ap (λ (n : ℕ). pick (ltb (length image) 2) 9 n) (within-both (countOf image) _ h)
+whole-as-before image marks h = ap (λ (n : ℕ). pick (ltb (length image) 2) 9 n) (sym (pick-no 9 _ (le-ltb earlierLimit (countOf image) h)))
 
 -- Of a record of at most 16,384 bytes with no bad byte, and of an image that says such a count, builder and restorer answer and leave what they did before.
 pub record EarlierTapesReadTheSame : Type 0 where

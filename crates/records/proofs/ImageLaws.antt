@@ -45,9 +45,9 @@ pub blockettes-hold : (c : ℕ) → c ≤ 256 * blocketteCount c
 unfolding blocketteCount
 blockettes-hold c = omega arith
 
--- there are at most 256 of them, so that a number is one byte
-pub blockettes-few : (c : ℕ) → c ≤ limit → blocketteCount c ≤ 256
-unfolding blocketteCount limit
+-- a 16-bit count has at most 256 of them, so that a number is one byte
+pub blockettes-few : (c : ℕ) → c ≤ 65535 → blocketteCount c ≤ 256
+unfolding blocketteCount
 blockettes-few c h = omega arith
 
 pub blockettes-length : (bytes : List ℕ) (n : ℕ) → length bytes ≤ 256 * n → length (blockettesOf bytes n) ≡ 256 * (n + 2)

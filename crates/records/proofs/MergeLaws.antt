@@ -12,7 +12,7 @@ use Rattle.common.specs.Pick.{pick}
 use borrow.Author.Tests.{ltb-false, eqb-true, eqb-false, not-false}
 use Rattle.common.proofs.PickLaws.{by-test, pick-yes, pick-no, pick-by, not-refused}
 use Rattle.marks.specs.Marks.{legalMarks}
-use Rattle.records.specs.Count.{limit, countOf}
+use Rattle.records.specs.Count.{countOf}
 use Rattle.records.specs.Image.{imageLength, markCount}
 use Rattle.records.specs.Whole.{layoutRefusal, wholeRefusal}
 use Rattle.passes.specs.Passes.{clashes}
@@ -27,10 +27,9 @@ pass-numbers p =
     let P : ℕ → Type 0 = λ (n : ℕ). (n ≡ 9 → ⊥) → (n ≡ 10 → ⊥) → n ≡ 0 in
     let nine : P 9 = λ not-9 not-10. absurd (not-9 refl) in
     pick-by P (ltb (length (p .image)) 2) (λ short. nine)
-    (λ two. pick-by P (ltb limit (countOf (p .image))) (λ above. nine)
-    (λ within. pick-by P (not (eqb (length (p .image)) (imageLength (countOf (p .image)) 1))) (λ wrong. nine)
+    (λ two. pick-by P (not (eqb (length (p .image)) (imageLength (countOf (p .image)) 1))) (λ wrong. nine)
     (λ long. pick-by P (not (eqb (length (p .marks)) (markCount (countOf (p .image)) 1))) (λ wrong. nine)
-    (λ marked. pick-by P (legalMarks (p .marks)) (λ legal not-9 not-10. refl) (λ wrong not-9 not-10. absurd (not-10 refl))))))
+    (λ marked. pick-by P (legalMarks (p .marks)) (λ legal not-9 not-10. refl) (λ wrong not-9 not-10. absurd (not-10 refl)))))
 
 module _ (p : Pass) (good : passRefusal p ≡ 0) where
   abbrev is-whole : IsWhole (p .image) (p .marks) 1

@@ -18,7 +18,7 @@ use Rattle.blockettes.proofs.Checked.{blockette-at, others-are-it}
 use Rattle.marks.specs.Marks.{legalMarks, Once}
 use Rattle.marks.specs.Scan.{scanMarks}
 use Rattle.marks.proofs.ScanLaws.{Found, ScannedOnce, scanned-once, beside-good, not-found-good}
-use Rattle.records.specs.Count.{limit, countOf}
+use Rattle.records.specs.Count.{countOf}
 use Rattle.records.specs.Image.{blocketteCount, blockettesOf, imageOf, imageLength, markCount}
 use Rattle.records.specs.Whole.{layoutRefusal, wholeRefusal}
 use Rattle.records.specs.Restore.{mendAt, restoreRefusal, restoredBytes, restoreInto}
@@ -115,7 +115,7 @@ restored-bytes bytes image marks said long marked once good =
     byte-restored bytes (drop 2 (imageOf bytes 1)) blocks marks n refl (body-front bytes some) (body-others bytes some) (marked ∙ marks-of c some)
     (scanned-once marks once) good old as-long (λ j h. getD-take c blocks j 0 h) i below)
 
-module _ (image marks : List ℕ) (within : countOf image ≤ limit) (long : length image ≡ imageLength (countOf image) 1)
+module _ (image marks : List ℕ) (long : length image ≡ imageLength (countOf image) 1)
     (marked : length marks ≡ markCount (countOf image) 1) (legal : legalMarks marks ≡ true) where
   -- the test passes
   pub whole-accepted : wholeRefusal image marks 1 ≡ 0
@@ -123,7 +123,6 @@ module _ (image marks : List ℕ) (within : countOf image ≤ limit) (long : len
   whole-accepted =
       let two : 2 ≤ length image = omega (arith, image-holds (countOf image) 1) in
       pick-no 9 _ (le-ltb (length image) 2 two)
-      ∙ pick-no 9 _ (le-ltb limit (countOf image) within)
       ∙ pick-no 9 _ (ap not (eq-eqb (length image) (imageLength (countOf image) 1) long))
       ∙ pick-no 9 _ (ap not (eq-eqb (length marks) (markCount (countOf image) 1) marked))
       ∙ pick-yes 0 10 legal

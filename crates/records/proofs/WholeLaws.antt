@@ -10,7 +10,7 @@ use lib.Dec.{eqb}
 use borrow.Author.Tests.{ltb-false, eqb-true, eqb-false, not-false}
 use Rattle.common.proofs.PickLaws.{by-test, pick-yes, pick-no, not-refused, passed}
 use Rattle.marks.specs.Marks.{legalMarks}
-use Rattle.records.specs.Count.{limit, countOf}
+use Rattle.records.specs.Count.{countOf}
 use Rattle.records.specs.Image.{imageLength, markCount}
 use Rattle.records.specs.Whole.{layoutRefusal, wholeRefusal}
 use Rattle.records.specs.Restore.{restoreRefusal}
@@ -35,7 +35,6 @@ laid image marks c density e =
 -- one with the count that it says
 pub record IsWhole (image marks : List ℕ) (density : ℕ) : Type 0 where
   pub two : 2 ≤ length image
-  pub within : countOf image ≤ limit
   pub long : length image ≡ imageLength (countOf image) density
   pub marked : length marks ≡ markCount (countOf image) density
   pub legal : legalMarks marks ≡ true
@@ -44,9 +43,8 @@ pub whole : (image marks : List ℕ) (density : ℕ) → wholeRefusal image mark
 unfolding wholeRefusal
 whole image marks density e =
     let t = not-refused _ _ _ (λ r. omega arith) e in
-    let l = not-refused _ _ _ (λ r. omega arith) (t .1) in
-    let lies = laid image marks (countOf image) density (l .1) in
-    record { two = ltb-false _ _ (t .0); within = ltb-false _ _ (l .0); long = lies .long; marked = lies .marked; legal = lies .legal }
+    let lies = laid image marks (countOf image) density (t .1) in
+    record { two = ltb-false _ _ (t .0); long = lies .long; marked = lies .marked; legal = lies .legal }
 
 -- the restorer does not refuse: the test is passed, and the bytes fit
 pub restorable : (image marks : List ℕ) (space : ℕ) → restoreRefusal image marks space ≡ 0 → IsWhole image marks 1 × (countOf image ≤ space)

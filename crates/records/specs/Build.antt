@@ -12,7 +12,7 @@ use Rattle.records.specs.Count.{limit}
 use Rattle.records.specs.Image.{imageOf, imageLength}
 use Rattle.records.specs.Place.{isPlace, writtenBytes}
 
--- "9 count above 16,384 ..; 11 the .. builder's image space .. short", lowest first; "15 a place that is neither in the host bytes nor the value for
+-- "host bytes too many for the builder, keep refusal 9" (document 02, Wish 10); "11 the .. builder's image space .. short", lowest first; "15 a place that is neither in the host bytes nor the value for
 -- none, after 11"
 unfoldable pub buildRefusal : ℕ → ℕ → ℕ → ℕ → ℕ
 buildRefusal c density place space =

@@ -18,7 +18,6 @@ ghost use Prim.Native.Nat.{_+_, _*_, _≤_};
 ghost use lib.ListN.{length};
 ghost use Rattle.common.specs.Given.{filled};
 ghost use Rattle.blockettes.specs.Blockettes.{blocketteLength, checksLength};
-ghost use Rattle.records.specs.Count.{limit};
 ghost use Rattle.records.specs.Image.{checksOf, blockettesOf, bodyOf, imageOf, imageLength};
 ghost use Rattle.records.specs.Build.{buildRefusal, buildInto};
 
@@ -45,8 +44,7 @@ fn put_blockettes(bytes: &[u8], n: usize, space: &mut [u8])
 }
 
 // What follows the count. Bytes that are missing are zeros.
-fn put_body(bytes: &[u8], count: usize, density: u8, space: &mut [u8])
-    requires { ⌜ count ≤ limit ⌝ }
+fn put_body(bytes: &[u8], count: u16, density: u8, space: &mut [u8])
     requires { ⌜ length (now bytes) ≤ count ⌝ }
     requires { ⌜ length (now space) + 2 ≡ imageLength count density ⌝ }
     ensures { λ _. ⌜ now (space .exit) ≡ bodyOf (filled (now (bytes .entry)) count) density ⌝ }
@@ -60,8 +58,7 @@ fn put_body(bytes: &[u8], count: usize, density: u8, space: &mut [u8])
 }
 
 // The image of a record of this count. Bytes that are missing are zeros.
-pub fn put_image(bytes: &[u8], count: usize, density: u8, image: &mut [u8])
-    requires { ⌜ count ≤ limit ⌝ }
+pub fn put_image(bytes: &[u8], count: u16, density: u8, image: &mut [u8])
     requires { ⌜ length (now bytes) ≤ count ⌝ }
     requires { ⌜ length (now image) ≡ imageLength count density ⌝ }
     ensures { λ _. ⌜ now (image .exit) ≡ imageOf (filled (now (bytes .entry)) count) density ⌝ }
@@ -77,7 +74,7 @@ fn build_refusal(count: usize, density: u8, place: usize, space: usize) -> u32
     if LIMIT < count {
         return WRONG_LENGTH;
     }
-    let needed = image_length(count, density);
+    let needed = image_length(count as u16, density);
     if space < needed {
         return SPACE_SHORT;
     }
@@ -92,13 +89,14 @@ pub fn build(bytes: &[u8], density: u8, place: usize, image: &mut [u8]) -> u32
     ensures { λ r. ⌜ r ≡ buildRefusal (length (now (bytes .entry))) density place (length (now (image .entry))) ⌝ }
     ensures { λ _. ⌜ now (image .exit) ≡ buildInto (now (bytes .entry)) density place (now (image .entry)) ⌝ }
 {
-    let count = bytes.len();
-    let refusal = build_refusal(count, density, place, image.len());
+    let length = bytes.len();
+    let refusal = build_refusal(length, density, place, image.len());
     if refusal != DONE {
         return refusal;
     }
+    let count = length as u16;
     let needed = image_length(count, density);
-    let came = as_came(count, place);
+    let came = as_came(length, place);
     put_image(&bytes[..came], count, density, &mut image[..needed]);
     DONE
 }

@@ -66,7 +66,7 @@ pub extern "C" fn ctc_image_length(count: usize, density: u8) -> usize
     if LIMIT < count {
         return 0;
     }
-    image_length(count, density)
+    image_length(count as u16, density)
 }
 
 // The number of its marks, 0 where no image has the count.
@@ -77,7 +77,7 @@ pub extern "C" fn ctc_mark_count(count: usize, density: u8) -> usize
     if LIMIT < count {
         return 0;
     }
-    mark_count(count, density)
+    mark_count(count as u16, density)
 }
 
 // The count that an image says, and no count where two bytes are not there.
@@ -88,7 +88,7 @@ pub extern "C" fn ctc_image_count(image: &[u8]) -> usize
     if image.len() < 2 {
         return NO_COUNT;
     }
-    count_of(image)
+    count_of(image) as usize
 }
 
 // What the scan finds, as nine bytes.

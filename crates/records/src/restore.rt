@@ -52,7 +52,7 @@ fn restore_refusal(image: &[u8], marks: &[u8], stop: usize, space: usize) -> u32
     if refusal != DONE {
         return refusal;
     }
-    let count = count_of(image);
+    let count = count_of(image) as usize;
     if space < count {
         return SPACE_SHORT;
     }
@@ -74,6 +74,13 @@ pub fn restore(image: &[u8], marks: &[u8], space: &mut [u8]) -> u32
     }
     let count = count_of(image);
     let n = blockette_count(count);
-    put_restored(&image[2..], n, errors.odd, errors.even, &mut space[..count]);
+    let length = count as usize;
+    put_restored(
+        &image[2..],
+        n,
+        errors.odd,
+        errors.even,
+        &mut space[..length],
+    );
     DONE
 }

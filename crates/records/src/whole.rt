@@ -1,5 +1,4 @@
 // The test of a whole image and its marks as they are handed in.
-use crate::count::LIMIT;
 use crate::count::count_of;
 use crate::layout::image_length;
 use crate::layout::mark_count;
@@ -8,13 +7,10 @@ use common::refusals::MARK_VALUE;
 use common::refusals::WRONG_LENGTH;
 use marks::legal_marks;
 ghost use mathlib.Core.Path.{_≡_};
-ghost use Prim.Native.Nat.{_≤_};
-ghost use Rattle.records.specs.Count.{limit};
 ghost use Rattle.records.specs.Whole.{layoutRefusal, wholeRefusal};
 
 // An image with this count, and its marks: refused for a wrong length or a mark value.
-pub fn layout_refusal(image: &[u8], marks: &[u8], count: usize, density: u8) -> u32
-    requires { ⌜ count ≤ limit ⌝ }
+pub fn layout_refusal(image: &[u8], marks: &[u8], count: u16, density: u8) -> u32
     ensures { λ r. ⌜ r ≡ layoutRefusal (now (image .entry)) (now (marks .entry)) count density ⌝ }
 {
     let length = image_length(count, density);
@@ -40,8 +36,5 @@ pub fn whole_refusal(image: &[u8], marks: &[u8], density: u8) -> u32
         return WRONG_LENGTH;
     }
     let count = count_of(image);
-    if LIMIT < count {
-        return WRONG_LENGTH;
-    }
     layout_refusal(image, marks, count, density)
 }

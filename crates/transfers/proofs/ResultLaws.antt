@@ -1,9 +1,9 @@
 -- Laws of the result: what is known of one that is not refused, the final code, and as many bytes as fit.
 -- Assumes nothing.
-use borrow.Author.Tests.{eqb-true, eqb-false, ltb-false, not-true, not-false}
+use borrow.Author.Tests.{eqb-true, eqb-false, not-true, not-false}
 use mathlib.Core.Path.{_≡_, sym, ap, subst, _∙_}
 use mathlib.Core.Bool.{Bool, true, false, not, _&&_, _||_, true≢false}
-use mathlib.Core.List.{List, [], _∷_}
+use mathlib.Core.List.{List}
 use Prim.Native.Nat.{ℕ, _+_, _-_, _≤_, min}
 use native.Mathlib.Omega.{arith}
 use lib.Dec.{eqb}
@@ -13,61 +13,40 @@ use Rattle.common.proofs.PickLaws.{by-test, by-either, both-hold, pick-yes, pic
 use Rattle.marks.specs.Marks.{mostMarks}
 use Rattle.marks.specs.declared.Findings.{Findings}
 use Rattle.marks.specs.Scan.{isFound}
-use Rattle.records.specs.Count.{limit, countOf, unrotated}
+use Rattle.records.specs.Count.{countOf}
 use Rattle.records.specs.Image.{imageLength}
 use Rattle.records.proofs.ImageLaws.{image-holds, blockettes-few, marks-most}
 use Rattle.records.proofs.WholeLaws.{laid, whole}
 use Rattle.status.specs.declared.drives.Drive.{Drive}
 use Rattle.operations.specs.declared.operation.Operation.{Operation}
-use Rattle.operations.specs.declared.operation.Operation.the-variants.{Read, SuppliedCount, SkipForward, SkipReverse}
+use Rattle.operations.specs.declared.operation.Operation.the-variants.{Read, SuppliedCount, SkipForward}
 use Rattle.operations.specs.declared.store.Store.{Store}
 use Rattle.operations.specs.Operation.{numberOf, sameOperation, suppliesCount, isRead, bringsRecord}
-use Rattle.operations.specs.Store.{heldCount, suppliedCount}
+use Rattle.operations.specs.Store.{heldCount}
 use Rattle.transfers.specs.declared.expected.Expected.{Expected}
 use Rattle.transfers.specs.declared.expected.Expected.the-variants.{Whole, Supplied, Count, Nothing}
 use Rattle.transfers.specs.declared.verdict.Verdict.{Verdict}
 use Rattle.operations.specs.Codes.{offline, blocketteNumberWrong, recoverable, unrecoverable}
-use Rattle.status.specs.Drives.{mfm, gcr, isGcr}
+use Rattle.status.specs.Drives.{gcr, isGcr}
 use Rattle.transfers.specs.Data.{checkStore}
-use Rattle.transfers.specs.Expected.{wholeCode, expectedWhole, expectedSupplied, expectedOf, suppliedIn, countRefusal, emptyRefusal, imageRefusal}
-use Rattle.transfers.specs.Results.{Result, resultRefusal, isGone, codeReported, finalCode, readsGcr, usesImage, recordCount, usedCount, verdictOf, fitting}
+use Rattle.transfers.specs.Expected.{wholeCode, expectedWhole, expectedSupplied, expectedOf, unmarkedRefusal, imageRefusal}
+use Rattle.transfers.specs.Results.{Result, resultRefusal, isGone, codeReported, finalCode, readsGcr, recordCount, usedCount, verdictOf, fitting}
 use Rattle.transfers.proofs.DataLaws.{gcr-alike}
 
 -- ---- a result that is not refused
 
-empty-none : (image marks : List ℕ) → emptyRefusal image marks ≡ 0 → (length image ≡ 0) × (length marks ≡ 0)
-unfolding emptyRefusal
-empty-none image marks e =
+unmarked : (image marks : List ℕ) (n : ℕ) → unmarkedRefusal image marks n ≡ 0 → (length image ≡ n) × (length marks ≡ 0)
+unfolding unmarkedRefusal
+unmarked image marks n e =
     let l = not-refused _ _ _ (λ z. omega arith) e in (eqb-true _ _ (not-false _ (l .0)), eqb-true _ _ (passed _ _ (λ z. omega arith) (l .1)))
-
-none-counted : (image : List ℕ) → length image ≡ 0 → countOf image ≤ limit
-unfolding countOf unrotated limit
-none-counted [] e = omega arith
-none-counted (x ∷ xs) e = absurd (omega arith)
 
 -- an image that passes its test, where there is one, has two bytes or more
 two-bytes : (image marks : List ℕ) (expected : Expected) → imageRefusal image marks expected ≡ 0 → (length image ≡ 0 → ⊥) → 2 ≤ length image
-unfolding imageRefusal countRefusal
+unfolding imageRefusal
 two-bytes image marks (Whole density) e some = whole image marks density e .two
 two-bytes image marks (Supplied count) e some = omega (arith, laid image marks count gcr e .long, image-holds count gcr)
-two-bytes image marks Count e some =
-    let two : length image ≡ 2 = eqb-true _ _ (not-false _ (not-refused _ _ _ (λ z. omega arith) e .0)) in omega arith
-two-bytes image marks Nothing e some = absurd (some (empty-none image marks e .0))
-
--- and the count that it says is within the limit, but where a count is supplied: then its own is not looked at
-abbrev OwnWithin : List ℕ → Expected → Type 0
-OwnWithin image (Whole density) = countOf image ≤ limit
-OwnWithin image (Supplied count) = Unit
-OwnWithin image Count = countOf image ≤ limit
-OwnWithin image Nothing = countOf image ≤ limit
-
-own-within : (image marks : List ℕ) (expected : Expected) → imageRefusal image marks expected ≡ 0 → OwnWithin image expected
-unfolding imageRefusal countRefusal
-own-within image marks (Whole density) e = whole image marks density e .within
-own-within image marks (Supplied count) e = tt
-own-within image marks Count e =
-    let l = not-refused _ _ _ (λ z. omega arith) e in ltb-false _ _ (not-refused _ _ _ (λ z. omega arith) (l .1) .0)
-own-within image marks Nothing e = none-counted image (empty-none image marks e .0)
+two-bytes image marks Count e some = omega (arith, unmarked image marks 2 e .0)
+two-bytes image marks Nothing e some = absurd (some (unmarked image marks 0 e .0))
 
 -- the image of a read or a forward skip is whole, where there is one
 abbrev LongFor : List ℕ → List ℕ → ℕ → Expected → Type 0
@@ -79,12 +58,12 @@ unfolding expectedWhole imageRefusal
 whole-long image marks density code mark =
     pick-by (LongFor image marks density) (wholeCode code && not mark)
     (λ brought e some. whole image marks density e .long)
-    (λ none e some. absurd (some (empty-none image marks e .0)))
+    (λ none e some. absurd (some (unmarked image marks 0 e .0)))
 
 -- that of a supplied count has its length, and its marks
 record Fits (image marks : List ℕ) (count : ℕ) : Type 0 where
   long : (length image ≡ 0 → ⊥) → length image ≡ imageLength count gcr
-  few : count ≤ limit → length marks ≤ mostMarks
+  few : count ≤ 65535 → length marks ≤ mostMarks
   none : count ≡ 0 → length image ≡ 0
 
 supplied-fits : (image marks : List ℕ) (count code : ℕ) → imageRefusal image marks (expectedSupplied count code) ≡ 0 → Fits image marks count
@@ -99,7 +78,7 @@ supplied-fits image marks count code =
       none = λ zero. absurd (eqb-false count 0 (not-true _ (both-hold (eqb code 0) (not (eqb count 0)) brought .1)) zero);
     })
     (λ none e.
-    let l = empty-none image marks e in
+    let l = unmarked image marks 0 e in
     record { long = λ some. absurd (some (l .0)); few = λ within. omega (arith, l .1); none = λ zero. l .0 })
 
 module _ (drive : Drive) (r : Result) (operation : Operation) (store : Store) where
@@ -122,19 +101,6 @@ module _ (drive : Drive) (r : Result) (operation : Operation) (store : Store) wh
       supplied-fits (r .image) (r .marks) (heldCount store) (r .code)
       (subst (λ (x : Expected). imageRefusal (r .image) (r .marks) x ≡ 0) (pick-no _ _ (supplied-alone supplies) ∙ pick-yes _ _ supplies) e)
 
-  image-within : Passes → suppliesCount operation ≡ false → countOf (r .image) ≤ limit
-  unfolding expectedOf expectedWhole
-  image-within e own =
-      let says = own-within (r .image) (r .marks) _ e in
-      let P : Expected → Type 0 = λ (x : Expected). OwnWithin (r .image) x → countOf (r .image) ≤ limit in
-      pick-by P (bringsRecord operation)
-      (λ brings. pick-by P (wholeCode (r .code) && not (r .mark)) (λ brought within. within) (λ none within. within))
-      (λ other. pick-by P (suppliesCount operation) (λ supplies. absurd (true≢false (sym supplies ∙ own)))
-      (λ said. pick-by P (sameOperation operation SkipReverse)
-      (λ back. pick-by P (not (eqb (drive .density) mfm) && (eqb (r .code) 0 && not (r .mark))) (λ two within. within) (λ none within. within))
-      (λ none within. within)))
-      says
-
   -- ---- by the verdict
 
   abbrev verdict : Verdict
@@ -152,13 +118,6 @@ module _ (drive : Drive) (r : Result) (operation : Operation) (store : Store) wh
   used-supplied : suppliesCount operation ≡ true → verdict .used ≡ true → verdict .count ≡ heldCount store
   unfolding verdictOf usedCount recordCount
   used-supplied supplies used = pick-yes _ _ used ∙ pick-yes _ _ supplies
-
-  count-within : Passes → suppliedCount operation store ≤ limit → verdict .count ≤ limit
-  unfolding verdictOf usedCount recordCount suppliedCount
-  count-within e within =
-      pick-by (λ (n : ℕ). n ≤ limit) (usesImage (isGone drive operation) (r .image))
-      (λ used. pick-by (λ (n : ℕ). n ≤ limit) (suppliesCount operation) (λ supplies. subst (λ (n : ℕ). n ≤ limit) (pick-yes _ _ supplies) within) (image-within e))
-      (λ unused. omega arith)
 
   -- in GCR its last blockettes are the check blockettes
   checked-long : Passes → verdict .renews ≡ true → verdict .used ≡ true → length (r .image) ≡ imageLength (verdict .count) 1
@@ -183,8 +142,7 @@ module _ (drive : Drive) (r : Result) (operation : Operation) (store : Store) wh
     pub record Passed : Type 0 where
       pub lent : check ≡ checkStore
       pub two : (length (r .image) ≡ 0 → ⊥) → 2 ≤ length (r .image)
-      pub few : suppliesCount operation ≡ true → length (r .marks) ≤ mostMarks
-      pub within : verdict .count ≤ limit
+      pub few : suppliesCount operation ≡ true → heldCount store ≤ 65535 → length (r .marks) ≤ mostMarks
       pub checked : verdict .renews ≡ true → verdict .used ≡ true → length (r .image) ≡ imageLength (verdict .count) 1
       pub read : isRead operation ≡ true → verdict .used ≡ true → 2 + verdict .count ≤ length (r .image)
 
@@ -199,33 +157,16 @@ module _ (drive : Drive) (r : Result) (operation : Operation) (store : Store) wh
     pub supplied-none : resultRefusal drive operation store r check ≡ 0 → suppliesCount operation ≡ true → heldCount store ≡ 0 → length (r .image) ≡ 0
     supplied-none e supplies = record-fits (passed-image e .1) supplies .none
 
-    pub result-passed : resultRefusal drive operation store r check ≡ 0 → suppliedCount operation store ≤ limit → Passed
-    unfolding suppliedCount
-    result-passed e within =
+    pub result-passed : resultRefusal drive operation store r check ≡ 0 → Passed
+    result-passed e =
         let (lent, passes) = passed-image e in
         record {
           lent = lent;
           two = two-bytes (r .image) (r .marks) _ passes;
-          few = λ supplies. record-fits passes supplies .few (subst (λ (n : ℕ). n ≤ limit) (pick-yes _ _ supplies) within);
-          within = count-within passes within;
+          few = λ supplies. record-fits passes supplies .few;
           checked = checked-long passes;
           read = read-long passes;
         }
-
--- what is expected has no greater count than the one that is supplied
-pub expected-within :
-    (operation : Operation) (store : Store) (density code : ℕ) (mark : Bool)
-    → suppliedCount operation store ≤ limit
-    → suppliedIn (expectedOf operation store density code mark) ≤ limit
-unfolding expectedOf expectedWhole expectedSupplied suppliedIn suppliedCount
-expected-within operation store density code mark within =
-    let P : Expected → Type 0 = λ (x : Expected). suppliedIn x ≤ limit in
-    pick-by P (bringsRecord operation) (λ brings. pick-by P (wholeCode code && not mark) (λ brought. omega arith) (λ none. omega arith))
-    (λ other. pick-by P (suppliesCount operation)
-    (λ supplies. pick-by P (eqb code 0 && not (eqb (heldCount store) 0)) (λ brought. subst (λ (n : ℕ). n ≤ limit) (pick-yes _ _ supplies) within) (λ none. omega arith))
-    (λ said. pick-by P (sameOperation operation SkipReverse)
-    (λ back. pick-by P (not (eqb density mfm) && (eqb code 0 && not mark)) (λ two. omega arith) (λ none. omega arith))
-    (λ none. omega arith)))
 
 -- ---- the final code
 

@@ -3,11 +3,10 @@
 use Prim.Native.Nat.{ℕ}
 use mathlib.Core.Bool.{Bool, not, _&&_, _||_}
 use mathlib.Core.List.{List}
-use lib.Dec.{ltb, eqb}
+use lib.Dec.{eqb}
 use lib.ListN.{length}
 use Rattle.common.specs.Pick.{pick}
 use Rattle.common.specs.Refusals.{done, wrongLength}
-use Rattle.records.specs.Count.{limit, countOf}
 use Rattle.records.specs.Whole.{layoutRefusal, wholeRefusal}
 use Rattle.status.specs.Drives.{mfm, gcr}
 use Rattle.operations.specs.declared.operation.Operation.{Operation}
@@ -42,26 +41,14 @@ expectedOf operation store density code mark =
     (pick (suppliesCount operation) (expectedSupplied (heldCount store) code)
     (pick (sameOperation operation SkipReverse) (expectedCount density code mark) Nothing))
 
--- the count that is supplied with what is expected, 0 where none is
-unfoldable pub suppliedIn : Expected → ℕ
-suppliedIn (Supplied count) = count
-suppliedIn (Whole density) = 0
-suppliedIn Count = 0
-suppliedIn Nothing = 0
+-- an image of this length, and no marks: "9 .. wrong length of image or marks"
+unfoldable pub unmarkedRefusal : List ℕ → List ℕ → ℕ → ℕ
+unmarkedRefusal image marks n = pick (not (eqb (length image) n)) wrongLength (pick (eqb (length marks) 0) done wrongLength)
 
--- "two count bytes", and no marks: "9 count above 16,384 or wrong length of image or marks"
-unfoldable pub countRefusal : List ℕ → List ℕ → ℕ
-countRefusal image marks =
-    pick (not (eqb (length image) 2)) wrongLength
-    (pick (ltb limit (countOf image)) wrongLength (pick (eqb (length marks) 0) done wrongLength))
-
--- "image and marks are empty"
-unfoldable pub emptyRefusal : List ℕ → List ℕ → ℕ
-emptyRefusal image marks = pick (not (eqb (length image) 0)) wrongLength (pick (eqb (length marks) 0) done wrongLength)
-
--- what is expected decides; with a supplied count, "the image's own count is not looked at"
+-- what is expected decides: with a supplied count, "the image's own count is not looked at"; "two count bytes", and no marks; "image and marks are
+-- empty"
 unfoldable pub imageRefusal : List ℕ → List ℕ → Expected → ℕ
 imageRefusal image marks (Whole density) = wholeRefusal image marks density
 imageRefusal image marks (Supplied count) = layoutRefusal image marks count gcr
-imageRefusal image marks Count = countRefusal image marks
-imageRefusal image marks Nothing = emptyRefusal image marks
+imageRefusal image marks Count = unmarkedRefusal image marks 2
+imageRefusal image marks Nothing = unmarkedRefusal image marks 0

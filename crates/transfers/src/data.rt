@@ -24,7 +24,6 @@ ghost use mathlib.Core.Path.{_≡_};
 ghost use Prim.Native.Nat.{_≤_};
 ghost use lib.ListN.{length};
 ghost use Rattle.common.specs.Given.{given};
-ghost use Rattle.records.specs.Count.{limit};
 ghost use Rattle.records.specs.Image.{imageLength};
 ghost use Rattle.operations.specs.Store.{heldCount};
 ghost use Rattle.transfers.specs.Data.{checkStore, hostOf, dataRefusal, writeImage, checkBytes, dataCheck, neededBytes, badByte, runsShort, dataWords};
@@ -41,7 +40,6 @@ pub fn data_refusal(
     space: usize,
     check: usize,
 ) -> u32
-    requires { ⌜ heldCount store ≤ limit ⌝ }
     ensures { λ r. ⌜ r ≡ dataRefusal drive store handed place space check ⌝ }
 {
     if check != CHECK_STORE {
@@ -65,7 +63,6 @@ pub fn put_write_image(
     density: u8,
     space: &mut [u8],
 ) -> usize
-    requires { ⌜ heldCount store ≤ limit ⌝ }
     requires { ⌜ imageLength (heldCount store) density ≤ length (now space) ⌝ }
     ensures { λ r. ⌜ r ≡ length (writeImage store (hostOf (now (host .entry)) place) density) ⌝ }
     ensures { λ _. ⌜ now (space .exit) ≡ given (writeImage store (hostOf (now (host .entry)) place) density) (now (space .entry)) ⌝ }
@@ -73,15 +70,14 @@ pub fn put_write_image(
     let came = &host[..as_came(host.len(), place)];
     let count = held_count(store);
     let from = least(came.len(), store.second as usize);
-    let end = least(came.len(), from + count);
+    let end = least(came.len(), from + count as usize);
     let needed = image_length(count, density);
     put_image(&came[from..end], count, density, &mut space[..needed]);
     needed
 }
 
 // Both check blockettes of a GCR image, or zeros where it has none.
-pub fn put_check_bytes(image: &[u8], count: usize, check: &mut [u8])
-    requires { ⌜ count ≤ limit ⌝ }
+pub fn put_check_bytes(image: &[u8], count: u16, check: &mut [u8])
     requires { ⌜ length (now image) ≡ imageLength count 1 ⌝ }
     requires { ⌜ length (now check) ≡ checkStore ⌝ }
     ensures { λ _. ⌜ now (check .exit) ≡ checkBytes (now (image .entry)) count ⌝ }
@@ -96,7 +92,6 @@ pub fn put_check_bytes(image: &[u8], count: usize, check: &mut [u8])
 
 // The check store after a data call: in GCR the check bytes of the image.
 pub fn put_data_check(drive: Drive, store: Store, image: &[u8], check: &mut [u8])
-    requires { ⌜ heldCount store ≤ limit ⌝ }
     requires { ⌜ length (now image) ≡ imageLength (heldCount store) (drive .density) ⌝ }
     requires { ⌜ length (now check) ≡ checkStore ⌝ }
     ensures { λ _. ⌜ now (check .exit) ≡ dataCheck drive store (now (image .entry)) (now (check .entry)) ⌝ }
@@ -110,7 +105,7 @@ pub fn put_data_check(drive: Drive, store: Store, image: &[u8], check: &mut [u8]
 fn needed_bytes(store: Store) -> usize
     ensures { λ r. ⌜ r ≡ neededBytes store ⌝ }
 {
-    store.second as usize + held_count(store)
+    store.second as usize + held_count(store) as usize
 }
 
 // Whether a bad byte is among them.

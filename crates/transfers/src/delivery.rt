@@ -16,28 +16,25 @@ ghost use mathlib.Core.Path.{_≡_};
 ghost use Prim.Native.Nat.{_+_, _≤_};
 ghost use mathlib.Core.Bool.{true};
 ghost use lib.ListN.{length};
-ghost use Rattle.records.specs.Count.{limit};
 ghost use Rattle.records.specs.Image.{imageLength};
 ghost use Rattle.operations.specs.Operation.{isRead};
 ghost use Rattle.transfers.specs.Data.{checkStore};
 ghost use Rattle.transfers.specs.Results.{readCount, readBytes, deliveredBytes, bytesRead, fitting, fittingInto, resultCheck};
 
 // How many bytes of its image a read delivers.
-fn read_count(count: usize, found: Findings) -> usize
-    requires { ⌜ count ≤ limit ⌝ }
+fn read_count(count: u16, found: Findings) -> usize
     ensures { λ r. ⌜ r ≡ readCount count found ⌝ }
     ensures { λ r. ⌜ r ≤ count ⌝ }
 {
     if is_found(found.stop) {
         let before = least(found.place, blockette_count(count));
-        return least(count, BLOCKETTE_LENGTH * before);
+        return least(count as usize, BLOCKETTE_LENGTH * before);
     }
-    count
+    count as usize
 }
 
 // The bytes of its image that a read delivers.
-fn read_bytes(image: &[u8], count: usize, found: Findings) -> &[u8]
-    requires { ⌜ count ≤ limit ⌝ }
+fn read_bytes(image: &[u8], count: u16, found: Findings) -> &[u8]
     requires { ⌜ 2 + count ≤ length (now image) ⌝ }
     ensures { λ r. ⌜ now r ≡ readBytes (now (image .entry)) count found ⌝ }
 {
@@ -52,7 +49,6 @@ pub fn delivered_bytes<'a>(
     image: &'a [u8],
     check: &'a [u8],
 ) -> &'a [u8]
-    requires { ⌜ verdict .count ≤ limit ⌝ }
     requires { ⌜ (isRead operation ≡ true → verdict .used ≡ true → 2 + verdict .count ≤ length (now image)) ⌝ }
     ensures { λ r. ⌜ now r ≡ deliveredBytes verdict operation (now (image .entry)) (now (check .entry)) ⌝ }
 {
@@ -93,7 +89,6 @@ pub fn put_bytes_read(operation: Operation, bytes: &[u8], space: &mut [u8]) -> u
 
 // The check store after a result.
 pub fn put_result_check(verdict: Verdict, image: &[u8], check: &mut [u8])
-    requires { ⌜ verdict .count ≤ limit ⌝ }
     requires { ⌜ length (now check) ≡ checkStore ⌝ }
     requires { ⌜ (verdict .renews ≡ true → verdict .used ≡ true → length (now image) ≡ imageLength (verdict .count) 1) ⌝ }
     ensures { λ _. ⌜ now (check .exit) ≡ resultCheck verdict (now (image .entry)) (now (check .entry)) ⌝ }

@@ -8,22 +8,18 @@ use operations::operation::same_operation;
 use operations::operation::supplies_count;
 use operations::store::Store;
 use operations::store::held_count;
-use records::count::LIMIT;
-use records::count::count_of;
 use records::whole::layout_refusal;
 use records::whole::whole_refusal;
 use status::drives::GCR;
 use status::drives::MFM;
 ghost use mathlib.Core.Path.{_≡_};
-ghost use Prim.Native.Nat.{_≤_};
-ghost use Rattle.records.specs.Count.{limit};
-ghost use Rattle.transfers.specs.Expected.{wholeCode, expectedWhole, expectedSupplied, expectedCount, expectedOf, suppliedIn, countRefusal, emptyRefusal, imageRefusal};
+ghost use Rattle.transfers.specs.Expected.{wholeCode, expectedWhole, expectedSupplied, expectedCount, expectedOf, unmarkedRefusal, imageRefusal};
 
 // What is to be handed in: a whole image of this density with its marks, a GCR image of a supplied count with its marks, two count bytes and no
 // marks, or neither.
 pub enum Expected {
     Whole(u8),
-    Supplied(usize),
+    Supplied(u16),
     Count,
     Nothing,
 }
@@ -46,7 +42,7 @@ fn expected_whole(density: u8, ending: Ending) -> Expected
 }
 
 // What a read with a supplied count brings.
-fn expected_supplied(count: usize, ending: Ending) -> Expected
+fn expected_supplied(count: u16, ending: Ending) -> Expected
     ensures { λ r. ⌜ r ≡ expectedSupplied count (ending .code) ⌝ }
 {
     if (ending.code == 0) & (count != 0) {
@@ -81,27 +77,11 @@ pub fn expected_of(operation: Operation, store: Store, density: u8, ending: Endi
     Expected::Nothing
 }
 
-// Two count bytes and no marks: 9 or 0.
-fn count_refusal(image: &[u8], marks: &[u8]) -> u32
-    ensures { λ r. ⌜ r ≡ countRefusal (now (image .entry)) (now (marks .entry)) ⌝ }
+// An image of this length and no marks: 9 or 0.
+fn unmarked_refusal(image: &[u8], marks: &[u8], length: usize) -> u32
+    ensures { λ r. ⌜ r ≡ unmarkedRefusal (now (image .entry)) (now (marks .entry)) length ⌝ }
 {
-    if image.len() != 2 {
-        return WRONG_LENGTH;
-    }
-    if LIMIT < count_of(image) {
-        return WRONG_LENGTH;
-    }
-    if marks.len() == 0 {
-        return DONE;
-    }
-    WRONG_LENGTH
-}
-
-// Neither image nor marks: 9 or 0.
-fn empty_refusal(image: &[u8], marks: &[u8]) -> u32
-    ensures { λ r. ⌜ r ≡ emptyRefusal (now (image .entry)) (now (marks .entry)) ⌝ }
-{
-    if image.len() != 0 {
+    if image.len() != length {
         return WRONG_LENGTH;
     }
     if marks.len() == 0 {
@@ -112,13 +92,12 @@ fn empty_refusal(image: &[u8], marks: &[u8]) -> u32
 
 // What is expected: 9, 10, or 0.
 pub fn image_refusal(image: &[u8], marks: &[u8], expected: Expected) -> u32
-    requires { ⌜ suppliedIn expected ≤ limit ⌝ }
     ensures { λ r. ⌜ r ≡ imageRefusal (now (image .entry)) (now (marks .entry)) expected ⌝ }
 {
     match expected {
         Expected::Whole(density) => whole_refusal(image, marks, density),
         Expected::Supplied(count) => layout_refusal(image, marks, count, GCR),
-        Expected::Count => count_refusal(image, marks),
-        Expected::Nothing => empty_refusal(image, marks),
+        Expected::Count => unmarked_refusal(image, marks, 2),
+        Expected::Nothing => unmarked_refusal(image, marks, 0),
     }
 }

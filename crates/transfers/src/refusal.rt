@@ -14,9 +14,6 @@ use operations::operation::takes_mark;
 use operations::store::Store;
 use status::drives::Drive;
 ghost use mathlib.Core.Path.{_≡_};
-ghost use Prim.Native.Nat.{_≤_};
-ghost use Rattle.records.specs.Count.{limit};
-ghost use Rattle.operations.specs.Store.{suppliedCount};
 ghost use Rattle.transfers.specs.Results.{resultWith, markAgainst, resultRefusal};
 
 // Whether the mark flag is against its rule.
@@ -37,7 +34,6 @@ pub fn result_refusal(
     marks: &[u8],
     check: usize,
 ) -> u32
-    requires { ⌜ suppliedCount operation store ≤ limit ⌝ }
     ensures { λ r. ⌜ r ≡ resultRefusal drive operation store (resultWith ending (now (image .entry)) (now (marks .entry))) check ⌝ }
 {
     if check != CHECK_STORE {

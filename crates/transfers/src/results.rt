@@ -22,8 +22,6 @@ use status::words::quintary_of;
 use status::words::tertiary_of;
 use status::words::zero_word;
 ghost use mathlib.Core.Path.{_≡_};
-ghost use Prim.Native.Nat.{_≤_};
-ghost use Rattle.records.specs.Count.{limit};
 ghost use Rattle.transfers.specs.Results.{resultTertiary, resultQuintary, wroteWell, resultCount, resultBits, withRetry, resultWords, resultGap};
 
 // Tertiary after a result: the first errors, zero where the image goes unused, or as it was.
@@ -61,7 +59,6 @@ fn wrote_well(operation: Operation, code: u8) -> bool
 
 // The count after a result: the supplied one, that of an image that is used, of a write with code 0, or as it was.
 fn result_count(verdict: Verdict, operation: Operation, store: Store, before: u32) -> u32
-    requires { ⌜ verdict .count ≤ limit ⌝ }
     ensures { λ r. ⌜ r ≡ resultCount verdict operation store before ⌝ }
 {
     if verdict.supplied {
@@ -86,7 +83,6 @@ fn result_bits(
     bytes: usize,
     space: usize,
 ) -> Outcome
-    requires { ⌜ verdict .count ≤ limit ⌝ }
     ensures { λ r. ⌜ r ≡ resultBits verdict outcome operation store (ending .mark) (ending .late) bytes space ⌝ }
 {
     let wrote = wrote_well(operation, verdict.code);
@@ -127,7 +123,6 @@ pub fn result_words(
     bytes: usize,
     space: usize,
 ) -> Words
-    requires { ⌜ verdict .count ≤ limit ⌝ }
     ensures { λ r. ⌜ r ≡ resultWords words verdict operation store (ending .mark) (ending .late) bytes space ⌝ }
 {
     let bits = result_bits(

@@ -16,11 +16,8 @@ use operations::operation::Operation;
 use operations::store::Store;
 use status::drives::Drive;
 ghost use mathlib.Core.Path.{_≡_};
-ghost use Prim.Native.Nat.{_≤_};
 ghost use lib.ListN.{length};
 ghost use Rattle.common.specs.Given.{given};
-ghost use Rattle.records.specs.Count.{limit};
-ghost use Rattle.operations.specs.Store.{heldCount, suppliedCount};
 ghost use Rattle.transfers.specs.Data.{hostOf, dataRefusal, writeImage, dataCheck, settleData};
 ghost use Rattle.transfers.specs.Results.{resultWith, resultRefusal, resultInto, resultCheckInto, settleResult};
 
@@ -34,7 +31,6 @@ pub fn settle_data(
     space: &mut [u8],
     check: &mut [u8],
 ) -> Written
-    requires { ⌜ heldCount store ≤ limit ⌝ }
     requires { ⌜ dataRefusal drive store (length (now host)) place (length (now space)) (length (now check)) ≡ 0 ⌝ }
     ensures { λ r. ⌜ r ≡ settleData words drive store (hostOf (now (host .entry)) place) ⌝ }
     ensures { λ _. ⌜ now (space .exit) ≡ given (writeImage store (hostOf (now (host .entry)) place) (drive .density)) (now (space .entry)) ⌝ }
@@ -59,7 +55,6 @@ pub fn settle_result(
     check: &mut [u8],
 ) -> After
     requires { ⌜ resultRefusal drive operation store (resultWith ending (now image) (now marks)) (length (now check)) ≡ 0 ⌝ }
-    requires { ⌜ suppliedCount operation store ≤ limit ⌝ }
     ensures { λ r. ⌜ r ≡ settleResult words drive operation store (resultWith ending (now (image .entry)) (now (marks .entry))) (length (now (space .entry))) (now (check .entry)) ⌝ }
     ensures { λ _. ⌜ now (space .exit) ≡ resultInto drive operation store (resultWith ending (now (image .entry)) (now (marks .entry))) (now (space .entry)) (now (check .entry)) ⌝ }
     ensures { λ _. ⌜ now (check .exit) ≡ resultCheckInto drive operation store (resultWith ending (now (image .entry)) (now (marks .entry))) (now (check .entry)) ⌝ }

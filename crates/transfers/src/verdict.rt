@@ -43,7 +43,7 @@ pub struct Verdict {
     pub supplied: bool,
     pub renews: bool,
     pub code: u8,
-    pub count: usize,
+    pub count: u16,
     pub found: Findings,
 }
 
@@ -99,7 +99,7 @@ fn reads_gcr(drive: Drive, operation: Operation) -> bool
 }
 
 // The count of a record: the supplied one, or the image's own.
-fn record_count(operation: Operation, store: Store, image: &[u8]) -> usize
+fn record_count(operation: Operation, store: Store, image: &[u8]) -> u16
     requires { ⌜ 2 ≤ length (now image) ⌝ }
     ensures { λ r. ⌜ r ≡ recordCount operation store (now (image .entry)) ⌝ }
 {
@@ -110,7 +110,7 @@ fn record_count(operation: Operation, store: Store, image: &[u8]) -> usize
 }
 
 // The count of an image that is used.
-fn used_count(used: bool, operation: Operation, store: Store, image: &[u8]) -> usize
+fn used_count(used: bool, operation: Operation, store: Store, image: &[u8]) -> u16
     requires { ⌜ (used ≡ true → 2 ≤ length (now image)) ⌝ }
     ensures { λ r. ⌜ r ≡ usedCount used operation store (now (image .entry)) ⌝ }
 {

@@ -119,7 +119,7 @@ givenAtResult drive r space (dataAwaited store) = []
 unfoldable pub told : View → Event → View
 told v (reportCame r) = record { drive = copyReport (withReport (v .drive) r); hand = v .hand }
 told v (storeCame operation first second third fourth) =
-    begins (v .drive) (operand first second third fourth) (inDensity (v .drive .density) (decodeOf operation first third fourth))
+    begins (v .drive) (operand first second third fourth) (inDensity (v .drive .density) (decodeOf operation first fourth))
 told v (goAnswered answer) = record { drive = v .drive; hand = handAfterGo answer (v .hand) }
 told v (dataCame host) = record { drive = v .drive; hand = handAfterData (v .hand) }
 told v (resultCame r space) = resting (driveAfterResult (v .drive) r (v .hand))
@@ -127,7 +127,7 @@ told v (resultCame r space) = resting (driveAfterResult (v .drive) r (v .hand))
 unfoldable pub gives : ℕ → View → Event → List Output
 gives d v (reportCame r) = []
 gives d v (storeCame operation first second third fourth) =
-    givenAtStore d (v .drive) (operand first second third fourth) (inDensity (v .drive .density) (decodeOf operation first third fourth))
+    givenAtStore d (v .drive) (operand first second third fourth) (inDensity (v .drive .density) (decodeOf operation first fourth))
 gives d v (goAnswered answer) = []
 gives d v (dataCame host) = givenAtData d (v .drive) host (v .hand)
 gives d v (resultCame r space) = givenAtResult (v .drive) r space (v .hand)

@@ -1,9 +1,27 @@
--- `link::damaged::sound_phase` meets its contract: by the phase.
+-- `link::damaged::sound_phase` meets its contract: by the phase; what is in no range is sound.
 -- Assumes nothing.
 use borrow.Author.Needs.{needs}
+use mathlib.Core.Bool.{true}
+use mathlib.Core.Path.{_≡_, refl}
+use mathlib.Core.List.{[], _∷_}
+use denote.Enum.Declared.{tagOf}
+use types.Run.{OneOf, miss}
+use Rattle.link.specs.declared.state.Phase.{Phase}
+use Rattle.link.specs.declared.state.Phase.the-variants.{Collecting, AckOffered, Sending, GoOffered, DataAwaited, ResultAwaited, EndOffered}
+use Rattle.link.proofs.state.Phase.{the-type}
 use Rattle.link.specs.Damaged.{soundPhase}
 use Rattle.link.proofs.damaged.sound_phase.Statement.{statement}
 use Rattle.link.proofs.damaged.sound_phase.Tie as tie
+
+others : (phase : Phase) → OneOf (3 ∷ 4 ∷ 5 ∷ 6 ∷ []) (tagOf the-type phase) → true ≡ soundPhase phase
+unfolding soundPhase
+others (Collecting s) key = absurd (miss (3 ∷ 4 ∷ 5 ∷ 6 ∷ []) 0 tt key)
+others (AckOffered s) key = absurd (miss (3 ∷ 4 ∷ 5 ∷ 6 ∷ []) 1 tt key)
+others (Sending send) key = absurd (miss (3 ∷ 4 ∷ 5 ∷ 6 ∷ []) 2 tt key)
+others (GoOffered store) key = refl
+others (DataAwaited store) key = refl
+others (ResultAwaited operation store) key = refl
+others (EndOffered interrupt) key = refl
 
 enum-known-phase : tie.Need-enum-known-phase
 enum-known-phase c = search needs
@@ -19,27 +37,6 @@ sound-string-requires c κs = search needs
 
 enum-known-phase-3 : tie.Need-enum-known-phase-3
 enum-known-phase-3 c = search needs
-
-enum-known-phase-4 : tie.Need-enum-known-phase-4
-enum-known-phase-4 c = search needs
-
-sound-count-requires : tie.Need-sound-count-requires
-sound-count-requires c κs = search needs
-
-enum-known-phase-5 : tie.Need-enum-known-phase-5
-enum-known-phase-5 c = search needs
-
-sound-count-requires-2 : tie.Need-sound-count-requires-2
-sound-count-requires-2 c κs = search needs
-
-enum-known-phase-6 : tie.Need-enum-known-phase-6
-enum-known-phase-6 c = search needs
-
-sound-held-requires : tie.Need-sound-held-requires
-sound-held-requires c κs = search needs
-
-enum-told : tie.Need-enum-told
-enum-told c = search needs
 
 returns : tie.Need-returns
 unfolding soundPhase
@@ -61,30 +58,7 @@ returns-3 c = simp
     (c .before .before .phase3 .given .1)
 
 returns-4 : tie.Need-returns-4
-unfolding soundPhase
-returns-4 c = simp (
-  c .sound-count .ensures,
-  c .before .before .phase4 .given .1,
-)
-
-returns-5 : tie.Need-returns-5
-unfolding soundPhase
-returns-5 c = simp (
-  c .sound-count2 .ensures,
-  c .before .before .phase5 .given .1,
-)
-
-returns-6 : tie.Need-returns-6
-unfolding soundPhase
-returns-6 c = simp (
-  c .sound-held .ensures,
-  c .before .before .phase6 .given .1,
-)
-
-returns-7 : tie.Need-returns-7
-unfolding soundPhase
-returns-7 c = simp
-    (c .enum-told .given .1)
+returns-4 c = others _ (c .match .keys4)
 
 pub sound-phase-spec : {M : Type 1} → statement M
 sound-phase-spec =
@@ -95,17 +69,7 @@ sound-phase-spec =
     enum-known-phase-2
     sound-string-requires
     enum-known-phase-3
-    enum-known-phase-4
-    sound-count-requires
-    enum-known-phase-5
-    sound-count-requires-2
-    enum-known-phase-6
-    sound-held-requires
-    enum-told
     returns
     returns-2
     returns-3
-    returns-4
-    returns-5
-    returns-6
-    returns-7)
+    returns-4)

@@ -7,20 +7,11 @@ use Rattle.operations.specs.Decode.{decodeOf}
 use Rattle.operations.proofs.decode.decode_of.Statement.{statement}
 use Rattle.operations.proofs.decode.decode_of.Tie as tie
 
-mul-count : tie.Need-mul-count
-mul-count c = search needs
-
-add-count : tie.Need-add-count
-add-count c = search needs
-
 control-of-requires : tie.Need-control-of-requires
 control-of-requires c κs = search needs
 
 read-of-requires : tie.Need-read-of-requires
 read-of-requires c κs = search needs
-
-counted-of-requires : tie.Need-counted-of-requires
-counted-of-requires c κs = search needs
 
 returns : tie.Need-returns
 unfolding decodeOf pick
@@ -36,7 +27,7 @@ returns-3 c = simp (c .read-of .ensures, c .before .match .keys3)
 
 returns-4 : tie.Need-returns-4
 unfolding decodeOf pick
-returns-4 c = simp (c .counted-of .ensures, c .before .match .keys4)
+returns-4 c = simp (c .match .keys4)
 
 returns-5 : tie.Need-returns-5
 unfolding decodeOf pick
@@ -58,11 +49,8 @@ pub decode-of-spec : {M : Type 1} → statement M
 decode-of-spec =
     tie.close
     (tie.spec
-    mul-count
-    add-count
     control-of-requires
     read-of-requires
-    counted-of-requires
     returns
     returns-2
     returns-3

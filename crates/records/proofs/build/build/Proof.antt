@@ -12,7 +12,7 @@ use Rattle.common.proofs.PickLaws.{not-refused, where-refused, where-done}
 use Rattle.records.specs.Count.{limit}
 use Rattle.records.specs.Image.{imageLength, imageOf}
 use Rattle.records.specs.Build.{buildRefusal, builtBytes, buildInto}
-use Rattle.records.proofs.ImageLaws.{image-length}
+use Rattle.records.proofs.ImageLaws.{limit-16, image-length}
 use Rattle.records.proofs.PlaceLaws.{written-length, built-part}
 use Rattle.records.proofs.build.build.Statement.{statement}
 use Rattle.records.proofs.build.build.Tie as tie
@@ -42,8 +42,11 @@ returns c =
     let r = c .before .build-refusal .ensures in
     (r, sym (where-refused _ _ _ (λ z. c .if1 .taken (r ∙ z))))
 
+cast-count : tie.Need-cast-count
+cast-count c = omega (arith, accepted c .0, limit-16)
+
 image-length-requires : tie.Need-image-length-requires
-image-length-requires c κs = accepted c .0
+image-length-requires c κs = search needs
 
 as-came-requires : tie.Need-as-came-requires
 as-came-requires c κs = search needs
@@ -60,7 +63,7 @@ slice-aggregate-put-image-2 c = simp length-take (omega (arith, room (c .before 
 put-image-requires : tie.Need-put-image-requires
 put-image-requires c κs =
     let i = c .before .before .before in
-    (accepted (i .before) .0, (simp length-take (omega arith), simp length-take (omega (arith, room i, i .image-length .ensures))))
+    (simp length-take (omega arith), simp length-take (omega (arith, room i, i .image-length .ensures)))
 
 same-length : tie.Need-same-length
 same-length c = search needs
@@ -92,6 +95,7 @@ build-spec =
     (tie.spec
     build-refusal-requires
     returns
+    cast-count
     image-length-requires
     as-came-requires
     slice-aggregate-put-image

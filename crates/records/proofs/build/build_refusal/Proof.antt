@@ -13,9 +13,11 @@ returns : tie.Need-returns
 unfolding buildRefusal limit pick
 returns c = simp (lt-ltb _ _ (c .if1 .taken))
 
+cast-image-length : tie.Need-cast-image-length
+cast-image-length c = omega arith
+
 image-length-requires : tie.Need-image-length-requires
-unfolding limit
-image-length-requires c κs = omega arith
+image-length-requires c κs = search needs
 
 returns-2 : tie.Need-returns-2
 unfolding buildRefusal limit pick
@@ -37,4 +39,4 @@ returns-4 c =
     simp (le-ltb _ _ (s .before .before .if1 .left), ← s .before .image-length .ensures, le-ltb _ _ (s .if2 .left), ← c .before .is-place .ensures, c .if3 .left)
 
 pub build-refusal-spec : {M : Type 1} → statement M
-build-refusal-spec = tie.close (tie.spec returns image-length-requires returns-2 is-place-requires returns-3 returns-4)
+build-refusal-spec = tie.close (tie.spec returns cast-image-length image-length-requires returns-2 is-place-requires returns-3 returns-4)

@@ -29,7 +29,7 @@ put-blockettes-requires c κs =
     let n = b .blockette-count .result in
     let is-n : n ≡ blocketteCount count = b .blockette-count .ensures in
     let gcr : hasBlockettes count density ≡ true = sym (i .before .has-blockettes .ensures) ∙ i .if1 .taken in
-    let few : blocketteCount count ≤ 256 = blockettes-few count (e .pre .0) in
+    let few : blocketteCount count ≤ 256 = blockettes-few count (omega arith) in
     let hold : count ≤ 256 * blocketteCount count = blockettes-hold count in
     let whole : imageLength count density ≡ 2 + 256 * (blocketteCount count + 2) = length-gcr count density gcr in
     (omega arith, (omega arith, omega arith))
@@ -56,14 +56,14 @@ returns c =
     let bytes = e .args .bytes .now in
     let count = e .args .count in
     let density = e .args .density in
-    let all : length (filled bytes count) ≡ count = filled-length bytes count (e .pre .1 .0) in
+    let all : length (filled bytes count) ≡ count = filled-length bytes count (e .pre .0) in
     let gcr : hasBlockettes count density ≡ true = sym (i .before .has-blockettes .ensures) ∙ i .if1 .taken in
     p .put-blockettes .ensures
     ∙ ap (blockettesOf bytes) (b .blockette-count .ensures)
     ∙ sym
     (body-gcr (filled bytes count) density (simp all gcr)
     ∙ ap (λ (k : ℕ). blockettesOf (filled bytes count) (blocketteCount k)) all
-    ∙ blockettes-filled bytes count (blocketteCount count) (e .pre .1 .0) (blockettes-hold count))
+    ∙ blockettes-filled bytes count (blocketteCount count) (e .pre .0) (blockettes-hold count))
 
 same-length-2 : tie.Need-same-length-2
 same-length-2 c = search needs
@@ -76,7 +76,7 @@ returns-2 c =
     let bytes = e .args .bytes .now in
     let count = e .args .count in
     let density = e .args .density in
-    let all : length (filled bytes count) ≡ count = filled-length bytes count (e .pre .1 .0) in
+    let all : length (filled bytes count) ≡ count = filled-length bytes count (e .pre .0) in
     let plain : hasBlockettes count density ≡ false = sym (i .before .has-blockettes .ensures) ∙ i .if1 .left in
     let whole : imageLength count density ≡ 2 + count = length-plain count density plain in
     let room : length (e .args .space .now) ≡ count = omega arith in

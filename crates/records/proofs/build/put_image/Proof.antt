@@ -28,7 +28,7 @@ slice-aggregate-put-count-bytes : tie.Need-slice-aggregate-put-count-bytes
 slice-aggregate-put-count-bytes c = simp length-take (omega (arith, room (c .before)))
 
 put-count-bytes-requires : tie.Need-put-count-bytes-requires
-put-count-bytes-requires c κs = (search needs, simp length-take (omega (arith, room (c .before))))
+put-count-bytes-requires c κs = simp length-take (omega (arith, room (c .before)))
 
 sub-put-body : tie.Need-sub-put-body
 sub-put-body c = omega (arith, room (c .before .before .before .before))
@@ -47,7 +47,7 @@ put-body-requires c κs =
     let image = e .args .image .now in
     let front = p .put-count-bytes .last .1 .0 in
     let two : length front ≡ 2 = ap (λ (x : List ℕ). length x) (p .put-count-bytes .ensures) in
-    (search needs, (search needs, omega (arith, second-length image front 2 two (room (p .before .before)), room (p .before .before))))
+    (search needs, omega (arith, second-length image front 2 two (room (p .before .before)), room (p .before .before)))
 
 same-length : tie.Need-same-length
 same-length c = search needs
@@ -62,7 +62,7 @@ returns c =
     let front = p .put-count-bytes .last .1 .0 in
     let two : length front ≡ 2 = ap (λ (x : List ℕ). length x) (p .put-count-bytes .ensures) in
     two-parts (e .args .image .now) front (b .put-body .last .1 .1 .1 .0) 2 two
-    ∙ ap₂ _++_ (p .put-count-bytes .ensures ∙ sym (ap countBytes (filled-length bytes (e .args .count) (e .pre .1 .0)))) (b .put-body .ensures)
+    ∙ ap₂ _++_ (p .put-count-bytes .ensures ∙ sym (ap countBytes (filled-length bytes (e .args .count) (e .pre .0)))) (b .put-body .ensures)
 
 pub put-image-spec : {M : Type 1} → statement M
 put-image-spec =

@@ -6,7 +6,7 @@ use Prim.Native.Nat.{ℕ}
 use mathlib.Core.List.{List, [], _∷_}
 use lib.ListN.{length, set}
 use native.Mathlib.Omega.{arith}
-use Rattle.records.specs.Count.{limit, rotated, countBytes}
+use Rattle.records.specs.Count.{rotated, countBytes}
 use Rattle.records.proofs.count.put_count_bytes.Statement.{statement}
 use Rattle.records.proofs.count.put_count_bytes.Tie as tie
 
@@ -24,7 +24,6 @@ add-word : tie.Need-add-word
 add-word c = search needs
 
 cast-space : tie.Need-cast-space
-unfolding limit
 cast-space c = omega arith
 
 slice-write-space : tie.Need-slice-write-space
@@ -41,7 +40,7 @@ same-length c = search needs
 
 returns : tie.Need-returns
 unfolding countBytes rotated
-returns c = two (c .args .space .now) _ _ (c .pre .1)
+returns c = two (c .args .space .now) _ _ (c .pre)
 
 pub put-count-bytes-spec : {M : Type 1} → statement M
 put-count-bytes-spec =

@@ -1,7 +1,6 @@
 -- `records::layout::blockette_count` meets its contract: it is its definition, and the sum fits.
 -- Assumes nothing.
 use native.Mathlib.Omega.{arith}
-use Rattle.records.specs.Count.{limit}
 use Rattle.records.specs.Image.{blocketteCount}
 use borrow.Author.Needs.{needs}
 use Rattle.records.proofs.layout.blockette_count.Statement.{statement}
@@ -11,7 +10,6 @@ sub-result : tie.Need-sub-result
 sub-result c = search needs
 
 add-result : tie.Need-add-result
-unfolding limit
 add-result c = omega arith
 
 returns : tie.Need-returns

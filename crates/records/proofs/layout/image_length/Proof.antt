@@ -3,7 +3,6 @@
 use borrow.Author.Needs.{needs}
 use native.Mathlib.Omega.{arith}
 use Rattle.common.specs.Pick.{pick}
-use Rattle.records.specs.Count.{limit}
 use Rattle.records.specs.Image.{blocketteCount, imageLength}
 use Rattle.records.proofs.layout.image_length.Statement.{statement}
 use Rattle.records.proofs.layout.image_length.Tie as tie
@@ -15,15 +14,15 @@ blockette-count-requires : tie.Need-blockette-count-requires
 blockette-count-requires c κs = search needs
 
 add-result : tie.Need-add-result
-unfolding limit blocketteCount
+unfolding blocketteCount
 add-result c = omega arith
 
 mul-result : tie.Need-mul-result
-unfolding limit blocketteCount
+unfolding blocketteCount
 mul-result c = omega arith
 
 add-result-2 : tie.Need-add-result-2
-unfolding limit blocketteCount
+unfolding blocketteCount
 add-result-2 c = omega arith
 
 returns : tie.Need-returns
@@ -31,7 +30,6 @@ unfolding imageLength pick
 returns c = simp (c .blockette-count .ensures, ← c .before .before .has-blockettes .ensures, c .before .if1 .taken)
 
 add-result-3 : tie.Need-add-result-3
-unfolding limit
 add-result-3 c = omega arith
 
 returns-2 : tie.Need-returns-2

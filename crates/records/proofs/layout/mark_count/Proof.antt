@@ -3,7 +3,6 @@
 use borrow.Author.Needs.{needs}
 use native.Mathlib.Omega.{arith}
 use Rattle.common.specs.Pick.{pick}
-use Rattle.records.specs.Count.{limit}
 use Rattle.records.specs.Image.{blocketteCount, markCount}
 use Rattle.records.proofs.layout.mark_count.Statement.{statement}
 use Rattle.records.proofs.layout.mark_count.Tie as tie
@@ -15,7 +14,7 @@ blockette-count-requires : tie.Need-blockette-count-requires
 blockette-count-requires c κs = search needs
 
 add-result : tie.Need-add-result
-unfolding limit blocketteCount
+unfolding blocketteCount
 add-result c = omega arith
 
 returns : tie.Need-returns

@@ -63,7 +63,10 @@ count-of-requires : tie.Need-count-of-requires
 count-of-requires c κs = accepted c .0 .two
 
 blockette-count-requires : tie.Need-blockette-count-requires
-blockette-count-requires c κs = rw (c .count-of .ensures) (accepted (c .before) .0 .within)
+blockette-count-requires c κs = search needs
+
+cast-length : tie.Need-cast-length
+cast-length c = search needs
 
 sub-put-restored : tie.Need-sub-put-restored
 sub-put-restored c = accepted (c .before .before) .0 .two
@@ -90,7 +93,7 @@ put-restored-requires c κs =
     let image = e .args .image .now in
     let is-count : count ≡ countOf image = n .count-of .ensures in
     let all : length (take count (e .args .space .now)) ≡ count = simp length-take (omega (arith, room n)) in (
-      rw (b .blockette-count .ensures, is-count) (blockettes-few (countOf image) (h .within)),
+      rw (b .blockette-count .ensures) (blockettes-few count (omega arith)),
       (
         b .blockette-count .ensures ∙ sym (ap blocketteCount all),
         simp (length-take, length-drop) (omega (arith, room n, h .two, h .long, image-holds (countOf image) 1)),
@@ -132,6 +135,7 @@ restore-spec =
     returns
     count-of-requires
     blockette-count-requires
+    cast-length
     sub-put-restored
     part-put-restored-start
     part-put-restored-end

@@ -19,6 +19,9 @@ returns c = simp (← c .before .whole-refusal .ensures, ne-eqb _ _ (c .if1 .tak
 count-of-requires : tie.Need-count-of-requires
 count-of-requires c κs = whole _ _ 1 (sym (c .before .whole-refusal .ensures) ∙ c .if1 .left) .two
 
+cast-count : tie.Need-cast-count
+cast-count c = search needs
+
 returns-2 : tie.Need-returns-2
 unfolding restoreRefusal pick
 returns-2 c =
@@ -65,6 +68,7 @@ restore-refusal-spec =
     whole-refusal-requires
     returns
     count-of-requires
+    cast-count
     returns-2
     returns-3
     returns-4)

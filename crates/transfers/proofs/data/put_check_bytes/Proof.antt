@@ -17,13 +17,13 @@ use Rattle.transfers.proofs.data.put_check_bytes.Tie as tie
 few : (c : tie.After-blockette-count) → c .blockette-count .result ≤ 256
 few c =
     let e = c .before .before .before .before in
-    rw (c .blockette-count .ensures) (blockettes-few (e .args .count) (e .pre .0))
+    rw (c .blockette-count .ensures) (blockettes-few (e .args .count) (omega arith))
 
 -- 512 bytes follow them
 left : (c : tie.After-blockette-count) → length (c .before .before .before .before .args .image .now) ≡ 2 + 256 * c .blockette-count .result + 512
 left c =
     let e = c .before .before .before .before in
-    checks-left (e .args .image .now) (e .args .count) (c .blockette-count .result) (c .before .if1 .left) (c .blockette-count .ensures) (e .pre .1 .0)
+    checks-left (e .args .image .now) (e .args .count) (c .blockette-count .result) (c .before .if1 .left) (c .blockette-count .ensures) (e .pre .0)
 
 clear-requires : tie.Need-clear-requires
 clear-requires c κs = search needs
@@ -56,7 +56,7 @@ returns : tie.Need-returns
 unfolding checkBytes pick
 returns c =
     let e = c .before .before .before .before .before .before .before in
-    simp (c .before .before .clear .ensures, e .pre .1 .1, eq-eqb _ _ (c .before .before .before .before .if1 .taken))
+    simp (c .before .before .clear .ensures, e .pre .1, eq-eqb _ _ (c .before .before .before .before .if1 .taken))
 
 same-length-2 : tie.Need-same-length-2
 same-length-2 c = search needs
@@ -67,7 +67,7 @@ returns-2 c =
     let b = g .before .before .before in
     let e = b .before .before .before .before in
     g .give .ensures
-    ∙ check-part (e .args .image .now) (e .args .count) (b .blockette-count .result) (b .before .if1 .left) (b .blockette-count .ensures) (e .pre .1 .0) (e .args .check .now) (e .pre .1 .1)
+    ∙ check-part (e .args .image .now) (e .args .count) (b .blockette-count .result) (b .before .if1 .left) (b .blockette-count .ensures) (e .pre .0) (e .args .check .now) (e .pre .1)
 
 pub put-check-bytes-spec : {M : Type 1} → statement M
 put-check-bytes-spec =

@@ -23,8 +23,8 @@ put-check-bytes-requires c κs =
     let t = h .before in
     let e = t .before .before .before .before in
     let gcr : isGcr (e .args .drive) ≡ true = sym (t .before .is-gcr .ensures) ∙ t .if1 .taken in (
-      rw (h .held-count .ensures) (e .pre .0),
-      (e .pre .1 .0 ∙ gcr-alike (e .args .drive) _ gcr ∙ sym (ap (λ (k : ℕ). imageLength k 1) (h .held-count .ensures)), e .pre .1 .1),
+      e .pre .0 ∙ gcr-alike (e .args .drive) _ gcr ∙ sym (ap (λ (k : ℕ). imageLength k 1) (h .held-count .ensures)),
+      e .pre .1,
     )
 
 same-length : tie.Need-same-length

@@ -6,7 +6,6 @@ use mathlib.Core.Path.{_≡_, sym, ap, _∙_}
 use Prim.Native.Nat.{ℕ, _≤_}
 use native.Mathlib.Omega.{arith}
 use lib.ListN.{length, take, length-take, length-drop}
-use Rattle.records.specs.Count.{limit}
 use Rattle.records.specs.Image.{imageLength, imageOf}
 use Rattle.transfers.specs.Data.{hostOf, recordBytes}
 use Rattle.transfers.proofs.DataLaws.{record-image-length, record-part, image-given}
@@ -18,7 +17,7 @@ room : (c : tie.After-image-length) → c .image-length .result ≤ length (c .b
 room c =
     let h = c .before .before .before .before in
     let e = h .before .before .before .before .before in
-    rw (c .image-length .ensures, h .held-count .ensures) (e .pre .1)
+    rw (c .image-length .ensures, h .held-count .ensures) (e .pre)
 
 as-came-requires : tie.Need-as-came-requires
 as-came-requires c κs = search needs
@@ -35,8 +34,10 @@ cast-least c = search needs
 least-requires : tie.Need-least-requires
 least-requires c κs = search needs
 
+cast-least-2 : tie.Need-cast-least-2
+cast-least-2 c = search needs
+
 add-least : tie.Need-add-least
-unfolding limit
 add-least c = omega arith
 
 least-requires-2 : tie.Need-least-requires-2
@@ -63,11 +64,7 @@ slice-aggregate-put-image c = simp length-take (omega (arith, room (c .before .b
 put-image-requires : tie.Need-put-image-requires
 put-image-requires c κs =
     let i = c .before .before in
-    let h = i .before .before .before .before in
-    let e = h .before .before .before .before .before in (
-      rw (h .held-count .ensures) (e .pre .0),
-      (simp (length-take, length-drop) (omega arith), simp length-take (omega (arith, room i, i .image-length .ensures))),
-    )
+    (simp (length-take, length-drop) (omega arith), simp length-take (omega (arith, room i, i .image-length .ensures)))
 
 same-length : tie.Need-same-length
 same-length c = search needs
@@ -101,6 +98,7 @@ put-write-image-spec =
     held-count-requires
     cast-least
     least-requires
+    cast-least-2
     add-least
     least-requires-2
     image-length-requires

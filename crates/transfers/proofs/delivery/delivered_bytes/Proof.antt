@@ -14,7 +14,7 @@ read-bytes-requires : tie.Need-read-bytes-requires
 read-bytes-requires c κs =
     let t = c .before in
     let e = t .before .before .before .before in
-    (e .pre .0, e .pre .1 (sym (t .before .is-read .ensures) ∙ t .if1 .taken) (c .if2 .taken))
+    e .pre (sym (t .before .is-read .ensures) ∙ t .if1 .taken) (c .if2 .taken)
 
 returns : tie.Need-returns
 unfolding deliveredBytes pick

@@ -11,7 +11,7 @@ put-check-bytes-requires c κs =
     let t = c .before in
     let g = t .before in
     let e = g .before .before .before in
-    (e .pre .0, (e .pre .1 .1 (g .if1 .taken) (t .if2 .taken), e .pre .1 .0))
+    (e .pre .1 (g .if1 .taken) (t .if2 .taken), e .pre .0)
 
 clear-requires : tie.Need-clear-requires
 clear-requires c κs = search needs
@@ -38,7 +38,7 @@ returns-2 c =
       c .before .before .clear .ensures,
       c .before .before .before .before .if2 .left,
       c .before .before .before .before .before .if1 .taken,
-      c .before .before .before .before .before .before .before .before .pre .1 .0,
+      c .before .before .before .before .before .before .before .before .pre .0,
     )
 
 returns-3 : tie.Need-returns-3

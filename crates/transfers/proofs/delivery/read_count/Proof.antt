@@ -22,7 +22,7 @@ mul-least : tie.Need-mul-least
 mul-least c =
     let b = c .before in
     let e = b .before .before .before in
-    let few : b .blockette-count .result ≤ 256 = rw (b .blockette-count .ensures) (blockettes-few (e .args .count) (e .pre)) in
+    let few : b .blockette-count .result ≤ 256 = rw (b .blockette-count .ensures) (blockettes-few (e .args .count) (omega arith)) in
     omega arith
 
 least-requires-2 : tie.Need-least-requires-2

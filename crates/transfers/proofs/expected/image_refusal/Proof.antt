@@ -1,11 +1,7 @@
 -- `transfers::expected::image_refusal` meets its contract: by what is expected.
 -- Assumes nothing.
 use borrow.Author.Needs.{needs}
-use mathlib.Core.Path.{subst}
-use Prim.Native.Nat.{_≤_}
-use Rattle.records.specs.Count.{limit}
-use Rattle.transfers.specs.declared.expected.Expected.{Expected}
-use Rattle.transfers.specs.Expected.{suppliedIn, imageRefusal}
+use Rattle.transfers.specs.Expected.{imageRefusal}
 use Rattle.transfers.proofs.expected.image_refusal.Statement.{statement}
 use Rattle.transfers.proofs.expected.image_refusal.Tie as tie
 
@@ -19,22 +15,19 @@ enum-known-expected-2 : tie.Need-enum-known-expected-2
 enum-known-expected-2 c = search needs
 
 layout-refusal-requires : tie.Need-layout-refusal-requires
-unfolding suppliedIn
-layout-refusal-requires c κs =
-    let e = c .before .before .before .before .before in
-    subst (λ (x : Expected). suppliedIn x ≤ limit) (c .before .expected2 .given .1) (e .pre)
+layout-refusal-requires c κs = search needs
 
 enum-told : tie.Need-enum-told
 enum-told c = search needs
 
-count-refusal-requires : tie.Need-count-refusal-requires
-count-refusal-requires c κs = search needs
+unmarked-refusal-requires : tie.Need-unmarked-refusal-requires
+unmarked-refusal-requires c κs = search needs
 
 enum-told-2 : tie.Need-enum-told-2
 enum-told-2 c = search needs
 
-empty-refusal-requires : tie.Need-empty-refusal-requires
-empty-refusal-requires c κs = search needs
+unmarked-refusal-requires-2 : tie.Need-unmarked-refusal-requires-2
+unmarked-refusal-requires-2 c κs = search needs
 
 returns : tie.Need-returns
 unfolding imageRefusal
@@ -53,14 +46,14 @@ returns-2 c = simp (
 returns-3 : tie.Need-returns-3
 unfolding imageRefusal
 returns-3 c = simp (
-  c .count-refusal .ensures,
+  c .unmarked-refusal .ensures,
   c .before .enum-told .given .1,
 )
 
 returns-4 : tie.Need-returns-4
 unfolding imageRefusal
 returns-4 c = simp (
-  c .empty-refusal .ensures,
+  c .unmarked-refusal2 .ensures,
   c .before .enum-told2 .given .1,
 )
 
@@ -73,9 +66,9 @@ image-refusal-spec =
     enum-known-expected-2
     layout-refusal-requires
     enum-told
-    count-refusal-requires
+    unmarked-refusal-requires
     enum-told-2
-    empty-refusal-requires
+    unmarked-refusal-requires-2
     returns
     returns-2
     returns-3

@@ -4,7 +4,6 @@ use borrow.Author.Tests.{eq-eqb, ne-eqb}
 use borrow.Author.Needs.{needs}
 use Rattle.common.specs.Pick.{pick}
 use Rattle.transfers.specs.Results.{resultRefusal}
-use Rattle.transfers.proofs.ResultLaws.{expected-within}
 use Rattle.transfers.proofs.refusal.result_refusal.Statement.{statement}
 use Rattle.transfers.proofs.refusal.result_refusal.Tie as tie
 
@@ -37,10 +36,7 @@ expected-of-requires : tie.Need-expected-of-requires
 expected-of-requires c κs = search needs
 
 image-refusal-requires : tie.Need-image-refusal-requires
-image-refusal-requires c κs =
-    let e = c .before .before .before .before .before .before .before .before .before in
-    let a = e .args in
-    rw (c .expected-of .ensures) (expected-within (a .operation) (a .store) (a .drive .density) (a .ending .code) (a .ending .mark) (e .pre))
+image-refusal-requires c κs = search needs
 
 returns-4 : tie.Need-returns-4
 unfolding resultRefusal pick

@@ -2,9 +2,6 @@
 -- Assumes nothing.
 use Rattle.common.specs.Pick.{pick}
 use borrow.Author.Needs.{needs}
-use native.Mathlib.Omega.{arith}
-use Rattle.records.specs.Count.{limit}
-use Rattle.operations.specs.Store.{heldCount}
 use Rattle.transfers.specs.Results.{resultCount}
 use Rattle.transfers.proofs.results.result_count.Statement.{statement}
 use Rattle.transfers.proofs.results.result_count.Tie as tie
@@ -13,8 +10,7 @@ held-count-requires : tie.Need-held-count-requires
 held-count-requires c κs = search needs
 
 cast-result : tie.Need-cast-result
-unfolding heldCount
-cast-result c = omega arith
+cast-result c = search needs
 
 returns : tie.Need-returns
 unfolding resultCount pick
@@ -24,8 +20,7 @@ returns c = simp (
 )
 
 cast-result-2 : tie.Need-cast-result-2
-unfolding limit
-cast-result-2 c = omega arith
+cast-result-2 c = search needs
 
 returns-2 : tie.Need-returns-2
 unfolding resultCount pick
@@ -41,8 +36,7 @@ held-count-requires-2 : tie.Need-held-count-requires-2
 held-count-requires-2 c κs = search needs
 
 cast-result-3 : tie.Need-cast-result-3
-unfolding heldCount
-cast-result-3 c = omega arith
+cast-result-3 c = search needs
 
 returns-3 : tie.Need-returns-3
 unfolding resultCount pick

@@ -31,7 +31,7 @@ data-words-requires c κs = search needs
 put-write-image-requires : tie.Need-put-write-image-requires
 put-write-image-requires c κs =
     let e = c .before .before .before .before .before in
-    (e .pre .0, data-ready (e .args .drive) (e .args .store) _ _ _ _ (e .pre .1) .1)
+    data-ready (e .args .drive) (e .args .store) _ _ _ _ (e .pre) .1
 
 slice-reshare-prefix-put-data-check : tie.Need-slice-reshare-prefix-put-data-check
 slice-reshare-prefix-put-data-check c = image-room (c .before .before)
@@ -46,11 +46,8 @@ put-data-check-requires c κs =
     let p = c .before .before .before .before in
     let e = p .before .before .before .before .before .before in
     let store = e .args .store in (
-      e .pre .0,
-      (
-        ap (λ (x : List ℕ). length x) (image-front p) ∙ record-image-length store (hostOf (e .args .host .now) (e .args .place)) (e .args .drive .density),
-        data-ready (e .args .drive) store _ _ _ _ (e .pre .1) .0,
-      ),
+      ap (λ (x : List ℕ). length x) (image-front p) ∙ record-image-length store (hostOf (e .args .host .now) (e .args .place)) (e .args .drive .density),
+      data-ready (e .args .drive) store _ _ _ _ (e .pre) .0,
     )
 
 same-length : tie.Need-same-length

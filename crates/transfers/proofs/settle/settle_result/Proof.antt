@@ -2,6 +2,9 @@
 -- lets each part be read.
 -- Assumes nothing.
 use borrow.Author.Needs.{needs}
+use Prim.Native.Nat.{_≤_}
+use native.Mathlib.Omega.{arith}
+use Rattle.operations.specs.Store.{heldCount}
 use Rattle.transfers.specs.Results.{settleResult}
 use Rattle.transfers.proofs.ReadLaws.{read-length}
 use Rattle.transfers.proofs.ResultLaws.{result-passed}
@@ -9,10 +12,12 @@ use Rattle.transfers.proofs.settle.settle_result.Statement.{statement}
 use Rattle.transfers.proofs.settle.settle_result.Tie as tie
 
 verdict-of-requires : tie.Need-verdict-of-requires
+unfolding heldCount
 verdict-of-requires c κs =
     let e = c .before .before .before .before in
-    let h = result-passed (e .args .drive) _ (e .args .operation) (e .args .store) _ (e .pre .0) (e .pre .1) in
-    (h .two, h .few)
+    let h = result-passed (e .args .drive) _ (e .args .operation) (e .args .store) _ (e .pre) in
+    let held : heldCount (e .args .store) ≤ 65535 = omega (arith, e .good .1 .1 .1 .0) in
+    (h .two, λ supplies. h .few supplies held)
 
 result-gap-requires : tie.Need-result-gap-requires
 result-gap-requires c κs = search needs
@@ -21,14 +26,10 @@ delivered-bytes-requires : tie.Need-delivered-bytes-requires
 delivered-bytes-requires c κs =
     let v = c .before .before in
     let e = v .before .before .before .before .before in
-    let h = result-passed (e .args .drive) _ (e .args .operation) (e .args .store) _ (e .pre .0) (e .pre .1) in
-    rw (v .verdict-of .ensures) (h .within, h .read)
+    rw (v .verdict-of .ensures) (result-passed (e .args .drive) _ (e .args .operation) (e .args .store) _ (e .pre) .read)
 
 result-words-requires : tie.Need-result-words-requires
-result-words-requires c κs =
-    let v = c .before .before .before in
-    let e = v .before .before .before .before .before in
-    rw (v .verdict-of .ensures) (result-passed (e .args .drive) _ (e .args .operation) (e .args .store) _ (e .pre .0) (e .pre .1) .within)
+result-words-requires c κs = search needs
 
 put-bytes-read-requires : tie.Need-put-bytes-read-requires
 put-bytes-read-requires c κs = search needs
@@ -38,8 +39,8 @@ put-result-check-requires c κs =
     let d = c .before .before .before .before .before .before in
     let v = d .before .before .before in
     let e = v .before .before .before .before .before in
-    let h = result-passed (e .args .drive) _ (e .args .operation) (e .args .store) _ (e .pre .0) (e .pre .1) in
-    rw (v .verdict-of .ensures) (h .within, (h .lent, h .checked))
+    let h = result-passed (e .args .drive) _ (e .args .operation) (e .args .store) _ (e .pre) in
+    rw (v .verdict-of .ensures) (h .lent, h .checked)
 
 same-length : tie.Need-same-length
 same-length c = search needs
