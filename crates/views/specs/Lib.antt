@@ -1,0 +1,4 @@
+pub mod Limits
+pub mod View
+pub mod Window
+pub mod Held
