@@ -5,3 +5,6 @@ pub mod WindowLaws
 pub mod StretchLaws
 pub mod StepLaws
 pub mod Along
+pub mod PlaceLaws
+pub mod Demands
+pub mod WrongAnswers

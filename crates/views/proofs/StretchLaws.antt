@@ -16,7 +16,7 @@ use Rattle.common.proofs.PickLaws.{by-test, pick-yes, pick-no}
 use Rattle.views.specs.View.{stretches, stretchCount, countsOf, countBytes, stretchesBytes, unrecoverables, greatest, placeOf}
 
 -- a claim, by which of two numbers is less
-by-less : {P : Type 0} (a b : ℕ) → (ltb a b ≡ true → a < b → P) → (ltb a b ≡ false → b ≤ a → P) → P
+pub by-less : {P : Type 0} (a b : ℕ) → (ltb a b ≡ true → a < b → P) → (ltb a b ≡ false → b ≤ a → P) → P
 by-less a b less more = by-test (ltb a b) (λ t. less t (ltb-true a b t)) (λ t. more t (ltb-false a b t))
 
 -- ---- the stretches
@@ -26,7 +26,7 @@ unfolding stretches
 stretches-short width [] l = refl
 stretches-short width (c ∷ cs) l = pick-yes _ _ (lt-ltb _ _ l)
 
-stretches-long : (width c : ℕ) (cs : List ℕ) → width ≤ length (c ∷ cs) → stretches width (c ∷ cs) ≡ take width (c ∷ cs) ∷ stretches width cs
+pub stretches-long : (width c : ℕ) (cs : List ℕ) → width ≤ length (c ∷ cs) → stretches width (c ∷ cs) ≡ take width (c ∷ cs) ∷ stretches width cs
 unfolding stretches
 stretches-long width c cs l = pick-no _ _ (le-ltb _ _ l)
 
@@ -127,11 +127,11 @@ greatest-more ns n = by-less (greatest ns) n
     (λ t l. pick-no _ _ t ∙ sym (greatest-append ns n ∙ omega (arith, l)))
 
 -- a place is found, or looked for further on
-place-hit : (g n : ℕ) (ns : List ℕ) → n ≡ g → placeOf g (n ∷ ns) ≡ 0
+pub place-hit : (g n : ℕ) (ns : List ℕ) → n ≡ g → placeOf g (n ∷ ns) ≡ 0
 unfolding placeOf
 place-hit g n ns e = pick-yes _ _ (eq-eqb n g e)
 
-place-miss : (g n : ℕ) (ns : List ℕ) → (n ≡ g → ⊥) → placeOf g (n ∷ ns) ≡ 1 + placeOf g ns
+pub place-miss : (g n : ℕ) (ns : List ℕ) → (n ≡ g → ⊥) → placeOf g (n ∷ ns) ≡ 1 + placeOf g ns
 unfolding placeOf
 place-miss g n ns e = pick-no _ _ (ne-eqb n g e)
 

@@ -2,3 +2,4 @@ pub mod Limits
 pub mod View
 pub mod Window
 pub mod Held
+pub mod Places
