@@ -16,7 +16,7 @@ use wearlines::print::print_refused;
 use wearlines::print::put_numbers;
 ghost use mathlib.Core.Path.{_≡_};
 ghost use Prim.Native.Nat.{_≤_, _+_, _*_};
-ghost use lib.ListN.{length};
+ghost use lib.ListN.{length, take};
 ghost use Rattle.wearlines.specs.Limits.{textMost};
 
 // The text in hand, which is written in large pieces.
@@ -31,6 +31,14 @@ struct Text {
     open: bool,
 }
 
+// The first bytes of a space.
+pub fn front(s: &[u8], count: usize) -> &[u8]
+    requires { ⌜ count ≤ length (now s) ⌝ }
+    ensures { λ r. ⌜ now r ≡ take count (now (s .entry)) ⌝ }
+{
+    &s[..count]
+}
+
 fn tell_unwritten() {
     io::write_all(STDERR_FILENO, b"wear: the view cannot be written\n");
 }
@@ -42,7 +50,7 @@ fn written(text: Text, out: &[u8]) -> Text
 {
     let count = text.count;
     if text.open {
-        let open = io::write_all(STDOUT_FILENO, &out[..count]);
+        let open = io::write_all(STDOUT_FILENO, front(out, count));
         return Text { count: 0, open };
     }
     Text {
@@ -78,6 +86,14 @@ fn print_head(view: View, out: &mut [u8]) -> usize
     }
 }
 
+// The counts of a stretch.
+fn put_counts(a: u8, b: u8, c: u8, out: &mut [u8], at: usize) -> usize
+    requires { ⌜ at + textMost ≤ length (now out) ⌝ }
+    ensures { λ r. ⌜ r ≤ at + textMost ⌝ }
+{
+    put_numbers(a as u32, b as u32, c as u32, out, at)
+}
+
 // The line of a stretch.
 fn put_stretch(text: Text, counts: &[u8], stretch: usize, out: &mut [u8]) -> Text
     requires { ⌜ (text .count ≤ length (now out)) × (length (now out) ≡ 65536) ⌝ }
@@ -86,13 +102,7 @@ fn put_stretch(text: Text, counts: &[u8], stretch: usize, out: &mut [u8]) -> Tex
 {
     let room = with_room(text, out);
     let at = STRETCH_BYTES * stretch;
-    let count = put_numbers(
-        counts[at] as u32,
-        counts[at + 1] as u32,
-        counts[at + 2] as u32,
-        out,
-        room.count,
-    );
+    let count = put_counts(counts[at], counts[at + 1], counts[at + 2], out, room.count);
     Text {
         count,
         open: room.open,
@@ -132,7 +142,7 @@ fn write_bad_line(line: u32, out: &mut [u8]) -> bool
     requires { ⌜ length (now out) ≡ 65536 ⌝ }
 {
     let count = print_bad_line(line, out);
-    io::write_all(STDOUT_FILENO, &out[..count])
+    io::write_all(STDOUT_FILENO, front(out, count))
 }
 
 fn write_log(log: Log, out: &mut [u8]) -> bool
