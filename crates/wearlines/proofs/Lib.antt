@@ -2,3 +2,4 @@ pub mod LineLaws
 pub mod TextLaws
 pub mod DigitLaws
 pub mod RecordsAreReadBack
+pub mod WrongAnswers

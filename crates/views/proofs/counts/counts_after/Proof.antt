@@ -1,4 +1,4 @@
--- `counts::counts_after` meets its contract.
+-- `views::counts::counts_after` meets its contract.
 -- Assumes nothing.
 use Rattle.views.specs.Window.{countsAfter}
 use borrow.Author.Needs.{needs}

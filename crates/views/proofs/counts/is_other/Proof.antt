@@ -1,4 +1,4 @@
--- `counts::is_other` meets its contract.
+-- `views::counts::is_other` meets its contract.
 -- Assumes nothing.
 use Rattle.views.specs.View.{isOther}
 use borrow.Author.Needs.{needs}

@@ -1,4 +1,4 @@
--- `counts::recounted` meets its contract.
+-- `views::counts::recounted` meets its contract.
 -- Assumes nothing.
 use native.Mathlib.Omega.{arith}
 use mathlib.Core.Logic.{⊎-elim}

@@ -1,4 +1,4 @@
--- `held::held_end` meets its contract: it is its definition.
+-- `views::held::held_end` meets its contract: it is its definition.
 -- Assumes nothing.
 use Rattle.views.specs.Held.{heldEnd}
 use borrow.Author.Needs.{needs}

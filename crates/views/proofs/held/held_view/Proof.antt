@@ -1,5 +1,5 @@
--- `log::view_of` meets its contract: a walk of its MIR, by hand. The first records of a local array are lent as a slice for a lifetime of the call (`Local.antt`), and come back; the space is given up to the callee for good.
--- All that the proof knows of `least` and `moving_view` is that they meet their contracts.
+-- `views::held::held_view` meets its contract: a walk of its MIR, by hand. The first records of a local array are lent as a slice for a lifetime of the call (`Local.antt`), and come back; the space is given up to the callee for good.
+-- All that the proof knows of `held_end` and `moving_view` is that they meet their contracts.
 -- Assumes nothing.
 use mathlib.Core.Path.{_≡_, refl, sym, ap, _∙_}
 use Prim.Native.Nat.{ℕ, _<_, _≤_, _*_, _^_, min}

@@ -1,5 +1,5 @@
--- `view::moving_view` meets its contract: a walk of its MIR, by hand. In each turn the slice of records is looked into for one code, and shut again, and the space is lent again to `step`, for a lifetime of the call, and comes back (`Again.antt`).
--- All that the proof knows of `begin`, `step` and `answer` is that they meet their contracts; what holds on the way is `Along.antt`'s.
+-- `views::view::moving_view` meets its contract: a walk of its MIR, by hand. In each turn the slice of records is looked into for one code, and shut again, and the space is lent again to `step`, for a lifetime of the call, and comes back (`Again.antt`).
+-- All that the proof knows of `open_window`, `step` and `view_of` is that they meet their contracts; what holds on the way is `Along.antt`'s.
 -- Assumes nothing.
 use mathlib.Core.Path.{_≡_, refl, sym, ap, _∙_}
 use Prim.Native.Nat.{ℕ, _<_, _≤_, _^_, _*_, _+_, _-_}
@@ -104,15 +104,15 @@ module _ {M : Type 1} (𝓤 : URA M) (H : Heap 𝓤) (A : Atoms 𝓤) (mem : Mem
   abbrev Step : Contract 𝓤
   Step = tripleOf 𝓤 H A step.signature (step.spec 𝓤 H A mem run)
 
-  abbrev Answer : Contract 𝓤
-  Answer = tripleOf 𝓤 H A answer.signature (answer.spec 𝓤 H A mem run)
+  abbrev ViewOf : Contract 𝓤
+  ViewOf = tripleOf 𝓤 H A answer.signature (answer.spec 𝓤 H A mem run)
 
   -- of each callee's `ensured`, the clause alone, where it has no `&mut`
   opened-of : (width n room : ℕ) (r : Window) → ent 𝓤 (ensured 𝓤 H A open-window.ended (open-window.clauses 𝓤 H A mem run) tt (width, (n, (room, tt))) tt r) (fact 𝓤 (r ≡ openWindow width n room))
   opened-of width n room r = exE 𝓤 _ (λ ws. snd∗ 𝓤 (sem 𝓤 H A (lasts open-window.ended tt (width, (n, (room, tt))) ws)) (fact 𝓤 (r ≡ openWindow width n room)))
 
-  answered-of : (w : Window) (r : View) → ent 𝓤 (ensured 𝓤 H A answer.ended (answer.clauses 𝓤 H A mem run) tt (w, tt) tt r) (fact 𝓤 (r ≡ viewOf w))
-  answered-of w r = exE 𝓤 _ (λ ws. snd∗ 𝓤 (sem 𝓤 H A (lasts answer.ended tt (w, tt) ws)) (fact 𝓤 (r ≡ viewOf w)))
+  view-of-is : (w : Window) (r : View) → ent 𝓤 (ensured 𝓤 H A answer.ended (answer.clauses 𝓤 H A mem run) tt (w, tt) tt r) (fact 𝓤 (r ≡ viewOf w))
+  view-of-is w r = exE 𝓤 _ (λ ws. snd∗ 𝓤 (sem 𝓤 H A (lasts answer.ended tt (w, tt) ws)) (fact 𝓤 (r ≡ viewOf w)))
 
 module _ {M : Type 1} (𝓤 : URA M) (H : Heap 𝓤) (A : Atoms 𝓤) (W : Given 𝓤 H A) (mem : Memory → SProp 𝓤) (run : Routine → Fun 𝓤) (κ κ′ : Lft) (q q′ : Share) (b o : ℕ) (γ : GName) (rs : List ResultRecord) (width : ℕ) (b′ o′ : ℕ) (γ′ : GName) (ys : List ℕ)
     (room : Room F.the-row (length rs)) (width-fits : width < 2 ^ 64) (room′ : Room u8 (length ys)) where
@@ -191,11 +191,11 @@ module _ {M : Type 1} (𝓤 : URA M) (H : Heap 𝓤) (A : Atoms 𝓤) (W : Given
       qed W (‵ (flft (ν ∷ []) fullShare) ∷ ‵ (MutSlice (named 0) (ν ∷ []) u8 .own (x δ zs) (s ∷ [])) ∷ ‵ (Own w) ∷ []) ∵ says ! asked $ nothing ! $ move ! (1 ∷ 0 ∷ []) $ join ! $ frame ! $
       nothing ! $ owned ! u8 (Is u8) (uint-makes 𝓤 H A W w8) cd _ (refl, fits) $ fjoin ! $ move ! (2 ∷ 0 ∷ []) $ fjoin ! $ move ! (1 ∷ 0 ∷ []) $ fjoin ! $ done !
 
-  abbrev to-answer : Window → Answer 𝓤 H A mem run .Ghost
-  to-answer w = ((tt, tt, tt, (w, tt), (mach w ∷ [], tt)), tt)
+  abbrev to-view-of : Window → ViewOf 𝓤 H A mem run .Ghost
+  to-view-of w = ((tt, tt, tt, (w, tt), (mach w ∷ [], tt)), tt)
 
-  goes-answer : (w : Window) → ent 𝓤 (sem 𝓤 H A (Own w)) (Answer 𝓤 H A mem run .pre (to-answer w))
-  goes-answer w = qed W (‵ (Own w) ∷ []) ∵ nothing ! $ move ! (1 ∷ 0 ∷ []) $ join ! $ nothing ! $ join ! $ frame ! $ done !
+  goes-view-of : (w : Window) → ent 𝓤 (sem 𝓤 H A (Own w)) (ViewOf 𝓤 H A mem run .pre (to-view-of w))
+  goes-view-of w = qed W (‵ (Own w) ∷ []) ∵ nothing ! $ move ! (1 ∷ 0 ∷ []) $ join ! $ nothing ! $ join ! $ frame ! $ done !
 
   -- the loop's variant: i records have gone through the window w, and the space is zs
   abbrev X : Type 0
@@ -208,7 +208,7 @@ module _ {M : Type 1} (𝓤 : URA M) (H : Heap 𝓤) (A : Atoms 𝓤) (W : Given
   Nearer-wf = InvImage·wf (λ (y : X). t - y .0) (Nat·lt-wfRel .wf)
 
   module _ (𝓣 : Tables 𝓤 H) (fm : FmC 𝓤 H (W .laws) (𝓣 .C))
-      (known-open : Triple 𝓤 (𝓣 .C #open-window) (Open 𝓤 H A mem run)) (known-step : Triple 𝓤 (𝓣 .C #step) (Step 𝓤 H A mem run)) (known-answer : Triple 𝓤 (𝓣 .C #answer) (Answer 𝓤 H A mem run)) where
+      (known-open : Triple 𝓤 (𝓣 .C #open-window) (Open 𝓤 H A mem run)) (known-step : Triple 𝓤 (𝓣 .C #step) (Step 𝓤 H A mem run)) (known-view-of : Triple 𝓤 (𝓣 .C #answer) (ViewOf 𝓤 H A mem run)) where
     abbrev C : Calls 𝓤 H
     C = 𝓣 .C
 
@@ -307,17 +307,17 @@ module _ {M : Type 1} (𝓤 : URA M) (H : Heap 𝓤) (A : Atoms 𝓤) (W : Given
           assigns ! (bin ! (load ! (from ! (stop !)) (look ! 21 refl)) (load ! (from ! (stop !)) (look ! 23 refl)) tt) (from ! (stop !)) (init ! 15 refl (tt, tt)) $
           rewrite ! 15 (λ (z : Bool). ‵ (fat fullShare tyBool l₉ 0 (vbool z))) test refl $ leaves-loop ! (load ! (from ! (stop !)) (look ! 15 refl)) $
           exec ! C Λ En parts.t-7 (atRet En Post) $
-          use1 W (raw (Answer 𝓤 H A mem run .pre (to-answer w))) (goes-answer w) $
-          calls-at ! fm (Answer 𝓤 H A mem run) known-answer (to-answer w) (and-then ! (load ! (from ! (stop !)) (look ! 25 refl)) (no-more !)) (λ v.
+          use1 W (raw (ViewOf 𝓤 H A mem run .pre (to-view-of w))) (goes-view-of w) $
+          calls-at ! fm (ViewOf 𝓤 H A mem run) known-view-of (to-view-of w) (and-then ! (load ! (from ! (stop !)) (look ! 25 refl)) (no-more !)) (λ v.
           use1 W (later (some (λ (r : View). (‵ ftrue ⊛ ‵ (ViewT.the-row .own r (v ∷ []))) ⊛ raw (ensured 𝓤 H A answer.ended (answer.clauses 𝓤 H A mem run) tt (w, tt) tt r)))) (id⊢ 𝓤 _) $ await ! tt $ pick ! (λ r.
-          split ! $ move ! (1 ∷ []) $ use1 W (raw (fact 𝓤 (r ≡ viewOf w))) (answered-of 𝓤 H A mem run w r) $ heard ! (r ≡ viewOf w) (λ is-answered. split ! $ drop ! $
+          split ! $ move ! (1 ∷ []) $ use1 W (raw (fact 𝓤 (r ≡ viewOf w))) (view-of-is 𝓤 H A mem run w r) $ heard ! (r ≡ viewOf w) (λ is-view. split ! $ drop ! $
           -- [the result; the space; its token; what run owns; its token; _14; …]
           peeks ! ViewT.the-row (Is ViewT.the-row) (shows 𝓤 H A ViewT.the-row) r (v ∷ []) (λ is.
           land ! (from ! (stop !)) (init ! 33 refl (LL.lawful ViewT.the-type ViewL.the-laws 𝓤 H A W .typed r _ is .0)) $
           returns ! (look ! 33 refl) $ forget ! 15 refl $ forget ! 17 refl $ forget ! 19 refl $ forget ! 21 refl $ forget ! 23 refl $ forget ! 25 refl $ forget ! 27 refl $ forget ! 29 refl $ forget ! 31 refl $ forget ! 33 refl $
           move ! (33 ∷ 34 ∷ []) $ free1 ! $ move ! (31 ∷ 32 ∷ []) $ free1 ! $ move ! (29 ∷ 30 ∷ []) $ free1 ! $ move ! (27 ∷ 28 ∷ []) $ free1 ! $ move ! (25 ∷ 26 ∷ []) $ free1 ! $ move ! (23 ∷ 24 ∷ []) $ free1 ! $ move ! (21 ∷ 22 ∷ []) $ free1 ! $ move ! (19 ∷ 20 ∷ []) $ free1 ! $
           move ! (17 ∷ 18 ∷ []) $ free1 ! $ move ! (15 ∷ 16 ∷ []) $ free1 ! $ move ! (13 ∷ 14 ∷ []) $ free1 ! $ move ! (11 ∷ 12 ∷ []) $ free1 ! $ move ! (9 ∷ 10 ∷ []) $ free1 ! $ move ! (7 ∷ 8 ∷ []) $ free1 ! $ move ! (5 ∷ 6 ∷ []) $ free1 ! $ free0 ! $
-          by ! (exits r v zs e (along.ends width rs ys i w zs so test r is-answered))))))
+          by ! (exits r v zs e (along.ends width rs ys i w zs so test r is-view))))))
 
       turns : (y : X) → Sq W (At y) (runs C Λ En parts.turn-1 (anyQ (Turned y)))
       turns y = by-test (ltb (y .0) t) (more (y .0) (y .1 .0) (y .1 .1 .0) (y .1 .1 .1 .0) (y .1 .1 .1 .1)) (over (y .0) (y .1 .0) (y .1 .1 .0) (y .1 .1 .1 .0) (y .1 .1 .1 .1))
@@ -349,20 +349,20 @@ module _ {M : Type 1} (𝓤 : URA M) (H : Heap 𝓤) (A : Atoms 𝓤) (W : Given
         looping l₀ l₁ l₂ l₃ l₄ l₅ l₆ l₇ l₈ l₉ l₁₀ l₁₁ l₁₂ l₁₃ l₁₄ (0, (r, (ys, (refl, along.starts width rs ys r is-opened)))))))))))))))))))))))
 
 module _ {M : Type 1} (𝓤 : URA M) (H : Heap 𝓤) (A : Atoms 𝓤) (W : Given 𝓤 H A) (mem : Memory → SProp 𝓤) (run : Routine → Fun 𝓤) where
-  moving-view-walks : (𝓣 : Tables 𝓤 H) → Triple 𝓤 (𝓣 .C #open-window) (Open 𝓤 H A mem run) → Triple 𝓤 (𝓣 .C #step) (Step 𝓤 H A mem run) → Triple 𝓤 (𝓣 .C #answer) (Answer 𝓤 H A mem run)
+  moving-view-walks : (𝓣 : Tables 𝓤 H) → Triple 𝓤 (𝓣 .C #open-window) (Open 𝓤 H A mem run) → Triple 𝓤 (𝓣 .C #step) (Step 𝓤 H A mem run) → Triple 𝓤 (𝓣 .C #answer) (ViewOf 𝓤 H A mem run)
       → Walks 𝓤 H A f.ended stayed (WpFn 𝓤 H (𝓣 .C) (𝓣 .Λ) code.function) (f.clauses 𝓤 H A mem run)
-  moving-view-walks 𝓣 known-open known-step known-answer = walked 𝓤 H A f.ended stayed (f.clauses 𝓤 H A mem run) (WpFn 𝓤 H (𝓣 .C) (𝓣 .Λ) code.function)
+  moving-view-walks 𝓣 known-open known-step known-view-of = walked 𝓤 H A f.ended stayed (f.clauses 𝓤 H A mem run) (WpFn 𝓤 H (𝓣 .C) (𝓣 .Λ) code.function)
       (λ κs. (slice-vals, (uint-vals w64, (slice-vals, tt)))) (λ κs. (shr-slice-tells (named 0) (κs .0) F.the-row, (uint-tells w64, (mut-slice-tells (named 1) (κs .1 .0) u8, tt))))
       (λ κs qs bounds a g are. via 𝓤 _ (fst∗ 𝓤 _ (emp 𝓤))
       (walk 𝓤 H A W mem run (κs .0) (κs .1 .0) (qs .0) (qs .1 .0) (a .0 .ptr .0) (a .0 .ptr .1) (a .0 .name) (a .0 .now) (a .1 .0) (a .1 .1 .0 .ptr .0) (a .1 .1 .0 .ptr .1) (a .1 .1 .0 .name) (a .1 .1 .0 .now)
-      (are .0 .0 .1) (are .1 .0 .1) (are .1 .1 .0 .0 .1) 𝓣 (fmOf 𝓤 H (W .laws) 𝓣) known-open known-step known-answer))
+      (are .0 .0 .1) (are .1 .0 .1) (are .1 .1 .0 .0 .1) 𝓣 (fmOf 𝓤 H (W .laws) 𝓣) known-open known-step known-view-of))
 
 moving-view-meets : {M : Type 1} (𝓤 : URA M) (H : Heap 𝓤) (A : Atoms 𝓤) (W : Given 𝓤 H A) (mem : Memory → SProp 𝓤) (run : Routine → Fun 𝓤) (𝓣 : Tables 𝓤 H)
-    → Triple 𝓤 (𝓣 .C #open-window) (Open 𝓤 H A mem run) → Triple 𝓤 (𝓣 .C #step) (Step 𝓤 H A mem run) → Triple 𝓤 (𝓣 .C #answer) (Answer 𝓤 H A mem run)
+    → Triple 𝓤 (𝓣 .C #open-window) (Open 𝓤 H A mem run) → Triple 𝓤 (𝓣 .C #step) (Step 𝓤 H A mem run) → Triple 𝓤 (𝓣 .C #answer) (ViewOf 𝓤 H A mem run)
     → Meets 𝓤 H A f.signature (WpFn 𝓤 H (𝓣 .C) (𝓣 .Λ) code.function) (f.spec 𝓤 H A mem run)
-moving-view-meets 𝓤 H A W mem run 𝓣 known-open known-step known-answer =
+moving-view-meets 𝓤 H A W mem run 𝓣 known-open known-step known-view-of =
     walk-meets 𝓤 H A f.ended stayed W (goes-none-slice 𝓤 H A W 2 (0 ∷ []) tt (plain (λ _. F.the-row)) yes, (goes-none 𝓤 H A W 2 (λ _. usize) yes (λ κs x f. refl), (goes-slice 𝓤 H A W 2 1 tt (plain (λ _. u8)), tt)))
-    (f.clauses 𝓤 H A mem run) (WpFn 𝓤 H (𝓣 .C) (𝓣 .Λ) code.function) (WpFn-mono 𝓤 H (W .laws) 𝓣 code.function) (moving-view-walks 𝓤 H A W mem run 𝓣 known-open known-step known-answer)
+    (f.clauses 𝓤 H A mem run) (WpFn 𝓤 H (𝓣 .C) (𝓣 .Λ) code.function) (WpFn-mono 𝓤 H (W .laws) 𝓣 code.function) (moving-view-walks 𝓤 H A W mem run 𝓣 known-open known-step known-view-of)
 
 pub moving-view-spec : {M : Type 1} → stated.statement M
 unfolding code.routine tablesOf
@@ -372,4 +372,4 @@ moving-view-spec 𝓤 H 𝓜 𝓖 𝓡 =
     (moving-view-meets 𝓤 H (𝓖 .A) (givenOf 𝓤 H 𝓜 𝓖) (𝓜 .mem) (𝓡 .run) (tablesOf 𝓤 H 𝓜 (tables 𝓤 H 𝓜 𝓡 code.env))
     (cited 𝓤 H (Open 𝓤 H (𝓖 .A) (𝓜 .mem) (𝓡 .run)) 𝓜 𝓡 code.env #open-window open-window-def.routine code.calls-views·view·open-window (open-window-thm.met 𝓤 H 𝓜 𝓖 𝓡))
     (cited 𝓤 H (Step 𝓤 H (𝓖 .A) (𝓜 .mem) (𝓡 .run)) 𝓜 𝓡 code.env #step step-def.routine code.calls-views·window·step (step-thm.met 𝓤 H 𝓜 𝓖 𝓡))
-    (cited 𝓤 H (Answer 𝓤 H (𝓖 .A) (𝓜 .mem) (𝓡 .run)) 𝓜 𝓡 code.env #answer answer-def.routine code.calls-views·view·view-of (answer-thm.met 𝓤 H 𝓜 𝓖 𝓡)))
+    (cited 𝓤 H (ViewOf 𝓤 H (𝓖 .A) (𝓜 .mem) (𝓡 .run)) 𝓜 𝓡 code.env #answer answer-def.routine code.calls-views·view·view-of (answer-thm.met 𝓤 H 𝓜 𝓖 𝓡)))

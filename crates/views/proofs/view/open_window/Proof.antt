@@ -1,4 +1,4 @@
--- `view::open_window` meets its contract.
+-- `views::view::open_window` meets its contract.
 -- Assumes nothing.
 use borrow.Author.Tests.{eq-eqb, ne-eqb}
 use Rattle.common.specs.Pick.{pick}

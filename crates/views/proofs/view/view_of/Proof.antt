@@ -1,4 +1,4 @@
--- `view::view_of` meets its contract.
+-- `views::view::view_of` meets its contract.
 -- Assumes nothing.
 use borrow.Author.Tests.{ne-eqb}
 use Rattle.common.specs.Pick.{pick}

@@ -1,4 +1,4 @@
--- `view::view_refusal` meets its contract.
+-- `views::view::view_refusal` meets its contract.
 -- Assumes nothing.
 use Prim.Native.Nat.{_+_, _-_, _*_}
 use native.Mathlib.Omega.{arith}

@@ -1,4 +1,4 @@
--- `window::placed` meets its contract.
+-- `views::window::placed` meets its contract.
 -- Assumes nothing.
 use mathlib.Core.Path.{refl}
 use native.Mathlib.Omega.{arith}

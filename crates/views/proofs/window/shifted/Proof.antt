@@ -1,4 +1,4 @@
--- `window::shifted` meets its contract.
+-- `views::window::shifted` meets its contract.
 -- Assumes nothing.
 use mathlib.Core.Logic.{⊎-elim, inl, inr}
 use Rattle.views.proofs.WindowLaws.{can-count, shifts}

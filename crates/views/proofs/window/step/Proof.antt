@@ -1,4 +1,4 @@
--- `window::step` meets its contract.
+-- `views::window::step` meets its contract.
 -- Assumes nothing.
 use native.Mathlib.Omega.{arith}
 use Rattle.views.proofs.StepLaws.{one-more}
