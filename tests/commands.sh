@@ -65,7 +65,7 @@ stands_on() { # CRATE
     done
     printf '%s\n' "${found[@]}"
 }
-for crate in records session jobs table trial; do stands_on "$crate" >"$crate.crates"; done
+for crate in records session jobs table wear trial; do stands_on "$crate" >"$crate.crates"; done
 
 # in place of all tests, so that .ci/run of the copy comes to an end
 printf '#!/bin/sh\necho 3 passed, 0 failed\n' >tree/tests/run
@@ -175,12 +175,16 @@ check "ctc session --help does nothing else" helps_for session ./session
 check "ctc jobs --help does nothing else" helps_for jobs "./ctc jobs"
 check "ctc table --help does nothing else" helps_for table "./ctc table"
 check "ctc record --help does nothing else" helps_for record ctc-record
-check "ctc: no word" refuses "session, jobs, table or record" ctc
+check "ctc wear --help does nothing else" helps_for wear "./ctc wear"
+check "ctc plot --help does nothing else" helps_for plot "./ctc plot"
+check "ctc: no word" refuses "session, jobs, table, wear, plot or record" ctc
 check "ctc jobs: two files" refuses "one file at a time" ctc jobs a b
 check "ctc table: a word" refuses "no word is taken" ctc table a
+check "ctc wear: two files" refuses "one file at a time" ctc wear a b
+check "ctc plot: two files" refuses "one file at a time" ctc plot a b
 check "session: two files" refuses "one file at a time" session sessions/example.session sessions/example.session
 check "fuzz: two words" refuses "one word at most" tests/fuzz 1 2
-check "build: a word that is none" refuses "library, session, jobs, table or trial" tools/build wrong
+check "build: a word that is none" refuses "library, session, jobs, table, wear or trial" tools/build wrong
 
 # The script has the tool's rules: the same answer without the library as the tool gives.
 same_as_tool() { # WORDS...
@@ -266,6 +270,7 @@ check "the progress of the library ends at its total" builds library "$(wc -l <r
 check "the progress of the session program ends at its total" builds session "$(wc -l <session.crates)"
 check "the progress of the jobs program ends at its total" builds jobs "$(wc -l <jobs.crates)"
 check "the progress of the table program ends at its total" builds table "$(wc -l <table.crates)"
+check "the progress of the wear program ends at its total" builds wear "$(wc -l <wear.crates)"
 check "the progress of the trial library ends at its total" builds trial "$(wc -l <trial.crates)"
 
 no_time_announced() {
@@ -394,7 +399,7 @@ ci_builds() {
     fresh
     with_rt bash tree/.ci/run
     ended 0 || return
-    [ "$(grep -v '^fmt' rt.calls | paste -sd ,)" = "ci,staticlib records,check session,check jobs,check table,staticlib trial" ] ||
+    [ "$(grep -v '^fmt' rt.calls | paste -sd ,)" = "ci,staticlib records,check session,check jobs,check table,check wear,staticlib trial" ] ||
         no "rt was asked for $(paste -sd , rt.calls)"
 }
 check ".ci/run builds all that the tests need" ci_builds

@@ -2,15 +2,12 @@
 
 use crate::library;
 use crate::records::random_bytes;
+use crate::timing::{answers, seconds, RUNS};
 use machine::generator;
 use machine::lines::{HOST_LIMIT, IMAGE_LIMIT, MARKS_LIMIT};
-use std::fs::{self, File};
+use std::fs;
 use std::io;
 use std::path::Path;
-use std::process::{Command, Stdio};
-
-/// Runs of each program on each session.
-const RUNS: usize = 20;
 
 /// Drive 0 has a tape, and GCR is chosen.
 const GCR_DRIVE: &str = "S,0,22\nB,64\nB,38\nB,00\nB,00\nB,00\nB,0D\nB,00\nB,51\nT\n";
@@ -73,47 +70,14 @@ fn sessions() -> [(&'static str, Vec<u8>); 8] {
     ]
 }
 
-extern "C" {
-    fn getrusage(who: i32, usage: *mut i64) -> i32;
-}
-
-/// Processor time, in seconds, of all programs that were started here and have ended.
-fn processor_time() -> f64 {
-    const OF_CHILDREN: i32 = -1;
-    // user time, then system time, each in seconds and microseconds; then fourteen other numbers
-    let mut usage = [0; 18];
-    // SAFETY: on 64-bit Linux the structure is these eighteen words
-    let failed = unsafe { getrusage(OF_CHILDREN, usage.as_mut_ptr()) };
-    assert_eq!(failed, 0);
-    (usage[0] + usage[2]) as f64 + (usage[1] + usage[3]) as f64 / 1e6
-}
-
-fn seconds(program: &str, session: &Path) -> io::Result<f64> {
-    let input = File::open(session)?;
-    let before = processor_time();
-    let status = Command::new(program)
-        .stdin(input)
-        .stdout(Stdio::null())
-        .status()?;
-    if !status.success() {
-        return Err(io::Error::other(format!("{program} ended with {status}")));
-    }
-    Ok(processor_time() - before)
-}
-
-fn answers(program: &str, session: &Path) -> io::Result<Vec<u8>> {
-    let input = File::open(session)?;
-    Ok(Command::new(program).stdin(input).output()?.stdout)
-}
-
 fn print_row(name: &str, lines: usize, programs: [&str; 2], session: &Path) -> io::Result<()> {
-    if answers(programs[0], session)? != answers(programs[1], session)? {
+    if answers(&[programs[0]], session)? != answers(&[programs[1]], session)? {
         return Err(io::Error::other(format!("{name}: other answers")));
     }
     let mut least = [f64::INFINITY; 2];
     for _ in 0..RUNS {
         for (program, least) in programs.iter().zip(&mut least) {
-            *least = least.min(seconds(program, session)?);
+            *least = least.min(seconds(&[program], session)?);
         }
     }
     let [ours, theirs] = least.map(|time| lines as f64 / time);

@@ -23,7 +23,7 @@ use Rattle.dispatcher.specs.declared.dispatcher.Dispatcher.{Dispatcher}
 use Rattle.dispatcher.specs.Dispatcher.{freshDispatcher, isWhole, queueRefusal, queueCall}
 use Rattle.lines.specs.Characters.{comma}
 use Rattle.lines.specs.Digits.{digitValue, isDigit, allDigits, isByte, decimalFrom, decimalOf, isDecimal}
-use Rattle.lines.specs.Line.{unreadable, fieldOf, afterField, afterFields}
+use Rattle.lines.specs.Line.{unreadable, partOf, afterField, afterFields}
 use Rattle.lines.specs.Print.{digitOf, refusalText, headText}
 use Rattle.joblines.specs.Line.{JobLine, queueing, handing, sessionLine}
 use Rattle.joblines.specs.Line.{queueLetter, isOperand, storeLine, queueLine, isHand, isQueue, jobLineOf, jobLineRead}
@@ -57,7 +57,7 @@ module _
       → (job : ℕ) (store : Store)
       → r ≡ Queueing job store
       → ⊥
-  unfolding jobLineRead jobLineOf isHand isQueue queueLine storeLine fieldOf afterField afterFields isDecimal decimalOf decimalFrom isByte isOperand allDigits isDigit digitValue pick
+  unfolding jobLineRead jobLineOf isHand isQueue queueLine storeLine partOf afterField afterFields isDecimal decimalOf decimalFrom isByte isOperand allDigits isDigit digitValue pick
   read-job-line-reads-small-letters says job store e =
       false≢true (ap isQueueing (sym (ap jobLineOf says) ∙ sym allowed ∙ ap (λ (x : JobReading). jobLineRead x bytes′ marks′) e))
 
@@ -66,7 +66,7 @@ module _
       → (job : ℕ) (store : Store)
       → r ≡ Queueing job store
       → ⊥
-  unfolding jobLineRead jobLineOf isHand isQueue queueLine storeLine fieldOf afterField afterFields isDecimal decimalOf decimalFrom isByte isOperand allDigits isDigit digitValue pick
+  unfolding jobLineRead jobLineOf isHand isQueue queueLine storeLine partOf afterField afterFields isDecimal decimalOf decimalFrom isByte isOperand allDigits isDigit digitValue pick
   read-job-line-reads-job-256 says job store e =
       false≢true (ap isQueueing (sym (ap jobLineOf says) ∙ sym allowed ∙ ap (λ (x : JobReading). jobLineRead x bytes′ marks′) e))
 
@@ -92,7 +92,7 @@ module _
       → now line ≡ queueOfZeros (52 ∷ []) (51 ∷ 56 ∷ [])
       → take (r .count) out′ ≡ jobAnswerText 0 Nothing [] NoneHanded
       → ⊥
-  unfolding jobLineLeft replyLeft dispatchedLeft jobLineOf isHand isQueue queueLine storeLine fieldOf afterField afterFields
+  unfolding jobLineLeft replyLeft dispatchedLeft jobLineOf isHand isQueue queueLine storeLine partOf afterField afterFields
       isDecimal decimalOf decimalFrom isByte isOperand allDigits isDigit digitValue
       freshDispatcher freshQueues areSound isWhole queueRefusal queueCall
       fresh startBody freshDrives isSound soundBody soundDrives soundDrive noOutcome soundPhase soundPart

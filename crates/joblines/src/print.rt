@@ -17,7 +17,7 @@ ghost use Rattle.joblines.specs.Limits.{recordMost, jobReplyMost, jobUnr
 ghost use Rattle.joblines.specs.Print.{decimalText, recordText, handedText, jobAnswerText, jobUnreadableText};
 
 // A number in decimal, of at most so many digits.
-fn put_decimal(most: usize, n: u32, out: &mut [u8], at: usize) -> usize
+pub fn put_decimal(most: usize, n: u32, out: &mut [u8], at: usize) -> usize
     requires { ⌜ at + most ≤ length (now out) ⌝ }
     ensures { λ r. ⌜ (r ≤ at + most) × (take r (now (out .exit)) ≡ take at (now (out .entry)) ++ decimalText most n) ⌝ }
 {

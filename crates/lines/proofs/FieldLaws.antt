@@ -1,4 +1,4 @@
--- Laws of fields: a loop that looks for a comma.
+-- Laws of parts and fields: a loop that looks for a sign.
 -- Assumes nothing.
 use mathlib.Core.Path.{_≡_, refl, sym, ap, _∙_}
 use Prim.Native.Nat.{ℕ, suc, _+_, _≤_, _<_}
@@ -11,56 +11,57 @@ use lib.ListN.{length, getD, take, drop, drop-of-length-le}
 use lib.Seq.{drop-cons, take-suc, append-snoc}
 use Rattle.common.specs.Pick.{pick}
 use Rattle.lines.specs.Characters.{comma}
-use Rattle.lines.specs.Line.{fieldOf, fieldEnd, after, afterField, afterFields, fieldsLine, resultLine}
+use Rattle.lines.specs.Line.{partOf, partEnd, fieldOf, after, afterField, afterFields, fieldsLine, resultLine}
 
--- a comma ends the field
-pub field-stop : (s : List ℕ) (at : ℕ) → at < length s → eqb (getD s at 0) comma ≡ true → take at s ≡ take at s ++ fieldOf (drop at s)
-unfolding fieldOf pick
-field-stop s at below comma = rw (drop-cons s at 0, comma) (sym (append-nil (take at s)))
+module _ (sign : ℕ) where
+  -- the sign ends the part
+  pub part-stop : (s : List ℕ) (at : ℕ) → at < length s → eqb (getD s at 0) sign ≡ true → take at s ≡ take at s ++ partOf sign (drop at s)
+  unfolding partOf pick
+  part-stop s at below ends = rw (drop-cons s at 0, ends) (sym (append-nil (take at s)))
 
--- any other byte is a byte of the field
-pub field-pass : (s : List ℕ) (at : ℕ) → at < length s → eqb (getD s at 0) comma ≡ false
-    → take (at + 1) s ++ fieldOf (drop (at + 1) s) ≡ take at s ++ fieldOf (drop at s)
-unfolding fieldOf pick
-field-pass s at below other =
-    rw (add-one, take-suc s at 0, drop-cons s at 0, other) (append-snoc (take at s) (getD s at 0) (fieldOf (drop (suc at) s)))
+  -- any other byte is a byte of the part
+  pub part-pass : (s : List ℕ) (at : ℕ) → at < length s → eqb (getD s at 0) sign ≡ false
+      → take (at + 1) s ++ partOf sign (drop (at + 1) s) ≡ take at s ++ partOf sign (drop at s)
+  unfolding partOf pick
+  part-pass s at below other =
+      rw (add-one, take-suc s at 0, drop-cons s at 0, other) (append-snoc (take at s) (getD s at 0) (partOf sign (drop (suc at) s)))
 
--- the field goes to the end
-pub field-all : (s : List ℕ) (at : ℕ) → at ≡ length s → take at s ++ fieldOf (drop at s) ≡ fieldOf s → take (length s) s ≡ fieldOf s
-unfolding fieldOf
-field-all s at e passed =
-    let past : length s ≤ at = omega arith in
-    ap (λ (n : ℕ). take n s) (sym e)
-    ∙ sym (append-nil (take at s))
-    ∙ ap (λ (x : List ℕ). take at s ++ fieldOf x) (sym (drop-of-length-le s past))
-    ∙ passed
+  -- the part goes to the end
+  pub part-all : (s : List ℕ) (at : ℕ) → at ≡ length s → take at s ++ partOf sign (drop at s) ≡ partOf sign s → take (length s) s ≡ partOf sign s
+  unfolding partOf
+  part-all s at e passed =
+      let past : length s ≤ at = omega arith in
+      ap (λ (n : ℕ). take n s) (sym e)
+      ∙ sym (append-nil (take at s))
+      ∙ ap (λ (x : List ℕ). take at s ++ partOf sign x) (sym (drop-of-length-le s past))
+      ∙ passed
 
--- a field is no longer than what it stands in
-within : (b : ℕ) (s : List ℕ) (comma : Bool) → length (fieldOf s) ≤ length s → length (pick comma [] (b ∷ fieldOf s)) ≤ suc (length s)
-unfolding pick
-within b s true h = omega arith
-within b s false h = omega arith
+  -- a part is no longer than what it stands in
+  within : (b : ℕ) (s : List ℕ) (ends : Bool) → length (partOf sign s) ≤ length s → length (pick ends [] (b ∷ partOf sign s)) ≤ suc (length s)
+  unfolding pick
+  within b s true h = omega arith
+  within b s false h = omega arith
 
-pub field-within : (s : List ℕ) → length (fieldOf s) ≤ length s
-unfolding fieldOf
-field-within [] = omega arith
-field-within (b ∷ s) = within b s (eqb b comma) (field-within s)
+  pub part-within : (s : List ℕ) → length (partOf sign s) ≤ length s
+  unfolding partOf
+  part-within [] = omega arith
+  part-within (b ∷ s) = within b s (eqb b sign) (part-within s)
 
--- it is what stands at the start, up to its end
-front : (b : ℕ) (s : List ℕ) (ends : Bool)
-    → take (fieldEnd s) s ≡ fieldOf s
-    → take (length (pick ends [] (b ∷ fieldOf s))) (b ∷ s) ≡ pick ends [] (b ∷ fieldOf s)
-unfolding pick
-front b s true h = refl
-front b s false h = ap (λ (x : List ℕ). b ∷ x) h
+  -- it is what stands at the start, up to its end
+  front : (b : ℕ) (s : List ℕ) (ends : Bool)
+      → take (partEnd sign s) s ≡ partOf sign s
+      → take (length (pick ends [] (b ∷ partOf sign s))) (b ∷ s) ≡ pick ends [] (b ∷ partOf sign s)
+  unfolding pick
+  front b s true h = refl
+  front b s false h = ap (λ (x : List ℕ). b ∷ x) h
 
-pub field-front : (s : List ℕ) → take (fieldEnd s) s ≡ fieldOf s
-unfolding fieldOf
-field-front [] = refl
-field-front (b ∷ s) = front b s (eqb b comma) (field-front s)
+  pub part-front : (s : List ℕ) → take (partEnd sign s) s ≡ partOf sign s
+  unfolding partOf
+  part-front [] = refl
+  part-front (b ∷ s) = front b s (eqb b sign) (part-front s)
 
 pub field-fits : (s : List ℕ) {f : List ℕ} → f ≡ fieldOf s → length f ≤ length s
-field-fits s e = rw e (field-within s)
+field-fits s e = rw e (part-within comma s)
 
 -- what comes after one field, and after one field more
 pub after-is : (s f : List ℕ) {a : List ℕ} → f ≡ fieldOf s → a ≡ after s (length f) → a ≡ afterField s

@@ -22,7 +22,7 @@ use Rattle.controller.specs.Machine.{byteIn, byteCall}
 use Rattle.lines.specs.Characters.{comma, byteLetter, reportLetter, noneSign, byteSign}
 use Rattle.lines.specs.Digits.{digitValue, isDigit, allDigits, byteValue, isByte, byteOf, decimalFrom, decimalOf, isDecimal}
 use Rattle.lines.specs.Line.{Line, unreadable, byte, taken, broken, report, hostData, result, tick, reset}
-use Rattle.lines.specs.Line.{fieldOf, afterField, byteLine, reportLine, callLine, lineOf, plainLine, callRead, lineRead}
+use Rattle.lines.specs.Line.{partOf, afterField, byteLine, reportLine, callLine, lineOf, plainLine, callRead, lineRead}
 use Rattle.lines.specs.Print.{digitOf, refusalText, actionLetter, headText, answerText}
 use Rattle.lines.specs.Play.{Left, replyLeft, lineLeft}
 use Rattle.lines.specs.declared.line.Reading.{Reading}
@@ -63,7 +63,7 @@ module _
       → (drive value : ℕ)
       → r ≡ Readable (Plain (Report drive value))
       → ⊥
-  unfolding lineRead callRead plainLine lineOf callLine reportLine fieldOf afterField isDecimal decimalOf decimalFrom isByte allDigits isDigit digitValue pick
+  unfolding lineRead callRead plainLine lineOf callLine reportLine partOf afterField isDecimal decimalOf decimalFrom isByte allDigits isDigit digitValue pick
   read-line-reads-drive-256 says drive value e =
       false≢true (ap isUnreadable (sym (ap (λ (x : Reading). lineRead x bytes′ marks′) e) ∙ allowed ∙ ap lineOf says))
 

@@ -26,7 +26,7 @@ flagLimit = 1
 
 -- Above every limit of a field: where the code stops counting.
 abbrev pub fieldCap : ℕ
-fieldCap = 65535
+fieldCap = 4294967296
 
 -- ---- the longest texts, which bound what an answer needs of the space
 

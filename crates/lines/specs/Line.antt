@@ -32,10 +32,18 @@ pub data Line : Type 0 where
 
 -- ---- fields, with a comma between
 
+-- what stands before the first sign of a kind, or all
+unfoldable pub partOf : ℕ → List ℕ → List ℕ
+partOf sign [] = []
+partOf sign (b ∷ s) = pick (eqb b sign) [] (b ∷ partOf sign s)
+
+-- the place of that sign, or the end
+abbrev pub partEnd : ℕ → List ℕ → ℕ
+partEnd sign s = length (partOf sign s)
+
 -- the first field
-unfoldable pub fieldOf : List ℕ → List ℕ
-fieldOf [] = []
-fieldOf (b ∷ s) = pick (eqb b comma) [] (b ∷ fieldOf s)
+abbrev pub fieldOf : List ℕ → List ℕ
+fieldOf s = partOf comma s
 
 -- the place of its comma, or the end
 abbrev pub fieldEnd : List ℕ → ℕ

@@ -24,7 +24,7 @@ pub const BYTE_LIMIT: usize = 255;
 pub const FLAG_LIMIT: usize = 1;
 
 // Above every limit of a field, so that a number which is longer can stay here, and small enough that ten times as much does not wrap.
-pub const FIELD_CAP: usize = 65535;
+pub const FIELD_CAP: usize = 4294967296;
 
 // The longest text of an action's bytes: six bytes of two digits.
 const ACTION_MOST: usize = 2 * 6;

@@ -13,7 +13,7 @@ use crate::limits::MARKS_LIMIT;
 ghost use mathlib.Core.Path.{_≡_};
 ghost use Prim.Native.Nat.{_≤_};
 ghost use lib.ListN.{length};
-ghost use Rattle.lines.specs.Line.{fieldOf, fieldEnd, after};
+ghost use Rattle.lines.specs.Line.{partOf, partEnd, fieldOf, after};
 ghost use Rattle.lines.specs.Line.{bareLine, byteLine, reportLine, dataLine, fieldsLine, resultLine, callLine, lineOf};
 ghost use Rattle.lines.specs.Line.{lineRead, ReadAs, ReadWith};
 
@@ -50,14 +50,14 @@ pub enum Reading {
     Readable(Call),
 }
 
-// The place of the first comma, or the end.
-fn field_end(s: &[u8]) -> usize
-    ensures { λ r. ⌜ r ≡ fieldEnd (now (s .entry)) ⌝ }
+// The place of the first sign of a kind, or the end.
+fn part_end(sign: u8, s: &[u8]) -> usize
+    ensures { λ r. ⌜ r ≡ partEnd sign (now (s .entry)) ⌝ }
 {
     let end = s.len();
     let mut at = 0;
     while at < end {
-        if s[at] == b',' {
+        if s[at] == sign {
             return at;
         }
         at += 1;
@@ -65,12 +65,19 @@ fn field_end(s: &[u8]) -> usize
     end
 }
 
+// What stands before it.
+pub fn part_of(sign: u8, s: &[u8]) -> &[u8]
+    ensures { λ r. ⌜ now r ≡ partOf sign (now (s .entry)) ⌝ }
+{
+    let end = part_end(sign, s);
+    &s[..end]
+}
+
 // The first field.
 pub fn field_of(s: &[u8]) -> &[u8]
     ensures { λ r. ⌜ now r ≡ fieldOf (now (s .entry)) ⌝ }
 {
-    let end = field_end(s);
-    &s[..end]
+    part_of(b',', s)
 }
 
 // What comes after a field of so many bytes and its comma.

@@ -35,7 +35,7 @@ pub struct Cut {
 }
 
 // The place of the first #0A from a place on, or the end.
-fn line_end(input: &[u8], from: usize) -> usize
+pub fn line_end(input: &[u8], from: usize) -> usize
     requires { ⌜ from ≤ length (now input) ⌝ }
     ensures { λ r. ⌜ (from ≤ r) × (r ≤ length (now (input .entry))) ⌝ }
 {

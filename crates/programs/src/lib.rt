@@ -2,7 +2,7 @@
 //
 // The language has no generics, so that the state is one struct for both programs: which of them runs, and a dispatcher, of which `session` uses the
 // controller alone.
-mod batch;
-mod buffers;
+pub mod batch;
+pub mod buffers;
 pub mod player;
 pub mod run;

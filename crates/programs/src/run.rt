@@ -28,7 +28,7 @@ struct Session {
 }
 
 // Moves the bytes from a place on to the start.
-fn move_to_start(input: &mut [u8], from: usize, end: usize)
+pub fn move_to_start(input: &mut [u8], from: usize, end: usize)
     requires { ⌜ (from ≤ end) × (end ≤ length (now input)) ⌝ }
 {
     if from == 0 {

@@ -1,17 +1,22 @@
 //! What a program plays: sessions, sessions of jobs, or one of the tasks beside the controller.
 
 use crate::mutants::{JOB_MUTANTS, MUTANTS};
-use crate::{generator, lines, table};
+use crate::{generator, lines, table, wear};
 
 #[derive(Clone, Copy, Debug, PartialEq, Eq)]
 pub enum Kind {
     Sessions,
     Jobs,
     Table,
+    Wear,
 }
 
 /// The first word of an invocation that asks for a kind; sessions have none.
-const WORDS: [(&str, Kind); 2] = [("--jobs", Kind::Jobs), ("--table", Kind::Table)];
+const WORDS: [(&str, Kind); 3] = [
+    ("--jobs", Kind::Jobs),
+    ("--table", Kind::Table),
+    ("--wear", Kind::Wear),
+];
 
 impl Kind {
     pub fn of_word(word: &str) -> Option<Kind> {
@@ -32,6 +37,7 @@ impl Kind {
             Kind::Sessions => lines::run(input, None),
             Kind::Jobs => lines::run_of_jobs(input, None),
             Kind::Table => table::text(None),
+            Kind::Wear => wear::answers(input, None),
         }
     }
 
@@ -41,6 +47,7 @@ impl Kind {
             Kind::Sessions => lines::run(input, Some(*MUTANTS.get(mutant)?)),
             Kind::Jobs => lines::run_of_jobs(input, Some(*JOB_MUTANTS.get(mutant)?)),
             Kind::Table => table::text(Some(*table::mutants().get(mutant)?)),
+            Kind::Wear => wear::answers(input, Some(*wear::MUTANTS.get(mutant)?)),
         })
     }
 
@@ -50,6 +57,7 @@ impl Kind {
             Kind::Sessions => MUTANTS.len(),
             Kind::Jobs => JOB_MUTANTS.len(),
             Kind::Table => table::mutants().len(),
+            Kind::Wear => wear::MUTANTS.len(),
         }
     }
 
@@ -60,6 +68,7 @@ impl Kind {
             Kind::Jobs => generator::session_of_jobs(seed, lines),
             // Nothing is asked.
             Kind::Table => Vec::new(),
+            Kind::Wear => wear::run(seed, lines),
         }
     }
 
@@ -67,7 +76,7 @@ impl Kind {
     pub fn answers_lines(self) -> bool {
         match self {
             Kind::Sessions | Kind::Jobs => true,
-            Kind::Table => false,
+            Kind::Table | Kind::Wear => false,
         }
     }
 }

@@ -4,8 +4,8 @@
 //!
 //! `machine < SESSION` answers a session, `generate SEED LINES` prints a random one, and
 //! `compare PROGRAM` runs both programs on many and shrinks the first difference. With `--jobs` as
-//! their first word all three do so with sessions of jobs, and with `--table` with the table of
-//! document 02's ninth wish.
+//! their first word all three do so with sessions of jobs, with `--table` with the table of document
+//! 02's ninth wish, and with `--wear` with runs of the eleventh.
 
 pub mod comparison;
 pub mod generator;
@@ -16,3 +16,4 @@ pub mod machine;
 pub mod mutants;
 pub mod records;
 pub mod table;
+pub mod wear;

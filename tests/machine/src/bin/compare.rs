@@ -1,6 +1,7 @@
-//! `compare [--jobs | --table] PROGRAM [--seed S] [--sessions N] [--lines L] [--supplied 0] [-- ARGUMENTS of PROGRAM]`
+//! `compare [--jobs | --table | --wear] PROGRAM [--seed S] [--sessions N] [--lines L] [--supplied 0] [-- ARGUMENTS of PROGRAM]`
 //!
-//! `--jobs` makes sessions of jobs; `--table` has the table printed.
+//! `--jobs` makes sessions of jobs; `--table` has the table printed; `--wear` makes runs of records, of which the longer ones
+//! have up to L.
 //! `--shrink SECONDS` bounds the time for shrinking a difference.
 //! `--supplied 0` makes no stores that supply a count, for a program that does not know them.
 //! Exit 0: no difference; 1: a difference, shrunk and printed; 2: the comparison itself failed.
@@ -100,7 +101,11 @@ fn compare(options: &Options) -> io::Result<bool> {
             writeln!(out, "  machine  {}", difference.machine)?;
             writeln!(out, "  program  {}", difference.program)?;
             out.flush()?;
-            eprintln!("shrinking {} lines", difference.line + 1);
+            let count = match kind.answers_lines() {
+                true => difference.line + 1,
+                false => lines::split(&text).count(),
+            };
+            eprintln!("shrinking {count} lines");
             let (kept, shrunk) = options.program.shrink(&text, difference)?;
             writeln!(
                 out,

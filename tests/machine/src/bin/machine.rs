@@ -1,5 +1,6 @@
-//! `machine [--jobs | --table] [--mutant N]`: reads session lines to the end of standard input, prints the answers.
-//! With `--jobs` they are those of jobs; with `--table` it prints the table, whatever it reads.
+//! `machine [--jobs | --table | --wear] [--mutant N]`: reads session lines to the end of standard input, prints the answers.
+//! With `--jobs` they are those of jobs; with `--table` it prints the table, whatever it reads; with `--wear` it
+//! reads a run of records and prints its view.
 
 use machine::kinds::Kind;
 use machine::lines::Session;

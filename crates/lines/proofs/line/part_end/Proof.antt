@@ -1,4 +1,4 @@
--- `lines::line::field_end` meets its contract: before each turn what is passed and the field of what is left are the field.
+-- `lines::line::part_end` meets its contract: before each turn what is passed and the part of what is left are the part.
 -- Assumes nothing.
 
 use borrow.Author.Needs.{needs}
@@ -9,20 +9,20 @@ use Prim.Native.Nat.{ℕ, _≤_, _<_, _-_}
 use native.Mathlib.Omega.{arith}
 use lib.ListN.{length, take, drop}
 use lib.Seq.{length-take-le}
-use Rattle.lines.specs.Line.{fieldOf, fieldEnd}
-use Rattle.lines.proofs.FieldLaws.{field-stop, field-pass, field-all}
-use Rattle.lines.proofs.line.field_end.Statement.{statement}
-use Rattle.lines.proofs.line.field_end.Tie as tie
+use Rattle.lines.specs.Line.{partOf, partEnd}
+use Rattle.lines.proofs.FieldLaws.{part-stop, part-pass, part-all}
+use Rattle.lines.proofs.line.part_end.Statement.{statement}
+use Rattle.lines.proofs.line.part_end.Tie as tie
 
--- what stands before the place is the field, so that the place is its end
-place : (s : List ℕ) (at : ℕ) → at ≤ length s → take at s ≡ fieldOf s → at ≡ fieldEnd s
-place s at inside e = sym (length-take-le at s inside) ∙ ap length e
+-- what stands before the place is the part, so that the place is its end
+place : (sign : ℕ) (s : List ℕ) (at : ℕ) → at ≤ length s → take at s ≡ partOf sign s → at ≡ partEnd sign s
+place sign s at inside e = sym (length-take-le at s inside) ∙ ap length e
 
 abbrev Inv-loop : tie.InvT-loop
-Inv-loop s end at₀ at = (at ≤ length s) × (take at s ++ fieldOf (drop at s) ≡ fieldOf s)
+Inv-loop sign s end at₀ at = (at ≤ length s) × (take at s ++ partOf sign (drop at s) ≡ partOf sign s)
 
 abbrev μ-loop : tie.MeasureT-loop
-μ-loop s end at₀ at = length s - at
+μ-loop sign s end at₀ at = length s - at
 
 loop-holds : tie.Need-loop-holds Inv-loop μ-loop
 loop-holds c = (omega arith, refl)
@@ -34,8 +34,9 @@ returns : tie.Need-returns Inv-loop μ-loop
 returns c =
     let l = c .before .before .before .loop in
     let s = c .before .before .before .before .args .s .now in
+    let sign = c .before .before .before .before .args .sign in
     let below : l .at < length s = omega arith in
-    place s (l .at) (l .inv .0) (field-stop s (l .at) below (eq-eqb _ _ (c .if1 .taken)) ∙ l .inv .1)
+    place sign s (l .at) (l .inv .0) (part-stop sign s (l .at) below (eq-eqb _ _ (c .if1 .taken)) ∙ l .inv .1)
 
 add-at : tie.Need-add-at Inv-loop μ-loop
 add-at c = search needs
@@ -47,18 +48,20 @@ loop-again : tie.Need-loop-again Inv-loop μ-loop
 loop-again c =
     let l = c .before .before .before .loop in
     let s = c .before .before .before .before .args .s .now in
+    let sign = c .before .before .before .before .args .sign in
     let below : l .at < length s = omega arith in
-    (omega arith, field-pass s (l .at) below (ne-eqb _ _ (c .if1 .left)) ∙ l .inv .1)
+    (omega arith, part-pass sign s (l .at) below (ne-eqb _ _ (c .if1 .left)) ∙ l .inv .1)
 
 returns-2 : tie.Need-returns-2 Inv-loop μ-loop
 returns-2 c =
     let l = c .before .loop in
     let s = c .before .before .args .s .now in
+    let sign = c .before .before .args .sign in
     let all : l .at ≡ length s = omega arith in
-    place s (length s) (omega arith) (field-all s (l .at) all (l .inv .1))
+    place sign s (length s) (omega arith) (part-all sign s (l .at) all (l .inv .1))
 
-pub field-end-spec : {M : Type 1} → statement M
-field-end-spec =
+pub part-end-spec : {M : Type 1} → statement M
+part-end-spec =
     tie.close
     (tie.spec
     Inv-loop

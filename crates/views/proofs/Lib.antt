@@ -1,0 +1,10 @@
+pub mod Again
+pub mod Local
+pub mod CountLaws
+pub mod WindowLaws
+pub mod StretchLaws
+pub mod StepLaws
+pub mod Along
+pub mod PlaceLaws
+pub mod Demands
+pub mod WrongAnswers

@@ -1,0 +1,5 @@
+pub mod Limits
+pub mod View
+pub mod Window
+pub mod Held
+pub mod Places

@@ -1,0 +1,23 @@
+-- The limits of a moving view, and the refusals that it alone gives (document 02, Wish 11).
+-- Assumes nothing.
+use Prim.Native.Nat.{ℕ}
+
+-- "a width of 1 to 64"
+abbrev pub widthLimit : ℕ
+widthLimit = 64
+
+-- "Take up to 65,535 result records"
+abbrev pub runLimit : ℕ
+runLimit = 65535
+
+-- "For each full stretch .. write three bytes"
+abbrev pub stretchBytes : ℕ
+stretchBytes = 3
+
+-- "18 a width outside 1 to 64"
+abbrev pub widthOutOfRange : ℕ
+widthOutOfRange = 18
+
+-- "19 a run above 65,535"
+abbrev pub runTooLong : ℕ
+runTooLong = 19

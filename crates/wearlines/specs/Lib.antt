@@ -1,0 +1,3 @@
+pub mod Limits
+pub mod Line
+pub mod Print
