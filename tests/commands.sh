@@ -65,7 +65,7 @@ stands_on() { # CRATE
     done
     printf '%s\n' "${found[@]}"
 }
-for crate in records session jobs table wear trial; do stands_on "$crate" >"$crate.crates"; done
+for crate in records session jobs table wear contest contests trial; do stands_on "$crate" >"$crate.crates"; done
 
 # in place of all tests, so that .ci/run of the copy comes to an end
 printf '#!/bin/sh\necho 3 passed, 0 failed\n' >tree/tests/run
@@ -177,14 +177,16 @@ check "ctc table --help does nothing else" helps_for table "./ctc table"
 check "ctc record --help does nothing else" helps_for record ctc-record
 check "ctc wear --help does nothing else" helps_for wear "./ctc wear"
 check "ctc plot --help does nothing else" helps_for plot "./ctc plot"
-check "ctc: no word" refuses "session, jobs, table, wear, plot or record" ctc
+check "ctc contest --help does nothing else" helps_for contest "./ctc contest"
+check "ctc: no word" refuses "session, jobs, table, wear, plot, contest or record" ctc
 check "ctc jobs: two files" refuses "one file at a time" ctc jobs a b
 check "ctc table: a word" refuses "no word is taken" ctc table a
 check "ctc wear: two files" refuses "one file at a time" ctc wear a b
 check "ctc plot: two files" refuses "one file at a time" ctc plot a b
+check "ctc contest: two files" refuses "one file at a time" ctc contest a b
 check "session: two files" refuses "one file at a time" session sessions/example.session sessions/example.session
 check "fuzz: two words" refuses "one word at most" tests/fuzz 1 2
-check "build: a word that is none" refuses "library, session, jobs, table, wear or trial" tools/build wrong
+check "build: a word that is none" refuses "library, session, jobs, table, wear, contest, contests or trial" tools/build wrong
 
 # The script has the tool's rules: the same answer without the library as the tool gives.
 same_as_tool() { # WORDS...
@@ -261,7 +263,7 @@ progress_whole() { # FILE CRATES
     last=$(grep -oE 'crate [0-9]+ of [0-9]+' "$1" | tail -n 1)
     [ "$last" = "crate $2 of $2" ] || no "the last is '$last', of $2"
 }
-builds() { # library|session|trial CRATES
+builds() { # library|session|jobs|contest|contests|trial CRATES
     fresh
     with_rt tree/tools/build "$1"
     ended 0 && progress_whole errors "$2"
@@ -271,6 +273,8 @@ check "the progress of the session program ends at its total" builds session "$(
 check "the progress of the jobs program ends at its total" builds jobs "$(wc -l <jobs.crates)"
 check "the progress of the table program ends at its total" builds table "$(wc -l <table.crates)"
 check "the progress of the wear program ends at its total" builds wear "$(wc -l <wear.crates)"
+check "the progress of the contest program ends at its total" builds contest "$(wc -l <contest.crates)"
+check "the progress of the contest library ends at its total" builds contests "$(wc -l <contests.crates)"
 check "the progress of the trial library ends at its total" builds trial "$(wc -l <trial.crates)"
 
 no_time_announced() {
@@ -399,7 +403,7 @@ ci_builds() {
     fresh
     with_rt bash tree/.ci/run
     ended 0 || return
-    [ "$(grep -v '^fmt' rt.calls | paste -sd ,)" = "ci,staticlib records,check session,check jobs,check table,check wear,staticlib trial" ] ||
+    [ "$(grep -v '^fmt' rt.calls | paste -sd ,)" = "ci,staticlib records,check session,check jobs,check table,check wear,check contest,staticlib contests,staticlib trial" ] ||
         no "rt was asked for $(paste -sd , rt.calls)"
 }
 check ".ci/run builds all that the tests need" ci_builds

@@ -23,7 +23,7 @@ unfoldable pub bytesText : List ℕ → List ℕ
 bytesText [] = []
 bytesText (b ∷ bytes) = byteText b ++ bytesText bytes
 
--- the number of a refusal, which is 0 to 12, in decimal
+-- the number of a refusal, which has at most two digits, in decimal
 unfoldable pub refusalText : ℕ → List ℕ
 refusalText n = pick (ltb n 10) (digitOf n ∷ []) (digitOf (n / 10 % 10) ∷ digitOf (n % 10) ∷ [])
 

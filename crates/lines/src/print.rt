@@ -54,7 +54,7 @@ pub fn put_bytes(bytes: &[u8], out: &mut [u8], at: usize) -> usize
 }
 
 // The number of a refusal.
-fn put_refusal(number: u32, out: &mut [u8], at: usize) -> usize
+pub fn put_refusal(number: u32, out: &mut [u8], at: usize) -> usize
     requires { ⌜ at + 2 ≤ length (now out) ⌝ }
     ensures { λ r. ⌜ (r ≤ at + 2) × (take r (now (out .exit)) ≡ take at (now (out .entry)) ++ refusalText number) ⌝ }
 {

@@ -1,4 +1,6 @@
 // The one place where the programs differ: what a line is answered with, and the name that a message begins with.
+use contestlines::print::print_contest_line;
+use contestlines::print::print_contest_unreadable;
 use dispatcher::dispatcher::Dispatcher;
 use joblines::play::answer_job_line;
 use joblines::print::print_job_unreadable;
@@ -16,9 +18,10 @@ ghost use Rattle.joblines.specs.Limits.{jobAnswerMost};
 pub enum Program {
     Session,
     Jobs,
+    Contest,
 }
 
-// The state between two lines. The session program has no jobs: its queues stay empty.
+// The state between two lines. The session program has no jobs: its queues stay empty. The contest program has no state: its dispatcher stays fresh.
 pub struct Player {
     pub program: Program,
     pub dispatcher: Dispatcher,
@@ -79,6 +82,21 @@ fn play_jobs(
     }
 }
 
+// A line of the contest program.
+fn play_contest(d: Dispatcher, line: &[u8], out: &mut [u8]) -> Played
+    requires { ⌜ jobAnswerMost ≤ length (now out) ⌝ }
+    ensures { λ r. ⌜ r .count ≤ jobAnswerMost ⌝ }
+{
+    let count = print_contest_line(line, out);
+    Played {
+        player: Player {
+            program: Program::Contest,
+            dispatcher: d,
+        },
+        count,
+    }
+}
+
 // A line of the program that runs.
 pub fn play_line(
     player: Player,
@@ -97,6 +115,7 @@ pub fn play_line(
     match program {
         Program::Session => play_session(d, line, bytes, marks, space, check, out),
         Program::Jobs => play_jobs(d, line, bytes, marks, space, check, out),
+        Program::Contest => play_contest(d, line, out),
     }
 }
 
@@ -108,6 +127,7 @@ pub fn play_unreadable(program: Program, out: &mut [u8]) -> usize
     match program {
         Program::Session => print_unreadable(out),
         Program::Jobs => print_job_unreadable(out),
+        Program::Contest => print_contest_unreadable(out),
     }
 }
 
@@ -116,6 +136,7 @@ pub fn tell_unread(program: Program) {
     match program {
         Program::Session => io::write_all(STDERR_FILENO, b"session: the input cannot be read\n"),
         Program::Jobs => io::write_all(STDERR_FILENO, b"jobs: the input cannot be read\n"),
+        Program::Contest => io::write_all(STDERR_FILENO, b"contest: the input cannot be read\n"),
     }
     ;
 }
@@ -127,6 +148,9 @@ pub fn tell_unwritten(program: Program) {
             io::write_all(STDERR_FILENO, b"session: the answers cannot be written\n")
         }
         Program::Jobs => io::write_all(STDERR_FILENO, b"jobs: the answers cannot be written\n"),
+        Program::Contest => {
+            io::write_all(STDERR_FILENO, b"contest: the answers cannot be written\n")
+        }
     }
     ;
 }

@@ -1,7 +1,7 @@
 //! What a program plays: sessions, sessions of jobs, or one of the tasks beside the controller.
 
 use crate::mutants::{JOB_MUTANTS, MUTANTS};
-use crate::{generator, lines, table, wear};
+use crate::{contest, generator, lines, table, wear};
 
 #[derive(Clone, Copy, Debug, PartialEq, Eq)]
 pub enum Kind {
@@ -9,13 +9,15 @@ pub enum Kind {
     Jobs,
     Table,
     Wear,
+    Contest,
 }
 
 /// The first word of an invocation that asks for a kind; sessions have none.
-const WORDS: [(&str, Kind); 3] = [
+const WORDS: [(&str, Kind); 4] = [
     ("--jobs", Kind::Jobs),
     ("--table", Kind::Table),
     ("--wear", Kind::Wear),
+    ("--contest", Kind::Contest),
 ];
 
 impl Kind {
@@ -38,6 +40,7 @@ impl Kind {
             Kind::Jobs => lines::run_of_jobs(input, None),
             Kind::Table => table::text(None),
             Kind::Wear => wear::answers(input, None),
+            Kind::Contest => contest::answers(input, None),
         }
     }
 
@@ -48,6 +51,7 @@ impl Kind {
             Kind::Jobs => lines::run_of_jobs(input, Some(*JOB_MUTANTS.get(mutant)?)),
             Kind::Table => table::text(Some(*table::mutants().get(mutant)?)),
             Kind::Wear => wear::answers(input, Some(*wear::MUTANTS.get(mutant)?)),
+            Kind::Contest => contest::answers(input, Some(*contest::MUTANTS.get(mutant)?)),
         })
     }
 
@@ -58,6 +62,7 @@ impl Kind {
             Kind::Jobs => JOB_MUTANTS.len(),
             Kind::Table => table::mutants().len(),
             Kind::Wear => wear::MUTANTS.len(),
+            Kind::Contest => contest::MUTANTS.len(),
         }
     }
 
@@ -69,13 +74,14 @@ impl Kind {
             // Nothing is asked.
             Kind::Table => Vec::new(),
             Kind::Wear => wear::run(seed, lines),
+            Kind::Contest => contest::questions(seed, lines),
         }
     }
 
     /// Whether line n of the answers belongs to line n of the input, and no later line changes it.
     pub fn answers_lines(self) -> bool {
         match self {
-            Kind::Sessions | Kind::Jobs => true,
+            Kind::Sessions | Kind::Jobs | Kind::Contest => true,
             Kind::Table | Kind::Wear => false,
         }
     }

@@ -5,9 +5,11 @@
 //! `machine < SESSION` answers a session, `generate SEED LINES` prints a random one, and
 //! `compare PROGRAM` runs both programs on many and shrinks the first difference. With `--jobs` as
 //! their first word all three do so with sessions of jobs, with `--table` with the table of document
-//! 02's ninth wish, and with `--wear` with runs of the eleventh.
+//! 02's ninth wish, with `--wear` with runs of the eleventh, and with `--contest` with questions of
+//! the twelfth.
 
 pub mod comparison;
+pub mod contest;
 pub mod generator;
 pub mod jobs;
 pub mod kinds;

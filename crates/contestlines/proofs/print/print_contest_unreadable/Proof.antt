@@ -1,0 +1,24 @@
+-- `contestlines::print::print_contest_unreadable` meets its contract: its bytes are given at the start of the space.
+-- Assumes nothing.
+use mathlib.Core.Path.{refl}
+use borrow.Author.Needs.{needs}
+use Rattle.common.proofs.GivenLaws.{given-front}
+use Rattle.contestlines.specs.Print.{contestUnreadableText}
+use Rattle.contestlines.proofs.print.print_contest_unreadable.Statement.{statement}
+use Rattle.contestlines.proofs.print.print_contest_unreadable.Tie as tie
+
+slice-aggregate-give : tie.Need-slice-aggregate-give
+slice-aggregate-give c = search needs
+
+give-requires : tie.Need-give-requires
+give-requires c κs = search needs
+
+same-length : tie.Need-same-length
+same-length c = search needs
+
+returns : tie.Need-returns
+unfolding contestUnreadableText
+returns c = (refl, rw (c .before .before .give .ensures) (given-front contestUnreadableText _))
+
+pub print-contest-unreadable-spec : {M : Type 1} → statement M
+print-contest-unreadable-spec = tie.close (tie.spec slice-aggregate-give give-requires same-length returns)

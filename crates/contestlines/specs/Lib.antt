@@ -1,0 +1,4 @@
+pub mod Characters
+pub mod Limits
+pub mod Line
+pub mod Print

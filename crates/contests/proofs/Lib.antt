@@ -1,0 +1,3 @@
+pub mod ContestLaws
+pub mod Demands
+pub mod WrongAnswers

@@ -1,0 +1,4 @@
+pub mod Contest
+pub mod Bound
+pub mod Answer
+pub mod Interface
