@@ -1,12 +1,12 @@
 -- The three demands, of the calls themselves. 1: `calls-meet-their-contracts` and `refused-calls-change-nothing`. 2: `calls-run-the-machine`: a list of exchanges from a fresh
 -- controller in which every answer is one that the contract of its call's own function allows is the machine's run. 3:
--- `calls-keep-drives-separate`: the drives are separate in any two such lists. And of every such list: `calls-count-their-own-record`, and
+-- `calls-keep-drives-separate`: the drives are separate in any two such lists; `calls-leave-job-order-free`: stores of different drives may be reordered, from any idle state. And of every such list: `calls-count-their-own-record`, and
 -- `calls-order-what-was-asked` and `calls-hand-back-each-record`; of any result: `calls-ask-trusted-retries`.
 -- Assumes nothing.
 pub mod Contracts
 use mathlib.Core.Path.{_≡_, refl, sym, ap, ap₂, subst, subst₂, _∙_}
 use Prim.Native.Nat.{ℕ}
-use mathlib.Core.List.{List, [], _∷_}
+use mathlib.Core.List.{List, [], _∷_, _++_}
 use Rattle.controller.specs.declared.controller.Controller.{Controller}
 use Rattle.controller.specs.Controller.{fresh}
 use Rattle.controller.specs.Records.{Answer}
@@ -14,13 +14,16 @@ use Rattle.controller.specs.Machine.{Call, Exchange, step, run}
 use Rattle.controller.specs.Machine.Call.{result}
 use Rattle.transfers.specs.Results.{Result}
 use Rattle.controller.specs.Refused.{RefusedUnchanged}
+use Rattle.controller.specs.Lists.{after}
 use Rattle.controller.specs.Separation.{Separate}
+use Rattle.controller.specs.JobOrder.{allOf, OrderIsFree}
 use Rattle.controller.specs.Counts.{CountsAreOwn}
 use Rattle.controller.specs.Orders.{OrdersAreAsked}
 use Rattle.controller.specs.Retry.{RetryTrusted}
 use Rattle.controller.specs.Handed.{RecordsAreHanded}
 use Rattle.controller.proofs.RefusedCalls.{steps-refused-unchanged}
 use Rattle.controller.proofs.DrivesAreSeparate.{drives-are-separate}
+use Rattle.controller.proofs.OrderIsFree.{runs, order-is-free}
 use Rattle.controller.proofs.CountsAreOwn.{counts-are-own}
 use Rattle.controller.proofs.OrdersAreAsked.{orders-are-asked}
 use Rattle.controller.proofs.RetriesAreTrusted.{retries-are-trusted}
@@ -86,6 +89,36 @@ runs-are-from-fresh calls = record { start = fresh; begins = refl; goes = runs-a
 pub calls-keep-drives-separate : (xs ys : List Exchange) → FromFresh xs → FromFresh ys → Separate xs ys
 calls-keep-drives-separate xs ys one two =
     subst₂ Separate (sym (calls-run-the-machine xs one)) (sym (calls-run-the-machine ys two)) (drives-are-separate (callsOf xs) (callsOf ys))
+
+-- ---- job order among drives
+
+-- the calls of two lists, one after the other
+made-append : (c : Controller) (xs ys : List Exchange) → Made c (xs ++ ys) → Made c xs × Made (after c xs) ys
+unfolding Made after
+made-append c [] ys made = (tt, made)
+made-append c (x ∷ xs) ys (allowed, made) =
+    let (first, others) = made-append (x .answer .reply .controller) xs ys made in ((allowed, first), others)
+
+unfoldable callsOfAll : List (List Exchange) → List (List Call)
+callsOfAll [] = []
+callsOfAll (xs ∷ others) = callsOf xs ∷ callsOfAll others
+
+made-all-run : (c : Controller) (stores : List (List Exchange)) → Made c (allOf stores) → stores ≡ runs c (callsOfAll stores)
+unfolding allOf runs callsOfAll
+made-all-run c [] made = refl
+made-all-run c (xs ∷ others) made =
+    let (first, rest) = made-append c xs (allOf others) made in
+    let one = made-runs c xs first in
+    ap₂ (λ (l : List Exchange) (m : List (List Exchange)). l ∷ m) one
+    (made-all-run (after c xs) others rest ∙ ap (λ (l : List Exchange). runs (after c l) (callsOfAll others)) one)
+
+-- Stores of different drives may be carried out in any order: all four tracks, densities, gaps and guards end alike. From any idle state.
+pub calls-leave-job-order-free : (c : Controller) (stores others : List (List Exchange))
+    → Made c (allOf stores)
+    → Made c (allOf others)
+    → OrderIsFree c stores others
+calls-leave-job-order-free c stores others one two =
+    subst₂ (OrderIsFree c) (sym (made-all-run c stores one)) (sym (made-all-run c others two)) (order-is-free c (callsOfAll stores) (callsOfAll others))
 
 -- ---- claims over every list, resets and stores that name no drive included
 

@@ -12,12 +12,13 @@ use mathlib.Core.Bool.{true}
 use mathlib.Core.List.{List, [], _∷_, _++_, append-assoc}
 use Rattle.common.proofs.PickLaws.{both-hold}
 use Rattle.status.specs.declared.drives.Drive.{Drive}
+use Rattle.status.specs.Drives.{copyReport}
 use Rattle.operations.specs.declared.store.Store.{Store}
 use Rattle.controller.specs.declared.controller.Controller.{Controller}
 use Rattle.controller.specs.Controller.{fresh}
 use Rattle.controller.specs.Machine.{Call, Exchange, step, run}
 use Rattle.controller.specs.Lists.{lastStore, noStore, after}
-use Rattle.controller.specs.Separation.{Event, Output, eventsOf, historyFrom, outputsFrom, admits, admittedFrom, Separate}
+use Rattle.controller.specs.Separation.{Event, Output, eventsOf, historyFrom, outputsFrom, admits, admittedFrom, EndsAlike, Separate}
 use Rattle.controller.proofs.DrivesAreSeparate.OneDrive.{View, told, gives, toldAll, givesAll}
 use Rattle.controller.proofs.Steps.Resting.{seen}
 use Rattle.controller.proofs.DrivesAreSeparate.Views.{viewOf, InHand}
@@ -42,11 +43,11 @@ gives-append d v (event ∷ events) more =
 -- ---- a whole list
 
 -- the machine of one drive, over the drive's history, ends where the controller has the drive, and gives what the controller gave it
-record Determined (d : ℕ) (last : Store) (c : Controller) (xs : List Exchange) : Type 0 where
-  drive : seen d (after c xs .body) ≡ toldAll (viewOf d last c) (historyFrom d last c xs) .drive
-  given : outputsFrom d last c xs ≡ givesAll d (viewOf d last c) (historyFrom d last c xs)
+pub record Determined (d : ℕ) (last : Store) (c : Controller) (xs : List Exchange) : Type 0 where
+  pub drive : seen d (after c xs .body) ≡ toldAll (viewOf d last c) (historyFrom d last c xs) .drive
+  pub given : outputsFrom d last c xs ≡ givesAll d (viewOf d last c) (historyFrom d last c xs)
 
-determined :
+pub determined :
     (d : ℕ)
     → d ≤ 3
     → (calls : List Call) (last : Store) (c : Controller)
@@ -77,6 +78,16 @@ determined d low (call ∷ calls) last c held admitted =
 
 -- ---- the theorem
 
+-- drives of which the same is seen end alike
+pub seen-alike : (one other : Drive) → copyReport one ≡ copyReport other → EndsAlike one other
+seen-alike one other same =
+    record {
+      track = ap (λ (x : Drive). x .track) same;
+      density = ap (λ (x : Drive). x .density) same;
+      gap = ap (λ (x : Drive). x .gap) same;
+      guard = ap (λ (x : Drive). x .guard) same;
+    }
+
 pub drives-are-separate : (calls others : List Call) → Separate (run fresh calls) (run fresh others)
 unfolding fresh InHand
 drives-are-separate calls others d low admitted-one admitted-two same =
@@ -84,9 +95,6 @@ drives-are-separate calls others d low admitted-one admitted-two same =
     let two = determined d low others noStore fresh tt admitted-two in
     let drive = one .drive ∙ ap (λ (events : List Event). toldAll (viewOf d noStore fresh) events .drive) same ∙ sym (two .drive) in
     record {
-      track = ap (λ (x : Drive). x .track) drive;
-      density = ap (λ (x : Drive). x .density) drive;
-      gap = ap (λ (x : Drive). x .gap) drive;
-      guard = ap (λ (x : Drive). x .guard) drive;
+      ends = seen-alike _ _ drive;
       given = one .given ∙ ap (givesAll d (viewOf d noStore fresh)) same ∙ sym (two .given);
     }

@@ -6,6 +6,9 @@ pub mod Courses
 pub mod Steps
 pub mod RefusedCalls
 pub mod DrivesAreSeparate
+pub mod OrderIsFree
+pub mod RefusedAlike
+pub mod JobOrderCase
 pub mod CountsAreOwn
 pub mod OrdersAreAsked
 pub mod RetriesAreTrusted

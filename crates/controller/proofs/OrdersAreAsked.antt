@@ -310,7 +310,7 @@ ended b operation held drive r space check a before =
     let agrees = before .agrees in
     let was = agrees .drive (b .selected) (agrees .low) in
     rests-comply a _ _ (ending-rests (withAfter b after) operation held)
-    (put-agrees a a b (b .selected) (withGap (currentDrive b) (after .gap)) (agrees .low) refl agrees
+    (put-agrees a a b (b .selected) _ (agrees .low) refl agrees
     (record { report = was .report; track = was .track; density = was .density; guard = was .guard }) (λ d other matches. matches))
 
 results-case : OfResults Complying

@@ -1,8 +1,11 @@
 -- The fresh controller, and what a call hands back (document 01, The link; Turned back).
 -- Assumes nothing.
 use Prim.Native.Nat.{ℕ}
+use mathlib.Core.Bool.{Bool, false}
+use lib.Dec.{eqb}
 use Rattle.status.specs.Drives.{freshDrives}
-use Rattle.link.specs.declared.state.Phase.the-variants.{Collecting}
+use Rattle.link.specs.declared.state.Phase.{Phase}
+use Rattle.link.specs.declared.state.Phase.the-variants.{Collecting, AckOffered, Sending, GoOffered, DataAwaited, ResultAwaited, EndOffered}
 use Rattle.link.specs.declared.state.Action.the-variants.{Nothing}
 use Rattle.link.specs.declared.state.Handed.the-variants.{NoneHanded}
 use Rattle.link.specs.declared.state.Turn.{Turn}
@@ -14,6 +17,19 @@ use Rattle.controller.specs.declared.controller.Transfer.{Transfer}
 -- "Fresh: .. collecting."
 unfoldable pub fresh : Controller
 fresh = record { body = startBody freshDrives; phase = Collecting nothingCollected }
+
+-- "idle .. (nothing collected)": nothing is offered, sent or awaited either
+unfoldable pub isIdleIn : Phase → Bool
+isIdleIn (Collecting s) = eqb (s .length) 0
+isIdleIn (AckOffered s) = false
+isIdleIn (Sending s) = false
+isIdleIn (GoOffered store) = false
+isIdleIn (DataAwaited store) = false
+isIdleIn (ResultAwaited operation store) = false
+isIdleIn (EndOffered interrupt) = false
+
+abbrev pub isIdle : Controller → Bool
+isIdle c = isIdleIn (c .phase)
 
 -- a call that is carried out
 abbrev pub carried : Turn → Reply

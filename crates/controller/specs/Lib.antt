@@ -5,6 +5,7 @@ pub mod Machine
 pub mod Refused
 pub mod Lists
 pub mod Separation
+pub mod JobOrder
 pub mod Counts
 pub mod Orders
 pub mod Retry

@@ -178,13 +178,16 @@ admitted = admittedFrom fresh
 abbrev pub left : ℕ → List Exchange → Drive
 left d xs = driveOf (after fresh xs .body .drives) d
 
--- the drive ends with the same track, density and gap, and "with the same guard as well" (document 02, Wish 7), was given the same motion orders and write images, and delivered the same bytes,
--- all in the same order and byte for byte
+-- a drive ends with the same track, density and gap, and "with the same guard as well" (document 02, Wish 7)
+pub record EndsAlike (one other : Drive) : Type 0 where
+  pub track : one .track ≡ other .track
+  pub density : one .density ≡ other .density
+  pub gap : one .gap ≡ other .gap
+  pub guard : one .guard ≡ other .guard
+
+-- the drive ends alike, was given the same motion orders and write images, and delivered the same bytes, all in the same order and byte for byte
 pub record Agree (d : ℕ) (xs ys : List Exchange) : Type 0 where
-  pub track : left d xs .track ≡ left d ys .track
-  pub density : left d xs .density ≡ left d ys .density
-  pub gap : left d xs .gap ≡ left d ys .gap
-  pub guard : left d xs .guard ≡ left d ys .guard
+  pub ends : EndsAlike (left d xs) (left d ys)
   pub given : outputs d xs ≡ outputs d ys
 
 -- "Two lists are alike for a drive if its history is the same in both": then it ends alike and was given alike

@@ -26,7 +26,8 @@ use Rattle.queues.specs.Jobs.{freshQueues, areSound, queueOf, turnOf, queued, n
 use Rattle.queues.proofs.JobLaws.{Served}
 use Rattle.queues.proofs.WaitingLaws.{waiting, AllKept, fresh-kept, kept-sound, fresh-waiting, queued-same, queued-other, next-first, served-same, served-other}
 use Rattle.dispatcher.specs.declared.dispatcher.Dispatcher.{Dispatcher}
-use Rattle.dispatcher.specs.Dispatcher.{Answer, leave, besideAnswer, passedAnswer, freshDispatcher, isResetStore, isWhole, isIdle, queueRefusal, handOver}
+use Rattle.dispatcher.specs.Dispatcher.{Answer, leave, besideAnswer, passedAnswer, freshDispatcher, isResetStore, isWhole, queueRefusal, handOver}
+use Rattle.controller.specs.Controller.{isIdle}
 use Rattle.dispatcher.specs.Lists.{Call, Exchange, plain, step, run, notRefused}
 use Rattle.dispatcher.specs.Lists.Call.{queue, hand, passed}
 use Rattle.dispatcher.specs.Separation.{ownAnswer, ownExchange, sentAt, sentBy, sentFrom, sent, admitsOwn, admittedFrom, admitted, Separate}

@@ -24,7 +24,8 @@ use Rattle.queues.proofs.JobLaws.{Served}
 use Rattle.queues.proofs.WaitingLaws.{waiting, AllKept, waits-some, queued-same, queued-other, queued-last, next-first, served-same, served-other, served-last}
 use Rattle.queues.proofs.TurnLaws.{away, nearer}
 use Rattle.dispatcher.specs.declared.dispatcher.Dispatcher.{Dispatcher}
-use Rattle.dispatcher.specs.Dispatcher.{Answer, isWhole, isIdle, queueRefusal, handOver}
+use Rattle.dispatcher.specs.Dispatcher.{Answer, isWhole, queueRefusal, handOver}
+use Rattle.controller.specs.Controller.{isIdle}
 use Rattle.dispatcher.specs.Lists.{Call, Exchange, plain, step, run, notRefused, ofTurn, handedBy, handedIn}
 use Rattle.dispatcher.specs.Lists.Call.{queue, hand, passed}
 use Rattle.dispatcher.specs.Fairness.{isHanding, handings, Fair}

@@ -21,7 +21,8 @@ use Rattle.queues.specs.Jobs.{freshQueues, turnOf, queueOf, queued, nextStore, 
 use Rattle.queues.proofs.WaitingLaws.{waiting, AllKept, fresh-kept, fresh-waiting, queued-same, queued-other, queued-kept, next-first, served-same, served-other, served-kept}
 use Rattle.queues.proofs.JobLaws.{Served}
 use Rattle.dispatcher.specs.declared.dispatcher.Dispatcher.{Dispatcher}
-use Rattle.dispatcher.specs.Dispatcher.{Answer, freshDispatcher, isWhole, isIdle, queueRefusal, handOver}
+use Rattle.dispatcher.specs.Dispatcher.{Answer, freshDispatcher, isWhole, queueRefusal, handOver}
+use Rattle.controller.specs.Controller.{isIdle}
 use Rattle.dispatcher.specs.Lists.{Call, Exchange, plain, step, run, after, notRefused, queuedBy, ofTurn, handedBy, queuedIn, handedIn}
 use Rattle.dispatcher.specs.Lists.Call.{queue, hand, passed}
 use Rattle.dispatcher.specs.Order.{InOrder}

@@ -17,7 +17,8 @@ use Rattle.controller.specs.Machine as machine
 use Rattle.queues.specs.Jobs.{areSound, queueOf}
 use Rattle.queues.proofs.JobLaws.{Ranges, sound-ranges}
 use Rattle.dispatcher.specs.declared.dispatcher.Dispatcher.{Dispatcher}
-use Rattle.dispatcher.specs.Dispatcher.{isWhole, isIdleIn, isIdle, queueRefusal, handOver}
+use Rattle.dispatcher.specs.Dispatcher.{isWhole, queueRefusal, handOver}
+use Rattle.controller.specs.Controller.{isIdleIn, isIdle}
 
 -- two tests of which neither holds
 pub neither : (a b : Bool) → (a || b) ≡ false → (a ≡ false) × (b ≡ false)

@@ -19,7 +19,8 @@ use Rattle.queues.specs.Jobs.{areSound, turnOf, queueOf, queued, waits, served}
 use Rattle.queues.proofs.JobLaws.{Served, turn-served}
 use Rattle.dispatcher.specs.declared.dispatcher.Dispatcher.{Dispatcher}
 use Rattle.dispatcher.specs.declared.dispatcher.Dispatched.{Dispatched}
-use Rattle.dispatcher.specs.Dispatcher.{Answer, leave, beside, besideAnswer, answered, leaveTransfer, isWhole, isIdle, queueRefusal, queueCall, handOver, handTurn, handCall, passedAnswer}
+use Rattle.dispatcher.specs.Dispatcher.{Answer, leave, beside, besideAnswer, answered, leaveTransfer, isWhole, queueRefusal, queueCall, handOver, handTurn, handCall, passedAnswer}
+use Rattle.controller.specs.Controller.{isIdle}
 use Rattle.dispatcher.specs.Lists.{Call, Exchange, plain, step, notRefused}
 use Rattle.dispatcher.specs.Lists.Call.{queue, hand, passed}
 use Rattle.dispatcher.proofs.Laws.{whole-ranges, queue-room}

@@ -16,7 +16,8 @@ use Rattle.queues.specs.Jobs.{freshQueues, areSound, queueOf, turnOf}
 use Rattle.queues.proofs.WaitingLaws.{waiting, fresh-waiting}
 use Rattle.dispatcher.specs.declared.dispatcher.Dispatcher.{Dispatcher}
 use Rattle.dispatcher.specs.declared.dispatcher.Dispatched.{Dispatched}
-use Rattle.dispatcher.specs.Dispatcher.{Answer, freshDispatcher, isWhole, isIdle, queueRefusal, queueCall, handTurn, handCall, passedAnswer}
+use Rattle.dispatcher.specs.Dispatcher.{Answer, freshDispatcher, isWhole, queueRefusal, queueCall, handTurn, handCall, passedAnswer}
+use Rattle.controller.specs.Controller.{isIdle}
 use Rattle.dispatcher.specs.Lists.{Call, step}
 use Rattle.dispatcher.specs.Lists.Call.{queue, hand, passed}
 use Rattle.dispatcher.proofs.Laws.{queue-room}

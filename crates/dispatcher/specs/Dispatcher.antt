@@ -2,15 +2,13 @@
 -- last served and passing over empty queues". Its calls, over the machine's.
 -- Assumes nothing.
 use Prim.Native.Nat.{ℕ}
-use mathlib.Core.Bool.{Bool, false, not, _&&_, _||_}
+use mathlib.Core.Bool.{Bool, not, _&&_, _||_}
 use mathlib.Core.List.{List}
 use lib.Dec.{leb, eqb}
 use Rattle.common.specs.Pick.{pick}
 use Rattle.common.specs.Refusals.{done, stateDamaged, notIdle, storeNotTaken, queueFull}
 use Rattle.operations.specs.declared.store.Store.{Store}
 use Rattle.operations.specs.Store.{namesDrive, askedFor}
-use Rattle.link.specs.declared.state.Phase.{Phase}
-use Rattle.link.specs.declared.state.Phase.the-variants.{Collecting, AckOffered, Sending, GoOffered, DataAwaited, ResultAwaited, EndOffered}
 use Rattle.link.specs.declared.state.Action.the-variants.{Nothing}
 use Rattle.link.specs.declared.state.Handed.the-variants.{NoneHanded}
 use Rattle.transfers.specs.Data.{Host}
@@ -18,7 +16,7 @@ use Rattle.transfers.specs.Results.{Result}
 use Rattle.controller.specs.declared.controller.Controller.{Controller}
 use Rattle.controller.specs.declared.controller.Reply.{Reply}
 use Rattle.controller.specs.declared.controller.Transfer.{Transfer}
-use Rattle.controller.specs.Controller.{fresh}
+use Rattle.controller.specs.Controller.{fresh, isIdle}
 use Rattle.controller.specs.Records as records
 use Rattle.controller.specs.Machine as machine
 use Rattle.controller.specs.Separation.{asksReset}
@@ -77,19 +75,6 @@ besideAnswer queues a = record { reply = beside queues (a .reply); bytes = a .by
 -- "Refusal 1 gains a queue's length, 0-8, and the last job served, 0-3"
 unfoldable pub isWhole : Dispatcher → Bool
 isWhole d = areSound (d .queues) && not (machine.isDamaged (d .controller))
-
--- idle as for a tick: nothing is collected
-unfoldable pub isIdleIn : Phase → Bool
-isIdleIn (Collecting s) = eqb (s .length) 0
-isIdleIn (AckOffered s) = false
-isIdleIn (Sending s) = false
-isIdleIn (GoOffered store) = false
-isIdleIn (DataAwaited store) = false
-isIdleIn (ResultAwaited operation store) = false
-isIdleIn (EndOffered interrupt) = false
-
-abbrev pub isIdle : Controller → Bool
-isIdle c = isIdleIn (c .phase)
 
 -- "a reset store": one of operation 0
 unfoldable pub isResetStore : Store → Bool

@@ -28,7 +28,8 @@ ghost use mathlib.Core.Bool.{true};
 ghost use mathlib.Core.Path.{_≡_};
 ghost use Prim.Native.Nat.{_<_};
 ghost use Rattle.queues.specs.Jobs.{waits};
-ghost use Rattle.dispatcher.specs.Dispatcher.{isWhole, isIdle, isResetStore, queueRefusal, queueCall, handOver, handCall};
+ghost use Rattle.dispatcher.specs.Dispatcher.{isWhole, isResetStore, queueRefusal, queueCall, handOver, handCall};
+ghost use Rattle.controller.specs.Controller.{isIdle};
 
 // Whether every field is in range, those of the controller and those of the queues.
 pub fn is_whole(d: Dispatcher) -> bool

@@ -52,7 +52,7 @@ module _ (d : ℕ) (low : d ≤ 3) (last : Store) (c : Controller) (n r : ℕ) w
       n ≤ 3
       → InHand last (c .body .selected) (c .phase)
       → Follows d (viewOf d last c) last c (record { call = report n r; answer = plain (carried (reportNoted c n r)) })
-  unfolding reportNoted eventOf transferOf ordersFor told gives withReport
+  unfolding eventOf transferOf ordersFor told gives withReport
   report-follows within held =
       by-test (eqb n d)
       (λ same. does-follows d last c _ _ (reportCame r) (pick-yes (reportCame r ∷ []) [] same)

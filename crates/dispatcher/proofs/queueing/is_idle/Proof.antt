@@ -10,7 +10,7 @@ use denote.Enum.Declared.{tagOf}
 use Rattle.link.specs.declared.state.Phase.{Phase}
 use Rattle.link.specs.declared.state.Phase.the-variants.{Collecting, AckOffered, Sending, GoOffered, DataAwaited, ResultAwaited, EndOffered}
 use Rattle.link.proofs.state.Phase.{the-type}
-use Rattle.dispatcher.specs.Dispatcher.{isIdleIn}
+use Rattle.controller.specs.Controller.{isIdleIn}
 use Rattle.dispatcher.proofs.queueing.is_idle.Statement.{statement}
 use Rattle.dispatcher.proofs.queueing.is_idle.Tie as tie
 
