@@ -5,6 +5,7 @@
 //! of the computer falls on all.
 
 mod byte_at_a_time;
+mod isal;
 mod library;
 mod records;
 mod sessions;
@@ -23,6 +24,8 @@ fn main() -> ExitCode {
         return ExitCode::from(2);
     };
     records::print_table();
+    println!();
+    records::print_sizes();
     println!();
     ended(sessions::print_table(session, machine, file.as_ref()).and_then(|()| {
         println!();

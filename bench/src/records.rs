@@ -1,6 +1,8 @@
-//! Times the library on records of 65,535 bytes beside two programs that fold one byte at a time.
+//! Times the library on records beside two programs that fold one byte at a time, and its check fold
+//! beside ISA-L's, where that is installed.
 
 use crate::byte_at_a_time::{by_index, by_iterator};
+use crate::isal;
 use crate::library;
 use records_tests::random::Random;
 use records_tests::{plain, Pass};
@@ -9,10 +11,13 @@ use std::time::Instant;
 
 const COUNT: usize = 65_535;
 const PLACES: usize = COUNT.div_ceil(256) + 2;
-const IMAGE: usize = 2 + 256 * PLACES;
+const IMAGE: usize = image_length(COUNT);
 const ROUNDS: usize = 3000;
-/// Calls in one timing: long enough for the clock, short enough to fall between two interruptions.
-const CALLS: usize = 20;
+/// Bytes of the calls in one timing: long enough for the clock, short enough to fall between two
+/// interruptions.
+const TIMED: usize = 20 * COUNT;
+/// The sizes of record whose cost for each byte is printed.
+const SIZES: [usize; 5] = [256, 1024, 4096, 16_384, COUNT];
 
 type Build = fn(&[u8], u8, &mut [u8]) -> u32;
 type Restore = fn(&[u8], &[u8], &mut [u8]) -> u32;
@@ -48,6 +53,11 @@ const PROGRAMS: [Program; 3] = [
     },
 ];
 
+/// The length of the GCR image of a record.
+const fn image_length(count: usize) -> usize {
+    2 + 256 * (count.div_ceil(256) + 2)
+}
+
 /// Places of the lent space that take turns: how two buffers lie to each other can double a time.
 const STARTS: usize = 64;
 const STEP: usize = 64;
@@ -56,6 +66,8 @@ const STEP: usize = 64;
 struct Job<'a> {
     name: &'a str,
     calls: Vec<Call<'a>>,
+    /// Calls in one timing.
+    repeats: usize,
     length: usize,
     space: Vec<u8>,
     /// Nanoseconds of a call, the least of all rounds, for each program.
@@ -66,6 +78,7 @@ impl<'a> Job<'a> {
     fn of(name: &'a str, length: usize, calls: Vec<Call<'a>>) -> Self {
         Job {
             name,
+            repeats: TIMED / COUNT,
             length,
             space: vec![0; length + STARTS * STEP],
             least: vec![f64::INFINITY; calls.len()],
@@ -77,7 +90,10 @@ impl<'a> Job<'a> {
         let with = |Program { build, .. }| -> Call<'a> {
             Box::new(move |image| build(black_box(record), black_box(density), image))
         };
-        Job::of(name, IMAGE, PROGRAMS.map(with).into())
+        Job {
+            repeats: TIMED / record.len(),
+            ..Job::of(name, image_length(record.len()), PROGRAMS.map(with).into())
+        }
     }
 
     fn restoring(name: &'a str, image: &'a [u8], marks: &'a [u8]) -> Self {
@@ -102,10 +118,10 @@ impl<'a> Job<'a> {
         let start = STEP * (round % STARTS);
         let space = &mut self.space[start..start + self.length];
         let begun = Instant::now();
-        for _ in 0..CALLS {
+        for _ in 0..self.repeats {
             assert_eq!((self.calls[program])(black_box(space)), 0);
         }
-        let took = begun.elapsed().as_nanos() as f64 / CALLS as f64;
+        let took = begun.elapsed().as_nanos() as f64 / self.repeats as f64;
         self.least[program] = self.least[program].min(took);
     }
 }
@@ -214,6 +230,34 @@ fn print_row(job: &str, least: &[f64]) {
     );
 }
 
+/// The check fold, by what GCR costs a builder more than MFM.
+fn folds(gcr: &Job, mfm: &Job) -> Vec<f64> {
+    (gcr.least.iter().zip(&mfm.least))
+        .map(|(gcr, mfm)| (gcr - mfm).max(1.0))
+        .collect()
+}
+
+/// Nanoseconds of ISA-L's check fold of a record, the least of all rounds, where it is installed.
+fn time_isal(record: &[u8]) -> Option<f64> {
+    let mut fold = isal::Fold::of(record)?;
+    let mut image = vec![0; image_length(record.len())];
+    assert_eq!(library::build(record, 1, &mut image), 0);
+    assert!(
+        fold.checks().concat() == image[image.len() - 512..],
+        "ISA-L: other check bytes"
+    );
+    let repeats = TIMED / record.len();
+    let mut least = f64::INFINITY;
+    for _ in 0..ROUNDS {
+        let begun = Instant::now();
+        for _ in 0..repeats {
+            black_box(&mut fold).run();
+        }
+        least = least.min(begun.elapsed().as_nanos() as f64 / repeats as f64);
+    }
+    Some(least)
+}
+
 pub fn print_table() {
     let example = example();
     expect_agreement(&example);
@@ -243,13 +287,56 @@ pub fn print_table() {
     );
     println!("|---|---:|---:|---:|---:|---:|");
     let [gcr, mfm, others @ ..] = &jobs;
-    let folds: Vec<f64> = (gcr.least.iter().zip(&mfm.least))
-        .map(|(gcr, mfm)| (gcr - mfm).max(1.0))
-        .collect();
     print_row(gcr.name, &gcr.least);
     print_row(mfm.name, &mfm.least);
-    print_row("check fold (GCR less MFM)", &folds);
+    print_row("check fold (GCR less MFM)", &folds(gcr, mfm));
     for job in others {
         print_row(job.name, &job.least);
+    }
+}
+
+/// A figure, or a dash where there is none.
+fn figure(value: Option<f64>) -> String {
+    value.map_or("-".into(), |value| format!("{value:.3}"))
+}
+
+/// What a byte costs, over sizes of record, and ISA-L beside it.
+pub fn print_sizes() {
+    println!(
+        "| bytes | builder, ns a byte | check fold, ns a byte | by iterator : library, fold \
+         | ISA-L : library, fold | by iterator, fold, ns a byte | ISA-L, ns a byte |"
+    );
+    println!("|---:|---:|---:|---:|---:|---:|---:|");
+    const ITERATOR: usize = PROGRAMS.len() - 1;
+    let mut installed = false;
+    for size in SIZES {
+        let record = random_bytes(size);
+        let mut jobs = [
+            Job::building("GCR", &record, 1),
+            Job::building("MFM", &record, 0),
+        ];
+        for round in 0..ROUNDS {
+            for job in &mut jobs {
+                job.time(0, round);
+                job.time(ITERATOR, round);
+            }
+        }
+        let folds = folds(&jobs[0], &jobs[1]);
+        let isal = time_isal(&record);
+        installed |= isal.is_some();
+        let each = size as f64;
+        println!(
+            "| {size} | {:.3} | {:.3} | {:.2} | {} | {:.3} | {} |",
+            jobs[0].least[0] / each,
+            folds[0] / each,
+            folds[ITERATOR] / folds[0],
+            figure(isal.map(|time| time / folds[0])),
+            folds[ITERATOR] / each,
+            figure(isal.map(|time| time / each)),
+        );
+    }
+    if !installed {
+        println!();
+        println!("ISA-L is not installed (Debian's libisal-dev): no figures of its xor_gen.");
     }
 }

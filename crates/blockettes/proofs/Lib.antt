@@ -1,5 +1,6 @@
 pub mod BitXor
 pub mod XorLaws
+pub mod Several
 pub mod Others
 pub mod Padded
 pub mod Checked

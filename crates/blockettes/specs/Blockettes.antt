@@ -32,6 +32,10 @@ ofParity n parity = (n + 1 - parity) / 2
 unfoldable pub foldParity : List ℕ → List ℕ → ℕ → ℕ → List ℕ
 foldParity start bytes n parity = xorAll start (λ t. numbered bytes n (2 * t + parity)) (ofParity n parity)
 
+-- `start` with `count` blockettes put in by XOR, every second from a place upward: the order in which they are taken.
+unfoldable pub foldUpward : List ℕ → List ℕ → ℕ → ℕ → List ℕ
+foldUpward start bytes first count = xorAll start (λ t. blocketteAt bytes (first + 2 * t)) count
+
 -- "check blockette 1, the XOR of the odd ones, and 0, of the even ones"
 unfoldable pub checkOf : List ℕ → ℕ → ℕ → List ℕ
 checkOf bytes n parity = foldParity (replicate blocketteLength 0) bytes n parity

@@ -522,13 +522,17 @@ fn number(field: &[u8], mutant: Option<Mutant>) -> Option<u64> {
 // Questions
 // ---------------------------------------------------------------------------------------------
 
-/// Every question within the limits.
-pub fn whole_range() -> Vec<Position> {
+/// Every question of these numbers, from both gaps.
+fn questions_of(
+    writes: impl IntoIterator<Item = u8> + Clone,
+    stores: impl IntoIterator<Item = u8> + Clone,
+    spoilings: impl IntoIterator<Item = u8> + Clone,
+) -> Vec<Position> {
     let mut questions = Vec::new();
     for gap in [Gap::Proper, Gap::Improper] {
-        for writes in 0..=WRITES {
-            for stores in 0..=STORES {
-                for spoilings in 0..=SPOILINGS {
+        for writes in writes.clone() {
+            for stores in stores.clone() {
+                for spoilings in spoilings.clone() {
                     questions.push(Position {
                         gap,
                         writes,
@@ -542,26 +546,16 @@ pub fn whole_range() -> Vec<Position> {
     questions
 }
 
+/// Every question within the limits.
+pub fn whole_range() -> Vec<Position> {
+    questions_of(0..=WRITES, 0..=STORES, 0..=SPOILINGS)
+}
+
 /// Questions about the limits, on both sides of each.
 pub fn about_the_limits() -> Vec<Position> {
     const TO_8: [u8; 11] = [0, 1, 7, 8, 9, 10, 16, 32, 127, 128, 255];
     const TO_32: [u8; 11] = [0, 1, 8, 31, 32, 33, 34, 64, 127, 128, 255];
-    let mut questions = Vec::new();
-    for gap in [Gap::Proper, Gap::Improper] {
-        for writes in TO_8 {
-            for stores in TO_32 {
-                for spoilings in TO_8 {
-                    questions.push(Position {
-                        gap,
-                        writes,
-                        stores,
-                        spoilings,
-                    });
-                }
-            }
-        }
-    }
-    questions
+    questions_of(TO_8, TO_32, TO_8)
 }
 
 /// Lines that cannot be read.

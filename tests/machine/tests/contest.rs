@@ -1,13 +1,14 @@
 //! Driver against tape: document 02's twelfth wish, by its sentences and point 12.1 of READING-02.md.
 
+mod common;
+
+use common::compared::{hold_to_stored, Comparison};
 use machine::contest::{self, about_the_limits, answers, whole_range};
 use machine::contest::{
     Answer, Gap, Mutant, Position, Refused, Search, Store, MUTANTS, UNREADABLE,
 };
 use machine::kinds::Kind;
 use std::collections::BTreeSet;
-use std::path::Path;
-use std::process::Command;
 
 /// As tests/run compares them.
 const SESSIONS: u64 = 50;
@@ -203,25 +204,7 @@ const STORED: [(&str, &str); 14] = [
 
 #[test]
 fn the_stored_questions() {
-    let folder = Path::new(env!("CARGO_MANIFEST_DIR")).join("../../sessions/contest");
-    let there: BTreeSet<String> = std::fs::read_dir(&folder)
-        .unwrap()
-        .map(|file| file.unwrap().file_name().into_string().unwrap())
-        .collect();
-    let listed: BTreeSet<String> = STORED
-        .iter()
-        .flat_map(|(name, _)| [format!("{name}.session"), format!("{name}.answers")])
-        .collect();
-    assert_eq!(there, listed);
-    for (name, why) in STORED {
-        let questions = std::fs::read(folder.join(format!("{name}.session"))).unwrap();
-        let stored = std::fs::read(folder.join(format!("{name}.answers"))).unwrap();
-        assert_eq!(
-            String::from_utf8_lossy(&answers(&questions, None)),
-            String::from_utf8_lossy(&stored),
-            "{name}: {why}"
-        );
-    }
+    hold_to_stored("contest", &STORED, |questions| answers(questions, None));
 }
 
 #[test]
@@ -269,53 +252,25 @@ fn each_wrong_rule_of_the_contest_is_found_in_the_whole_range() {
     }
 }
 
-/// What the comparison says of the machine in the program's place, and the questions that it prints.
-fn compare(options: &[&str], arguments: &[&str]) -> (Option<i32>, String, Vec<u8>) {
-    let output = Command::new(env!("CARGO_BIN_EXE_compare"))
-        .args(["--contest", env!("CARGO_BIN_EXE_machine")])
-        .args(["--lines", &LINES.to_string()])
-        .args(options)
-        .args(["--", "--contest"])
-        .args(arguments)
-        .output()
-        .unwrap();
-    let heading = b"to be replayed:\n";
-    let at = output
-        .stdout
-        .windows(heading.len())
-        .position(|window| window == heading);
-    let questions = at.map_or(Vec::new(), |at| {
-        output.stdout[at + heading.len()..].to_vec()
-    });
-    let text = output.stdout[..at.unwrap_or(output.stdout.len())].to_vec();
-    (
-        output.status.code(),
-        String::from_utf8_lossy(&text).into_owned(),
-        questions,
-    )
-}
+const COMPARISON: Comparison = Comparison {
+    kind: Kind::Contest,
+    word: "--contest",
+    lines: LINES,
+};
 
 #[test]
 fn a_right_program_is_no_difference() {
     let sessions = SESSIONS.to_string();
-    let (status, text, _) = compare(&["--sessions", &sessions], &[]);
-    assert_eq!(status, Some(0), "{text}");
+    let said = COMPARISON.run(&["--sessions", &sessions], &[]);
+    assert_eq!(said.status, Some(0), "{}", said.text);
     let lines = 5346 + 2 * 11 * 11 * 11 + 2 * UNREADABLE.len() + 1 + 47 * LINES;
     let told = format!("compared {sessions} sessions, {lines} lines: no difference\n");
-    assert_eq!(text, told);
+    assert_eq!(said.text, told);
 }
 
-/// By the program that tests/run runs, in as many sessions.
 #[test]
 fn each_wrong_program_is_found() {
-    let sessions = SESSIONS.to_string();
-    for (index, mutant) in MUTANTS.iter().enumerate() {
-        let number = (index + 1).to_string();
-        let options = ["--sessions", &sessions, "--shrink", "0"];
-        let (status, text, _) = compare(&options, &["--mutant", &number]);
-        assert_eq!(status, Some(1), "{mutant:?}: {text}");
-        assert!(text.starts_with("seed "), "{mutant:?}: {text}");
-    }
+    COMPARISON.finds_each(&MUTANTS, SESSIONS);
 }
 
 /// A question stands for itself, so one is left of a difference.
@@ -326,13 +281,10 @@ fn a_difference_is_shrunk_to_one_question() {
         Mutant::FirstExchanged,
         Mutant::Signs,
     ] {
-        let index = MUTANTS.iter().position(|&one| one == mutant).unwrap();
-        let number = (index + 1).to_string();
-        let (status, text, questions) = compare(&["--shrink", "30"], &["--mutant", &number]);
-        assert_eq!(status, Some(1), "{mutant:?}: {text}");
-        let wrong = Kind::Contest.wrong(&questions, index).unwrap();
-        assert_ne!(Kind::Contest.right(&questions), wrong);
-        let lines = questions.iter().filter(|&&byte| byte == b'\n').count();
-        assert_eq!(lines, 1, "{mutant:?}");
+        assert_eq!(
+            COMPARISON.lines_left(&MUTANTS, mutant, "30"),
+            1,
+            "{mutant:?}"
+        );
     }
 }

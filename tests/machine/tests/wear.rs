@@ -1,12 +1,13 @@
 //! A moving view of a cartridge: document 02's eleventh wish, by its sentences and the points of READING-02.md.
 
+mod common;
+
+use common::compared::{hold_to_stored, Comparison};
 use machine::generator::Random;
 use machine::kinds::Kind;
 use machine::wear::{self, answers, view, Mutant, Record, Refusal, View};
 use machine::wear::{FIXED, MUTANTS, RUN_LIMIT, SPACE_MUTANTS};
 use std::collections::BTreeSet;
-use std::path::Path;
-use std::process::Command;
 
 /// As tests/run compares them.
 const RUNS: u64 = 600;
@@ -299,25 +300,7 @@ const STORED: [(&str, &str); 28] = [
 
 #[test]
 fn the_stored_runs() {
-    let folder = Path::new(env!("CARGO_MANIFEST_DIR")).join("../../sessions/wear");
-    let there: BTreeSet<String> = std::fs::read_dir(&folder)
-        .unwrap()
-        .map(|file| file.unwrap().file_name().into_string().unwrap())
-        .collect();
-    let listed: BTreeSet<String> = STORED
-        .iter()
-        .flat_map(|(name, _)| [format!("{name}.session"), format!("{name}.answers")])
-        .collect();
-    assert_eq!(there, listed);
-    for (name, why) in STORED {
-        let run = std::fs::read(folder.join(format!("{name}.session"))).unwrap();
-        let stored = std::fs::read(folder.join(format!("{name}.answers"))).unwrap();
-        assert_eq!(
-            String::from_utf8_lossy(&answers(&run, None)),
-            String::from_utf8_lossy(&stored),
-            "{name}: {why}"
-        );
-    }
+    hold_to_stored("wear", &STORED, |run| answers(run, None));
 }
 
 /// All widths, all answers and long runs come up in the runs that are compared.
@@ -399,64 +382,32 @@ fn each_wrong_rule_of_the_space_is_found() {
     assert_eq!(left, []);
 }
 
-/// What the comparison says of the machine in the program's place, and the run that it prints.
-fn compare(options: &[&str], arguments: &[&str]) -> (Option<i32>, String, Vec<u8>) {
-    let output = Command::new(env!("CARGO_BIN_EXE_compare"))
-        .args(["--wear", env!("CARGO_BIN_EXE_machine")])
-        .args(["--lines", &LONGEST.to_string()])
-        .args(options)
-        .args(["--", "--wear"])
-        .args(arguments)
-        .output()
-        .unwrap();
-    let heading = b"to be replayed:\n";
-    let at = output
-        .stdout
-        .windows(heading.len())
-        .position(|window| window == heading);
-    let run = at.map_or(Vec::new(), |at| {
-        output.stdout[at + heading.len()..].to_vec()
-    });
-    let text = output.stdout[..at.unwrap_or(output.stdout.len())].to_vec();
-    (
-        output.status.code(),
-        String::from_utf8_lossy(&text).into_owned(),
-        run,
-    )
-}
+const COMPARISON: Comparison = Comparison {
+    kind: Kind::Wear,
+    word: "--wear",
+    lines: LONGEST,
+};
 
 #[test]
 fn a_right_program_is_no_difference() {
-    let (status, text, _) = compare(&["--seed", "95", "--sessions", "20"], &[]);
-    assert_eq!(status, Some(0), "{text}");
-    assert!(text.starts_with("compared 20 sessions, "), "{text}");
+    let said = COMPARISON.run(&["--seed", "95", "--sessions", "20"], &[]);
+    assert_eq!(said.status, Some(0), "{}", said.text);
+    assert!(
+        said.text.starts_with("compared 20 sessions, "),
+        "{}",
+        said.text
+    );
 }
 
-/// By the program that tests/run runs, in as many runs.
 #[test]
 fn each_wrong_program_is_found() {
-    let runs = RUNS.to_string();
-    for (index, mutant) in MUTANTS.iter().enumerate() {
-        let number = (index + 1).to_string();
-        let options = ["--sessions", &runs, "--shrink", "0"];
-        let (status, text, _) = compare(&options, &["--mutant", &number]);
-        assert_eq!(status, Some(1), "{mutant:?}: {text}");
-        assert!(text.starts_with("seed "), "{mutant:?}: {text}");
-    }
+    COMPARISON.finds_each(&MUTANTS, RUNS);
 }
 
 #[test]
 fn a_difference_is_shrunk() {
     for mutant in [Mutant::LastWithMost, Mutant::Decimal, Mutant::OldestLate] {
-        let index = MUTANTS.iter().position(|&one| one == mutant).unwrap();
-        let number = (index + 1).to_string();
-        let (status, text, run) = compare(&["--shrink", "20"], &["--mutant", &number]);
-        assert_eq!(status, Some(1), "{mutant:?}: {text}");
-        assert_ne!(
-            Kind::Wear.right(&run),
-            Kind::Wear.wrong(&run, index).unwrap()
-        );
-        let lines = run.iter().filter(|&&byte| byte == b'\n').count();
+        let lines = COMPARISON.lines_left(&MUTANTS, mutant, "20");
         assert!(lines < 80, "{mutant:?}: {lines} lines");
     }
 }

@@ -1,6 +1,8 @@
 //! A session that a test goes through line by line.
 #![allow(dead_code)] // Each test file uses its part of this.
 
+pub mod compared;
+
 use machine::lines::Session;
 
 pub struct Bench(pub Session);
