@@ -50,6 +50,7 @@ cp "$root/tests/fuzz" tree/tests/
 while IFS=: read -r crate _; do
     case $crate in [a-z]*) mkdir -p "tree/crates/$crate/must-fail" && touch "tree/crates/$crate/must-fail/wrong.edit" ;; esac
 done <tree/crates.txt
+for crate in jobs wear contest; do cp "$root/crates/$crate/stdin" "tree/crates/$crate/"; done
 crates=$(grep -c '^[a-z]' tree/crates.txt)
 
 # The crates of the repository that a crate stands on, itself included; the kit's libraries are not among them.
@@ -504,6 +505,15 @@ not_typed() {
 fresh
 with_rt tree/tools/build session
 check "session: the example, each line beside its answer" example_without_input
+# the stand-in's program answers what it can: what counts is the command that the example names
+example_names() { # WORD
+    with_rt tree/ctc "$1"
+    ended 0 || return
+    grep -qE "of your own: .*/ctc $1 (-|FILE)\$" said || no "$(tail -n 1 said)"
+}
+check "ctc jobs: the example names its own command" example_names jobs
+check "ctc wear: the example names its own command" example_names wear
+check "ctc contest: the example names its own command" example_names contest
 check "session: the example at a terminal" example_at_terminal
 check "session: at a terminal one line says how to type and how to end" typed
 check "session: elsewhere nothing but the answers" not_typed
