@@ -22,7 +22,7 @@
 
 enum { STATUS_DONE = 0, STATUS_FAILED = 1, STATUS_USAGE = 2 };
 
-/* The root script takes both texts from here, to answer before the library is there. */
+/* The root script takes both texts from here, to print them before the library is there. */
 static const char usage[] =
     "usage: ctc-record build DENSITY BYTES-FILE IMAGE-FILE [PLACE]\n"
     "       ctc-record bytes DENSITY IMAGE-FILE BYTES-FILE\n"
@@ -663,7 +663,7 @@ static int show(const char *image_path, uint8_t density, const char *marks_path)
     return STATUS_DONE;
 }
 
-/* Answers by the words alone where they are wrong; the root script has the same rules. */
+/* Answers by the words alone where they are wrong. */
 static int run(int count, char **words)
 {
     const char *verb = count > 1 ? words[1] : "";

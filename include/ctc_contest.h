@@ -7,9 +7,9 @@
  * proper; a spoiled one costs its store, finishes nothing, and leaves the gap
  * improper. A skip reverse costs a store, always works, and makes the gap proper. The
  * driver forces all writes if he can finish them however the tape answers.
- * Link with libcontests.a (x86-64):
+ * Link with libcontest.a (x86-64):
  *
- *     cc -I include tool.c target/staticlib/libcontests.a
+ *     cc -I include tool.c target/staticlib/libcontest.a
  *
  * Any value of any argument is taken: what is above its limit is refused. Nothing is
  * kept between calls, so several threads may call at once.

@@ -29,10 +29,14 @@ differ-assoc (suc (suc x)) y z hx hy hz = absurd (omega arith)
 
 -- the digits of an XOR
 xor-half : (a b : ℕ) → bitXor a b / 2 ≡ bitXor (a / 2) (b / 2)
-xor-half a b = ap (λ (x : ℕ). x / 2) (xor-step a b) ∙ digits-div (bitXor (a / 2) (b / 2)) (differ-digit (a % 2) (b % 2) (digit a) (digit b))
+xor-half a b =
+    ap (λ (x : ℕ). x / 2) (xor-step a b)
+    ∙ digits-div (bitXor (a / 2) (b / 2)) (differ-digit (a % 2) (b % 2) (digit a) (digit b))
 
 xor-odd : (a b : ℕ) → bitXor a b % 2 ≡ differ (a % 2) (b % 2)
-xor-odd a b = ap (λ (x : ℕ). x % 2) (xor-step a b) ∙ digits-mod (bitXor (a / 2) (b / 2)) (differ-digit (a % 2) (b % 2) (digit a) (digit b))
+xor-odd a b =
+    ap (λ (x : ℕ). x % 2) (xor-step a b)
+    ∙ digits-mod (bitXor (a / 2) (b / 2)) (differ-digit (a % 2) (b % 2) (digit a) (digit b))
 
 pub xor-assoc : (a b c : ℕ) → bitXor (bitXor a b) c ≡ bitXor a (bitXor b c)
 xor-assoc a =

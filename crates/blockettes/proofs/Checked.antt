@@ -1,4 +1,5 @@
--- Blockettes with their two check blockettes behind them: those of a parity cancel out, so the others of its parity give each of them.
+-- Blockettes with their two check blockettes behind them: those of a parity cancel out, so the others of its parity
+-- give each of them.
 -- Assumes nothing.
 use mathlib.Core.Path.{_≡_, sym, ap, _∙_}
 use mathlib.Core.List.{List, _++_, append-assoc}
@@ -9,13 +10,15 @@ use lib.ListN.{length, take, drop, getD, replicate, length-append, length-take, 
 use lib.Seq.{take-all, take-append-le, drop-append-le, drop-at, getD-take, getD-drop}
 use Rattle.blockettes.specs.Xor.{_⊕_, xorAll}
 use Rattle.blockettes.specs.Blockettes.{blocketteAt, numbered, ofParity, foldParity, checkOf, othersOf}
-use Rattle.blockettes.proofs.XorLaws.{⊕-zeros, zeros-⊕, xorAll-length, xorAll-start, xorAll-first, xorAll-twice, xorAll-same}
+use Rattle.blockettes.proofs.XorLaws.{⊕-zeros, zeros-⊕, xorAll-length, xorAll-start, xorAll-first, xorAll-twice}
+use Rattle.blockettes.proofs.XorLaws.{xorAll-same}
 use Rattle.blockettes.proofs.Others.{others-by-all, others-length}
 
 -- ---- one blockette
 
 -- a blockette that is there has 256 bytes
-pub blockette-length : (bytes : List ℕ) (place : ℕ) → 256 * place + 256 ≤ length bytes → length (blocketteAt bytes place) ≡ 256
+pub blockette-length : (bytes : List ℕ) (place : ℕ) → 256 * place + 256 ≤ length bytes
+    → length (blocketteAt bytes place) ≡ 256
 unfolding blocketteAt
 blockette-length bytes place h = simp (length-take, length-drop) (omega arith)
 
@@ -24,11 +27,13 @@ pub blockette-at : (bytes : List ℕ) (i : ℕ) → getD (blocketteAt bytes (i /
 unfolding blocketteAt
 blockette-at bytes i =
     let place : 256 * (i / 256) + i % 256 ≡ i = omega arith in
-    getD-take 256 (drop (256 * (i / 256)) bytes) (i % 256) 0 (omega arith) ∙ getD-drop (256 * (i / 256)) bytes (i % 256) 0
+    getD-take 256 (drop (256 * (i / 256)) bytes) (i % 256) 0 (omega arith)
+    ∙ getD-drop (256 * (i / 256)) bytes (i % 256) 0
     ∙ ap (λ (k : ℕ). getD bytes k 0) place
 
 -- what is put behind a blockette does not change it
-blockette-before : (a b : List ℕ) (place : ℕ) → 256 * place + 256 ≤ length a → blocketteAt (a ++ b) place ≡ blocketteAt a place
+blockette-before : (a b : List ℕ) (place : ℕ) → 256 * place + 256 ≤ length a
+    → blocketteAt (a ++ b) place ≡ blocketteAt a place
 unfolding blocketteAt
 blockette-before a b place h =
     ap (take 256) (drop-append-le (256 * place) a b (omega arith))
@@ -73,14 +78,16 @@ module _ (bytes : List ℕ) (n : ℕ) (full : length bytes ≡ 256 * n) where
       ∙ blockette-last (bytes ++ one) (checkOf bytes n 0) (n + 1 - 0) front (check-length bytes n 0)
   checked-check (suc zero) h =
       let one = checkOf bytes n 1 in
-      let here : 256 * (n + 1 - 1) + 256 ≤ length (bytes ++ one) = simp (length-append, check-length, full) (omega arith) in
+      let here : 256 * (n + 1 - 1) + 256 ≤ length (bytes ++ one) = simp (length-append, check-length, full)
+      (omega arith) in
       ap (λ (l : List ℕ). blocketteAt l (n + 1 - 1)) (sym (append-assoc bytes one (checkOf bytes n 0)))
       ∙ blockette-before (bytes ++ one) (checkOf bytes n 0) (n + 1 - 1) here
       ∙ blockette-last bytes one (n + 1 - 1) (full ∙ omega arith) (check-length bytes n 1)
   checked-check (suc (suc parity)) h = absurd (omega arith)
 
   -- the first of a parity is its check blockette
-  checked-first : (parity : ℕ) → parity < 2 → numbered (checked bytes n) (n + 2) (2 * 0 + parity) ≡ checkOf bytes n parity
+  checked-first : (parity : ℕ) → parity < 2
+      → numbered (checked bytes n) (n + 2) (2 * 0 + parity) ≡ checkOf bytes n parity
   unfolding numbered
   checked-first parity h =
       let place : n + 2 - 1 - (2 * 0 + parity) ≡ n + 1 - parity = omega arith in
@@ -95,7 +102,8 @@ module _ (bytes : List ℕ) (n : ℕ) (full : length bytes ≡ 256 * n) where
       ap (blocketteAt (checked bytes n)) place ∙ checked-data (n - 1 - (2 * t + parity)) (omega arith)
 
   -- all blockettes of a parity, check blockette included
-  parity-cancels : (parity : ℕ) → parity < 2 → foldParity (replicate 256 0) (checked bytes n) (n + 2) parity ≡ replicate 256 0
+  parity-cancels : (parity : ℕ) → parity < 2
+      → foldParity (replicate 256 0) (checked bytes n) (n + 2) parity ≡ replicate 256 0
   unfolding foldParity checkOf
   parity-cancels parity h =
       let count = ofParity n parity in
@@ -110,7 +118,8 @@ module _ (bytes : List ℕ) (n : ℕ) (full : length bytes ≡ 256 * n) where
       ∙ xorAll-twice own zeros zeros count (le-refl 256) (⊕-zeros zeros 256)
 
   -- what restores a blockette is that blockette
-  pub others-are-it : (place : ℕ) → place < n + 2 → othersOf (checked bytes n) (n + 2) place ≡ blocketteAt (checked bytes n) place
+  pub others-are-it : (place : ℕ) → place < n + 2
+      → othersOf (checked bytes n) (n + 2) place ≡ blocketteAt (checked bytes n) place
   others-are-it place h =
       let parity = (n + 2 - 1 - place) % 2 in
       let it = blocketteAt (checked bytes n) place in

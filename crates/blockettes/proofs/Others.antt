@@ -1,4 +1,5 @@
--- The others of a blockette's parity: their XOR is that of all of them with the one put in once more, and depends on nothing else.
+-- The others of a blockette's parity: their XOR is that of all of them with the one put in once more, and depends on
+-- nothing else.
 -- Assumes nothing.
 use mathlib.Core.Path.{_≡_, refl, sym, ap, _∙_}
 use Prim.Native.Nat.{ℕ, zero, suc, _+_, _-_, _*_, _/_, _%_, _≤_, _<_}
@@ -27,7 +28,8 @@ turn-place : (n place : ℕ) → place < n → n - 1 - (2 * ((n - 1 - place) / 2
 turn-place n place h = omega arith
 
 pub others-by-all : (bytes : List ℕ) (n place k : ℕ) → place < n → k ≤ 256
-    → foldParity (replicate k 0) bytes n ((n - 1 - place) % 2) ⊕ blocketteAt bytes place ≡ take k (othersOf bytes n place)
+    → foldParity (replicate k 0) bytes n ((n - 1 - place) % 2) ⊕ blocketteAt bytes place
+    ≡ take k (othersOf bytes n place)
 unfolding foldParity othersOf numbered ofParity
 others-by-all bytes n place k below short =
     let parity = (n - 1 - place) % 2 in
@@ -61,4 +63,5 @@ others-same a b n place h same =
     (ofParity n parity)
     (λ t below.
     pick-same (eqb t turn) [] (numbered a n (2 * t + parity)) (numbered b n (2 * t + parity))
-    (λ other. let no-turn = eqb-false t turn other in same (n - 1 - (2 * t + parity)) (omega arith) (omega arith) (λ it. no-turn (omega arith))))
+    (λ other. let no-turn = eqb-false t turn other in same (n - 1 - (2 * t + parity)) (omega arith) (omega arith)
+    (λ it. no-turn (omega arith))))

@@ -6,7 +6,7 @@ use mathlib.Core.List.{List, [], _∷_, _++_}
 use lib.Bits.{bitXor}
 use lib.ListN.{length, take, drop, replicate}
 use lib.Seq.{drop-nil, take-nil}
-use Rattle.common.specs.Given.{filled}
+use Rattle.common.specs.Space.{filled}
 use Rattle.blockettes.specs.Xor.{_⊕_, xorAll}
 use Rattle.blockettes.specs.Blockettes.{blocketteAt, numbered, ofParity, foldParity, checkOf}
 use Rattle.blockettes.proofs.XorLaws.{⊕-zeros}
@@ -41,10 +41,12 @@ unfolding blocketteAt
 blockette-padded a b m place =
     let d = drop-padded (256 * place) b m in
     let t = take-padded 256 (drop (256 * place) b) (d .0) in
-    ap (λ (x : List ℕ). a ⊕ take 256 x) (d .1) ∙ ap (λ (x : List ℕ). a ⊕ x) (t .1) ∙ ⊕-padded a (take 256 (drop (256 * place) b)) (t .0)
+    ap (λ (x : List ℕ). a ⊕ take 256 x) (d .1) ∙ ap (λ (x : List ℕ). a ⊕ x) (t .1)
+    ∙ ⊕-padded a (take 256 (drop (256 * place) b)) (t .0)
 
 -- families that are alike under XOR
-xorAll-alike : (f g : ℕ → List ℕ) → ((a : List ℕ) (t : ℕ) → a ⊕ f t ≡ a ⊕ g t) → (start : List ℕ) (count : ℕ) → xorAll start f count ≡ xorAll start g count
+xorAll-alike : (f g : ℕ → List ℕ) → ((a : List ℕ) (t : ℕ) → a ⊕ f t ≡ a ⊕ g t) → (start : List ℕ) (count : ℕ)
+    → xorAll start f count ≡ xorAll start g count
 unfolding xorAll
 xorAll-alike f g alike start zero = refl
 xorAll-alike f g alike start (suc count) =
@@ -54,6 +56,7 @@ xorAll-alike f g alike start (suc count) =
 pub check-filled : (bytes : List ℕ) (m n parity : ℕ) → checkOf (filled bytes m) n parity ≡ checkOf bytes n parity
 unfolding checkOf foldParity numbered filled
 check-filled bytes m n parity =
-    xorAll-alike (λ t. blocketteAt (bytes ++ replicate (m - length bytes) 0) (n - 1 - (2 * t + parity))) (λ t. blocketteAt bytes (n - 1 - (2 * t + parity)))
+    xorAll-alike (λ t. blocketteAt (bytes ++ replicate (m - length bytes) 0) (n - 1 - (2 * t + parity)))
+    (λ t. blocketteAt bytes (n - 1 - (2 * t + parity)))
     (λ a t. blockette-padded a bytes (m - length bytes) (n - 1 - (2 * t + parity)))
     (replicate 256 0) (ofParity n parity)

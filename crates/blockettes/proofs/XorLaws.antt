@@ -1,4 +1,5 @@
--- The laws of `_⊕_` and `xorAll`. The order in which strings are put in does not matter, and what is put in twice is out again.
+-- The laws of `_⊕_` and `xorAll`. The order in which strings are put in does not matter, and what is put in twice is
+-- out again.
 -- Assumes nothing.
 use mathlib.Core.Path.{_≡_, refl, sym, ap, ap₂, _∙_}
 use Prim.Native.Nat.{ℕ, zero, suc, _≤_, _<_, min}
@@ -96,20 +97,25 @@ module _ (family : ℕ → List ℕ) where
   xorAll-length start zero = refl
   xorAll-length start (suc count) = ⊕-length (xorAll start family count) (family count) ∙ xorAll-length start count
 
-  pub xorAll-take : (n : ℕ) (start : List ℕ) (count : ℕ) → take n (xorAll start family count) ≡ xorAll (take n start) family count
+  pub xorAll-take : (n : ℕ) (start : List ℕ) (count : ℕ)
+      → take n (xorAll start family count) ≡ xorAll (take n start) family count
   unfolding xorAll
   xorAll-take n start zero = refl
-  xorAll-take n start (suc count) = ⊕-take n (xorAll start family count) (family count) ∙ ap (λ (x : List ℕ). x ⊕ family count) (xorAll-take n start count)
+  xorAll-take n start (suc count) =
+      ⊕-take n (xorAll start family count) (family count)
+      ∙ ap (λ (x : List ℕ). x ⊕ family count) (xorAll-take n start count)
 
   -- what stands at the start may as well be put in last
   pub xorAll-start : (start b : List ℕ) (count : ℕ) → xorAll (start ⊕ b) family count ≡ xorAll start family count ⊕ b
   unfolding xorAll
   xorAll-start start b zero = refl
   xorAll-start start b (suc count) =
-      ap (λ (x : List ℕ). x ⊕ family count) (xorAll-start start b count) ∙ ⊕-swap (xorAll start family count) b (family count)
+      ap (λ (x : List ℕ). x ⊕ family count) (xorAll-start start b count)
+      ∙ ⊕-swap (xorAll start family count) b (family count)
 
   -- the first of the family, and then the others
-  pub xorAll-first : (start : List ℕ) (count : ℕ) → xorAll start family (suc count) ≡ xorAll (start ⊕ family 0) (λ t. family (suc t)) count
+  pub xorAll-first : (start : List ℕ) (count : ℕ)
+      → xorAll start family (suc count) ≡ xorAll (start ⊕ family 0) (λ t. family (suc t)) count
   unfolding xorAll
   xorAll-first start zero = refl
   xorAll-first start (suc count) = ap (λ (x : List ℕ). x ⊕ family (suc count)) (xorAll-first start count)
@@ -123,11 +129,13 @@ module _ (family : ℕ → List ℕ) where
       let a = xorAll start family count in
       let z = xorAll zeros family count in
       let b = family count in
-      ⊕-assoc (a ⊕ b) z b (simp (⊕-length, xorAll-length) h) ∙ ap (λ (x : List ℕ). x ⊕ b) (⊕-swap a b z) ∙ ⊕-twice (a ⊕ z) b
+      ⊕-assoc (a ⊕ b) z b (simp (⊕-length, xorAll-length) h) ∙ ap (λ (x : List ℕ). x ⊕ b) (⊕-swap a b z)
+      ∙ ⊕-twice (a ⊕ z) b
       ∙ xorAll-twice start zeros count h e
 
 -- two families that agree below the count
-pub xorAll-same : (f g : ℕ → List ℕ) (start : List ℕ) (count : ℕ) → ((t : ℕ) → t < count → f t ≡ g t) → xorAll start f count ≡ xorAll start g count
+pub xorAll-same : (f g : ℕ → List ℕ) (start : List ℕ) (count : ℕ) → ((t : ℕ) → t < count → f t ≡ g t)
+    → xorAll start f count ≡ xorAll start g count
 unfolding xorAll
 xorAll-same f g start zero same = refl
 xorAll-same f g start (suc count) same =
@@ -151,7 +159,8 @@ pub xorAll-without : (left : ℕ) (family : ℕ → List ℕ) (start : List ℕ)
 unfolding xorAll
 xorAll-without left family start zero h = absurd (not-suc-le-zero h)
 xorAll-without left family start (suc count) h =
-    elim (ℕ-discrete count left) [ yes e ↦ at-last e | no other ↦ before (λ k. xorAll-without left family start count k) other ]
+    elim (ℕ-discrete count left)
+    [ yes e ↦ at-last e | no other ↦ before (λ k. xorAll-without left family start count k) other ]
   where
     few : List ℕ
     few = xorAll start (without left family) count
@@ -159,7 +168,8 @@ xorAll-without left family start (suc count) h =
     at-last : count ≡ left → xorAll start family count ⊕ family count ≡ few ⊕ without left family count ⊕ family left
     at-last e =
         ap₂ _⊕_
-        (xorAll-same family (without left family) start count (λ t below. sym (without-other left family t (λ same. omega arith)))
+        (xorAll-same family (without left family) start count
+        (λ t below. sym (without-other left family t (λ same. omega arith)))
         ∙ sym (⊕-nil few)
         ∙ ap (λ (x : List ℕ). few ⊕ x) (sym (ap (without left family) e ∙ without-it left family)))
         (ap family e)
@@ -167,4 +177,5 @@ xorAll-without left family start (suc count) h =
     before : (left < count → xorAll start family count ≡ few ⊕ family left) → (count ≡ left → ⊥)
         → xorAll start family count ⊕ family count ≡ few ⊕ without left family count ⊕ family left
     before again other =
-        ap₂ _⊕_ (again (omega arith)) (sym (without-other left family count other)) ∙ ⊕-swap few (family left) (without left family count)
+        ap₂ _⊕_ (again (omega arith)) (sym (without-other left family count other))
+        ∙ ⊕-swap few (family left) (without left family count)

@@ -16,6 +16,18 @@ blocketteLength = 256
 abbrev pub checksLength : ℕ
 checksLength = 512
 
+-- from a blockette to the next of its parity
+abbrev pub parityStride : ℕ
+parityStride = 512
+
+-- the bytes of half a blockette
+abbrev pub halfLength : ℕ
+halfLength = 128
+
+-- above every place: as many as 16 bits count
+abbrev pub placesLimit : ℕ
+placesLimit = 65536
+
 -- The blockette at a place. The last may be short; zeros stand for the rest of it.
 unfoldable pub blocketteAt : List ℕ → ℕ → List ℕ
 blocketteAt bytes place = take blocketteLength (drop (blocketteLength * place) bytes)
@@ -35,6 +47,13 @@ foldParity start bytes n parity = xorAll start (λ t. numbered bytes n (2 * t + 
 -- `start` with `count` blockettes put in by XOR, every second from a place upward: the order in which they are taken.
 unfoldable pub foldUpward : List ℕ → List ℕ → ℕ → ℕ → List ℕ
 foldUpward start bytes first count = xorAll start (λ t. blocketteAt bytes (first + 2 * t)) count
+
+-- the same from zeros: the check of so many blockettes, and the half of it that the bytes begin with
+abbrev pub wholeOf : List ℕ → ℕ → ℕ → List ℕ
+wholeOf bytes first count = foldUpward (replicate blocketteLength 0) bytes first count
+
+abbrev pub halfOf : List ℕ → ℕ → ℕ → List ℕ
+halfOf bytes first count = foldUpward (replicate halfLength 0) bytes first count
 
 -- "check blockette 1, the XOR of the odd ones, and 0, of the even ones"
 unfoldable pub checkOf : List ℕ → ℕ → ℕ → List ℕ

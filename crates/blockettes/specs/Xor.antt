@@ -1,5 +1,6 @@
--- The XOR of two strings of bytes, and of a whole family of them. The first string gives the length: where the second is
--- shorter, zeros stand for what it lacks. So "the last filled with zeros" (document 01, Records) needs no case of its own.
+-- The XOR of two strings of bytes, and of a whole family of them. The first string gives the length: where the second
+-- is shorter, zeros stand for what it lacks. So "the last filled with zeros" (document 01, Records) needs no case of
+-- its own.
 -- Assumes nothing.
 use Prim.Native.Nat.{ℕ, zero, suc}
 use mathlib.Core.List.{List, [], _∷_}

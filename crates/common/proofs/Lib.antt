@@ -1,4 +1,4 @@
 pub mod PickLaws
 pub mod Written
 pub mod Parts
-pub mod GivenLaws
+pub mod SpaceLaws

@@ -12,14 +12,15 @@ use borrow.Rule.Slice.PartMut.{putMid}
 
 module _ {A : Type 0} where
   -- k elements from a start, or as many as there are
-  pub part-least : (l : List A) (start k end : ℕ) → end ≡ min (length l) (start + k) → start ≤ length l
+  pub part-min : (l : List A) (start k end : ℕ) → end ≡ min (length l) (start + k) → start ≤ length l
       → take (end - start) (drop start l) ≡ take k (drop start l)
-  part-least l start k end e h =
+  part-min l start k end e h =
       elim (decLe (start + k) (length l)) [
         | yes fits ↦ let all : end - start ≡ k = omega arith in ap (λ (n : ℕ). take n (drop start l)) all
         | no over ↦
             let past : length l < start + k = lt-of-not-le over in
-            take-all (end - start) (drop start l) (simp length-drop (omega arith)) ∙ sym (take-all k (drop start l) (simp length-drop (omega arith)))
+            take-all (end - start) (drop start l) (simp length-drop (omega arith))
+            ∙ sym (take-all k (drop start l) (simp length-drop (omega arith)))
       ]
 
   -- the same where the start may lie past the end too
@@ -27,16 +28,19 @@ module _ {A : Type 0} where
       → take (end - from) (drop from l) ≡ take k (drop start l)
   part-within l start k from end f e =
       elim (decLe start (length l)) [
-        | yes inside ↦ let same : from ≡ start = omega arith in part-least l from k end e (omega arith) ∙ ap (λ (n : ℕ). take k (drop n l)) same
+        | yes inside ↦ let same : from
+            ≡ start = omega arith in part-min l from k end e (omega arith) ∙ ap (λ (n : ℕ). take k (drop n l)) same
         | no over ↦
             let past : length l < start = lt-of-not-le over in
             let none : end - from ≡ 0 = omega arith in
             let passed : length l ≤ start = omega arith in
-            ap (λ (n : ℕ). take n (drop from l)) none ∙ sym (take-nil k) ∙ sym (ap (take k) (drop-of-length-le l passed))
+            ap (λ (n : ℕ). take n (drop from l)) none ∙ sym (take-nil k)
+            ∙ sym (ap (take k) (drop-of-length-le l passed))
       ]
 
   -- a part of a front part
-  pub part-of-front : (l : List A) (start k n : ℕ) → start + k ≤ n → take k (drop start (take n l)) ≡ take k (drop start l)
+  pub part-of-front : (l : List A) (start k n : ℕ) → start + k ≤ n
+      → take k (drop start (take n l)) ≡ take k (drop start l)
   part-of-front l zero k n h = take-take k n l (omega arith)
   part-of-front [] (suc start) k n h = ap (λ (x : List A). take k (drop (suc start) x)) (take-nil n)
   part-of-front (x ∷ xs) (suc start) k zero h = absurd (omega arith)
@@ -47,7 +51,12 @@ module _ {A : Type 0} where
       → putMid a (length (first ++ drop a space) - a) (first ++ drop a space) last ≡ first ++ last
   two-parts space first last a e =
       let whole = first ++ drop a space in
-      simp (take-at first (drop a space) a e, drop-of-length-le (drop a whole) (le-of-eq (length-drop a whole)), append-nil)
+      simp (
+        take-at first (drop a space) a e,
+        drop-of-length-le (drop a whole)
+            (le-of-eq (length-drop a whole)),
+        append-nil,
+      )
 
   -- how long the second part is
   pub second-length : (space first : List A) (a : ℕ) → length first ≡ a → a ≤ length space
@@ -69,7 +78,8 @@ module _ {A : Type 0} where
     part-after : drop (start + (end - start)) l ≡ drop (start + length new) l
     part-after =
         elim (decLe (start + length new) (length l)) [
-          | yes fits ↦ let same : start + (end - start) ≡ start + length new = omega arith in ap (λ (n : ℕ). drop n l) same
+          | yes fits ↦ let same : start + (end - start)
+              ≡ start + length new = omega arith in ap (λ (n : ℕ). drop n l) same
           | no over ↦
               let past : length l < start + length new = lt-of-not-le over in
               let gone : length l ≤ start + (end - start) = omega arith in
@@ -77,5 +87,7 @@ module _ {A : Type 0} where
               drop-of-length-le l gone ∙ sym (drop-of-length-le l passed)
         ]
 
-    pub part-written : putMid start (end - start) l (take (end - start) new) ≡ take start l ++ (take (length l - start) new ++ drop (start + length new) l)
-    part-written = ap (λ (x : List A). take start l ++ x) (ap₂ _++_ part-new (drop-drop (end - start) start l ∙ part-after))
+    pub part-written : putMid start (end - start) l (take (end - start) new)
+        ≡ take start l ++ (take (length l - start) new ++ drop (start + length new) l)
+    part-written =
+        ap (λ (x : List A). take start l ++ x) (ap₂ _++_ part-new (drop-drop (end - start) start l ∙ part-after))

@@ -56,7 +56,8 @@ pick-by P false f g = g refl
 -- ---- a list of refusals that gives 0
 
 -- a test that would have refused did not hold, and the tests after it give 0
-pub not-refused : (test : Bool) (refusal rest : ℕ) → (refusal ≡ 0 → ⊥) → pick test refusal rest ≡ 0 → (test ≡ false) × (rest ≡ 0)
+pub not-refused : (test : Bool) (refusal rest : ℕ) → (refusal ≡ 0 → ⊥) → pick test refusal rest ≡ 0
+    → (test ≡ false) × (rest ≡ 0)
 unfolding pick
 not-refused true refusal rest some e = absurd (some e)
 not-refused false refusal rest some e = (refl, e)
@@ -70,7 +71,8 @@ passed false refusal some e = absurd (some e)
 -- ---- what a call leaves
 
 -- where it is refused
-pub where-refused : {A : Type 0} (refusal : ℕ) (done kept : A) → (refusal ≡ 0 → ⊥) → pick (eqb refusal 0) done kept ≡ kept
+pub where-refused : {A : Type 0} (refusal : ℕ) (done kept : A) → (refusal ≡ 0 → ⊥)
+    → pick (eqb refusal 0) done kept ≡ kept
 where-refused refusal done kept some = pick-no done kept (ne-eqb refusal 0 some)
 
 -- where it is carried out

@@ -1,4 +1,5 @@
--- A loop that writes a string `t` over the start of a space `s`, one element a turn: after i turns the space is `take i t ++ drop i s`.
+-- A loop that writes a string `t` over the start of a space `s`, one element a turn: after i turns the space is `take i
+-- t ++ drop i s`.
 -- Assumes nothing.
 use mathlib.Core.Path.{_≡_, sym, _∙_}
 use Prim.Native.Nat.{ℕ, suc, _+_, _<_}
@@ -18,5 +19,7 @@ module _ {A : Type 0} where
       ∙ sym (rw (add-one i, take-suc t i d) (append-snoc (take i t) (getD t i d) (drop (suc i) s))))
 
   -- what is not written yet stands as it was
-  pub written-next : (s t : List A) (i : ℕ) (d : A) → i < length t → i < length s → getD (take i t ++ drop i s) i d ≡ getD s i d
-  written-next s t i d ht hs = rw (drop-cons s i d) (getD-at (take i t) (getD s i d) (drop (suc i) s) d i (length-take-le i t (le-of-lt ht)))
+  pub written-next : (s t : List A) (i : ℕ) (d : A) → i < length t → i < length s
+      → getD (take i t ++ drop i s) i d ≡ getD s i d
+  written-next s t i d ht hs =
+      rw (drop-cons s i d) (getD-at (take i t) (getD s i d) (drop (suc i) s) d i (length-take-le i t (le-of-lt ht)))

@@ -1,3 +1,3 @@
 pub mod Pick
-pub mod Given
+pub mod Space
 pub mod Refusals

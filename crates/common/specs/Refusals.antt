@@ -1,4 +1,5 @@
--- The refusals of the calls: document 01's numbers and words (Turned back). "Lowest number first".
+-- The refusals of the calls: the papers' numbers and words (document 01, Turned back; document 02).
+-- "Lowest number first".
 -- Assumes nothing.
 use Prim.Native.Nat.{ℕ}
 
@@ -42,7 +43,8 @@ codeNotListed = 7
 abbrev pub flagsAgainstRule : ℕ
 flagsAgainstRule = 8
 
--- "9 .. wrong length of image or marks"; "Wrong lengths, and host bytes too many for the builder, keep refusal 9." (document 02, Wish 10)
+-- "9 .. wrong length of image or marks"; "Wrong lengths, and host bytes too many for the builder, keep refusal 9."
+-- (document 02, request 10)
 abbrev pub wrongLength : ℕ
 wrongLength = 9
 
@@ -58,7 +60,7 @@ spaceShort = 11
 abbrev pub unrestorable : ℕ
 unrestorable = 12
 
--- "13 the counts differ", of two passes (document 02, Wish 5)
+-- "13 the counts differ", of two passes (document 02, request 5)
 abbrev pub countsDiffer : ℕ
 countsDiffer = 13
 
@@ -66,14 +68,26 @@ countsDiffer = 13
 abbrev pub blockettesUnlike : ℕ
 blockettesUnlike = 14
 
--- "15 a place that is neither in the host bytes nor the value for none" (document 02, Wish 6)
+-- "15 a place that is neither in the host bytes nor the value for none" (document 02, request 6)
 abbrev pub noSuchPlace : ℕ
 noSuchPlace = 15
 
--- "16 a job above 3, a store naming no drive or a reset store" (document 02, Wish 8)
+-- "16 a job above 3, a store naming no drive or a reset store" (document 02, request 8)
 abbrev pub storeNotTaken : ℕ
 storeNotTaken = 16
 
 -- "17 that job's queue holds eight"
 abbrev pub queueFull : ℕ
 queueFull = 17
+
+-- "18 a width outside 1 to 64" (document 02, request 11)
+abbrev pub widthOutOfRange : ℕ
+widthOutOfRange = 18
+
+-- "19 a run above 65,535"
+abbrev pub runTooLong : ℕ
+runTooLong = 19
+
+-- "20 a number above its limit" (document 02, request 12)
+abbrev pub aboveLimit : ℕ
+aboveLimit = 20

@@ -4,10 +4,10 @@ pub mod refusals;
 ghost use mathlib.Core.Path.{_≡_};
 ghost use Prim.Native.Nat.{_≤_, min};
 ghost use lib.ListN.{length, replicate};
-ghost use Rattle.common.specs.Given.{given, filled};
+ghost use Rattle.common.specs.Space.{overwrite, filled};
 
 // The lesser of two.
-pub fn least(a: usize, b: usize) -> usize
+pub fn min(a: usize, b: usize) -> usize
     ensures { λ r. ⌜ r ≡ min a b ⌝ }
 {
     if a < b { a } else { b }
@@ -24,9 +24,9 @@ pub fn clear(space: &mut [u8])
 }
 
 // Gives bytes at the start of a space.
-pub fn give(bytes: &[u8], space: &mut [u8])
+pub fn overwrite(bytes: &[u8], space: &mut [u8])
     requires { ⌜ length (now bytes) ≤ length (now space) ⌝ }
-    ensures { λ _. ⌜ now (space .exit) ≡ given (now (bytes .entry)) (now (space .entry)) ⌝ }
+    ensures { λ _. ⌜ now (space .exit) ≡ overwrite (now (bytes .entry)) (now (space .entry)) ⌝ }
 {
     let count = bytes.len();
     for i in 0..count {
@@ -40,6 +40,6 @@ pub fn put_filled(bytes: &[u8], space: &mut [u8])
     ensures { λ _. ⌜ now (space .exit) ≡ filled (now (bytes .entry)) (length (now (space .entry))) ⌝ }
 {
     let n = bytes.len();
-    give(bytes, &mut space[..n]);
+    overwrite(bytes, &mut space[..n]);
     clear(&mut space[n..]);
 }

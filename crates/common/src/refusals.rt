@@ -1,5 +1,5 @@
-// The refusals of the calls: the papers' numbers and words (document 01, "Turned back"; document 02). Where more than one of document 01's holds, the
-// lowest is given; where those of document 02 stand, their wishes say.
+// The refusals of the calls: the papers' numbers and words (document 01, "Turned back"; document 02). Where more than
+// one of document 01's holds, the lowest is given; where those of document 02 stand, their requests say.
 
 // Not refused.
 pub const DONE: u32 = 0;
@@ -43,3 +43,9 @@ pub const NO_SUCH_PLACE: u32 = 15;
 pub const STORE_NOT_TAKEN: u32 = 16;
 // "that job's queue holds eight"
 pub const QUEUE_FULL: u32 = 17;
+// "a width outside 1 to 64": of a moving view
+pub const WIDTH_OUT_OF_RANGE: u32 = 18;
+// "a run above 65,535"
+pub const RUN_TOO_LONG: u32 = 19;
+// "a number above its limit": of the contest
+pub const ABOVE_LIMIT: u32 = 20;

@@ -1,4 +1,5 @@
--- Laws of the contest program's lines: the fields of a question, cut off one after the other, and the three fields of an answer.
+-- Laws of the contest program's lines: the fields of a question, cut off one after the other, and the three fields of
+-- an answer.
 -- Assumes nothing.
 use mathlib.Core.Path.{_≡_, ap, _∙_}
 use Prim.Native.Nat.{ℕ, _-_, _≤_}
@@ -6,10 +7,10 @@ use native.Mathlib.Omega.{arith}
 use mathlib.Core.List.{List, [], _∷_, _++_, append-assoc}
 use lib.ListN.{length, take, drop, length-drop}
 use lib.Seq.{take-all}
-use Rattle.contests.specs.declared.contest.Gap.{Gap}
-use Rattle.lines.specs.Characters.{comma, lineFeed}
-use Rattle.lines.specs.Line.{fieldOf, after, afterField, afterFields}
-use Rattle.lines.proofs.FieldLaws.{after-is}
+use Rattle.contest.specs.declared.contest.Gap.{Gap}
+use Rattle.text.specs.Characters.{comma, lineFeed}
+use Rattle.text.specs.Fields.{fieldOf, after, afterField, afterFields}
+use Rattle.text.proofs.FieldLaws.{after-is}
 use Rattle.contestlines.specs.Line.{numbersLine, fieldsLine}
 
 -- the fields behind the first comma

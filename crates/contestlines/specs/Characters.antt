@@ -1,4 +1,5 @@
--- The characters of the contest program's lines and answers, each by its number as a byte, beyond those of the session program. Document 02 gives none.
+-- The characters of the contest program's lines and answers, each by its number as a byte, beyond those of the session
+-- program. Document 02 gives none.
 -- Assumes nothing.
 use Prim.Native.Nat.{ℕ}
 

@@ -1,18 +1,18 @@
--- What the contest program prints for a line: refusal, answer and first store, with a comma between. Each text ends with its #0A. Document 02 gives no
--- format for it (Wish 12).
+-- What the contest program prints for a line: refusal, answer and first store, with a comma between. Each text ends
+-- with its #0A. Document 02 gives no format for it (request 12).
 -- Assumes nothing.
 use Prim.Native.Nat.{ℕ}
 use mathlib.Core.List.{List, [], _∷_, _++_}
 use Rattle.common.specs.Refusals.{done}
-use Rattle.contests.specs.declared.contest.Move.{Move}
-use Rattle.contests.specs.declared.contest.Move.the-variants.{Write, SkipReverse}
-use Rattle.contests.specs.declared.contest.First.{First}
-use Rattle.contests.specs.declared.contest.First.the-variants.{NoStore, OneStore}
-use Rattle.contests.specs.declared.contest.Answer.{Answer}
-use Rattle.contests.specs.declared.contest.Answer.the-variants.{Refused, No, Yes}
-use Rattle.contests.specs.Answer.{answerOf}
-use Rattle.lines.specs.Characters.{comma, lineFeed, noneSign, unreadableSign}
-use Rattle.lines.specs.Print.{refusalText}
+use Rattle.contest.specs.declared.contest.Move.{Move}
+use Rattle.contest.specs.declared.contest.Move.the-variants.{Write, SkipReverse}
+use Rattle.contest.specs.declared.contest.Opening.{Opening}
+use Rattle.contest.specs.declared.contest.Opening.the-variants.{NoStore, OneStore}
+use Rattle.contest.specs.declared.contest.Answer.{Answer}
+use Rattle.contest.specs.declared.contest.Answer.the-variants.{Refused, No, Yes}
+use Rattle.contest.specs.Answer.{solve}
+use Rattle.text.specs.Characters.{comma, lineFeed, noneSign, unreadableSign}
+use Rattle.text.specs.Print.{refusalText}
 use Rattle.contestlines.specs.Characters.{yesSign, noSign, writeSign, skipSign}
 use Rattle.contestlines.specs.Line.{questionOf}
 use Rattle.contestlines.specs.declared.line.Question.{Question}
@@ -36,19 +36,20 @@ moveSign Write = writeSign
 moveSign SkipReverse = skipSign
 
 -- and - where there is no store
-unfoldable pub storeSign : First → ℕ
+unfoldable pub storeSign : Opening → ℕ
 storeSign NoStore = noneSign
 storeSign (OneStore store) = moveSign store
 
 -- the first store of an answer
-unfoldable pub firstSign : Answer → ℕ
-firstSign (Refused refusal) = noneSign
-firstSign No = noneSign
-firstSign (Yes first) = storeSign first
+unfoldable pub openingSign : Answer → ℕ
+openingSign (Refused refusal) = noneSign
+openingSign No = noneSign
+openingSign (Yes first) = storeSign first
 
 -- refusal,answer,first
 unfoldable pub contestText : Answer → List ℕ
-contestText answer = refusalText (refusalOf answer) ++ (comma ∷ verdictSign answer ∷ comma ∷ firstSign answer ∷ lineFeed ∷ [])
+contestText answer =
+    refusalText (refusalOf answer) ++ (comma ∷ verdictSign answer ∷ comma ∷ openingSign answer ∷ lineFeed ∷ [])
 
 -- ?,-,- where the line is unreadable
 unfoldable pub contestUnreadableText : List ℕ
@@ -57,7 +58,7 @@ contestUnreadableText = unreadableSign ∷ comma ∷ noneSign ∷ comma ∷ none
 -- the text for a question
 unfoldable pub questionText : Question → List ℕ
 questionText Unreadable = contestUnreadableText
-questionText (Asked gap w n f) = contestText (answerOf gap w n f)
+questionText (Asked gap w n f) = contestText (solve gap w n f)
 
 -- the text for a line
 unfoldable pub contestLineText : List ℕ → List ℕ

@@ -1,10 +1,10 @@
 // What a line says.
-use contests::contest::Gap;
-use lines::digits::decimal_of;
-use lines::digits::is_decimal;
-use lines::limits::BYTE_LIMIT;
-use lines::line::after;
-use lines::line::field_of;
+use contest::contest::Gap;
+use text::digits::decimal_of;
+use text::digits::is_decimal;
+use text::fields::after;
+use text::fields::field_of;
+use text::limits::BYTE_LIMIT;
 ghost use mathlib.Core.Path.{_≡_};
 ghost use Rattle.contestlines.specs.Line.{numbersLine, fieldsLine, gapLine, questionOf};
 

@@ -13,5 +13,6 @@ pub answer-alike :
     → n ≡ n′
     → s ≡ s′
     → k ≡ k′
-    → _≡_ {A = Answer} (record { reply = r; bytes = n; space = s; check = k }) (record { reply = r′; bytes = n′; space = s′; check = k′ })
+    → _≡_ {A = Answer} (record { reply = r; bytes = n; space = s; check = k })
+    (record { reply = r′; bytes = n′; space = s′; check = k′ })
 answer-alike r r′ n n′ s s′ k k′ p q t u = cc

@@ -1,5 +1,5 @@
--- Wherever bit 22 of primary is set, in the state or in what is sent, the count is that of the record that the last store carried out itself
--- passed or wrote, or that it supplied (`counts-are-own`, over the definitions).
+-- Wherever bit 22 of primary is set, in the state or in what is sent, the count is that of the record that the last
+-- store carried out itself passed or wrote, or that it supplied (`counts-are-own`, over the definitions).
 -- Assumes nothing.
 use mathlib.Core.Path.{_≡_, refl, sym, ap, ap₂, subst, subst₂, _∙_}
 use Prim.Native.Nat.{ℕ}
@@ -15,7 +15,7 @@ use Rattle.status.specs.declared.drives.Drive.{Drive}
 use Rattle.status.specs.Drives.{withTrack, withDensity, withGuard}
 use Rattle.status.specs.Words.{noOutcome}
 use Rattle.operations.specs.declared.operation.Operation.{Operation}
-use Rattle.operations.specs.declared.operation.Operation.the-variants.{Read, CheckBytes, SuppliedCount, Write, Erase, Rewind, FastForward, SkipForward, SkipReverse, SearchForward, SearchReverse, WriteMark}
+use Rattle.operations.specs.declared.operation.Operation.the-variants.{SuppliedCount, Write}
 use Rattle.operations.specs.declared.decode.Decoded.{Decoded}
 use Rattle.operations.specs.declared.decode.Decoded.the-variants.{Reset, Code, Track, Enable, Guard, Density, Operate}
 use Rattle.operations.specs.declared.store.Store.{Store}
@@ -25,30 +25,38 @@ use Rattle.operations.specs.Store.{namesUnknown, askedFor, askedIn, heldCount, 
 use Rattle.operations.specs.Course.{courseOf}
 use Rattle.operations.proofs.DensityLaws.{asked-operation}
 use Rattle.link.specs.declared.state.Phase.{Phase}
-use Rattle.link.specs.declared.state.Phase.the-variants.{Collecting, AckOffered, Sending, GoOffered, DataAwaited, ResultAwaited, EndOffered}
+use Rattle.link.specs.declared.state.Phase.the-variants.{DataAwaited, ResultAwaited}
 use Rattle.link.specs.declared.state.Body.{Body}
 use Rattle.link.specs.declared.state.Action.{Action}
 use Rattle.link.specs.declared.state.Action.the-variants.{Nothing, Byte, Text, Order}
-use Rattle.link.specs.declared.state.Turn.{Turn}
-use Rattle.link.specs.State.{storeOf, offered, startBody, withFlags, withCurrentDrive, currentDrive, resetState}
-use Rattle.link.specs.Link.{yesToGo}
+use Rattle.link.specs.declared.state.Transition.{Transition}
+use Rattle.link.specs.State.{whenInHand, storeOf, offered, startBody, withFlags, withCurrentDrive, currentDrive}
+use Rattle.link.specs.State.{resetState}
 use Rattle.transfers.specs.declared.verdict.Verdict.{Verdict}
 use Rattle.transfers.specs.Data.{Host, dataWords, settleData}
-use Rattle.transfers.specs.Results.{Result, resultRefusal, isGone, findingsRead, codeReported, recordCount, usedCount, verdictOf, wroteWell, resultCount, resultBits, withRetry, resultWords, settleResult}
+use Rattle.transfers.specs.Results.{Result, resultRefusal, isGone, findingsRead, codeReported, recordCount, usedCount}
+use Rattle.transfers.specs.Results.{verdictOf, wroteWell, resultCount, resultBits, withRetry, resultWords, settleResult}
 use Rattle.transfers.proofs.ResultLaws.{supplied-none, final-zero, reported-zero}
 use Rattle.controller.specs.declared.controller.Controller.{Controller}
 use Rattle.controller.specs.Controller.{fresh, carried}
-use Rattle.controller.specs.Stores.{pastTest, orderMove, begin, follow, clearOutcome, carryOutOn, carryOut}
+use Rattle.controller.specs.Stores.{orderMove, begin, follow, clearOutcome, carryOutOn, carryOut, yesToGo}
 use Rattle.controller.specs.Records.{wordsOf, withAfter, dataDone, resultDone}
 use Rattle.controller.specs.Machine.{unchanged, reportNoted, dataIn, resultIn, Call, Exchange, plain, step, run}
-use Rattle.controller.specs.Machine.Call.{byte, taken, broken, report, hostData, result, tick, reset, hand}
-use Rattle.controller.specs.Lists.{notRefused, holdsStore, bringsStore, storeBrought, carriesOut, lastStore, noStore, asksFor}
-use Rattle.controller.specs.Counts.{OwnRecord, suppliedBy, passedBy, recordAfter, ownRecord, Sends, ValidFrom, CountsAreOwn}
+use Rattle.controller.specs.Machine.Call.{taken, hostData, result, hand}
+use Rattle.controller.specs.Lists.{notRefused, holdsStore, bringsStore, storeBrought, carriesOut, lastStore}
+use Rattle.controller.specs.Lists.{noStore, asksFor}
+use Rattle.controller.specs.Counts.{OwnRecord, suppliedBy, passedBy, recordAfter, ownRecord, Sends, ValidFrom}
+use Rattle.controller.specs.Counts.{CountsAreOwn}
 use Rattle.controller.specs.Counts.OwnRecord.{noRecord, recordOf}
-use Rattle.controller.proofs.Courses.{decoded, by-test-of}
-use Rattle.controller.proofs.Steps.Resting.{by-free, Free, Rests, ended-rests, settled-rests, go-refused-rests, ending-rests}
-use Rattle.controller.proofs.Steps.Strings.{marked, HeldUpToDate, SentUpToDate, StringsUpToDate, ended-strings, settled-strings, go-refused-strings, ending-strings}
-use Rattle.controller.proofs.Steps.{stated, exchanged, turnOf, LinkCall, SaysNo, OfRefusals, OfLink, OfStores, OfHandings, OfNo, OfData, OfResults, Kinds, data-for, result-for, by-step}
+use Rattle.controller.proofs.Courses.{decoded, by-test-of, by-beginning}
+use Rattle.controller.proofs.Steps.Resting.{by-free, Free, Rests, ended-rests, settled-rests, go-refused-rests}
+use Rattle.controller.proofs.Steps.Resting.{ending-rests}
+use Rattle.controller.proofs.Steps.Strings.{marked, HeldUpToDate, SentUpToDate, StringsUpToDate, ended-strings}
+use Rattle.controller.proofs.Steps.Strings.{settled-strings, go-refused-strings, ending-strings}
+use Rattle.controller.proofs.Steps.LinkCall.{byteCame, ticked, loadTaken}
+use Rattle.controller.proofs.Steps.SaysNo.{byteRefused}
+use Rattle.controller.proofs.Steps.{stated, exchanged, turnOf, LinkCall, SaysNo, OfRefusals, OfLink, OfStores}
+use Rattle.controller.proofs.Steps.{OfHandings, OfNo, OfData, OfResults, Kinds, data-for, result-for, by-step}
 
 -- ---- what is kept from call to call
 
@@ -59,13 +67,8 @@ record Unmarked (last : Store) (counted : Bool) (operation : Operation) (store :
   pub none : counted ≡ false
 
 unfoldable InHand : Store → Bool → Phase → Type 0
-InHand last counted (Collecting s) = Unit
-InHand last counted (AckOffered s) = Unit
-InHand last counted (Sending s) = Unit
-InHand last counted (EndOffered interrupt) = Unit
-InHand last counted (GoOffered store) = Unmarked last counted Write store
-InHand last counted (DataAwaited store) = Unmarked last counted Write store
-InHand last counted (ResultAwaited operation store) = Unmarked last counted operation store
+InHand last counted =
+    whenInHand (Unmarked last counted Write) (Unmarked last counted Write) (Unmarked last counted) Unit
 
 free-hand : (last : Store) (counted : Bool) (phase : Phase) → Free phase → InHand last counted phase
 unfolding InHand
@@ -76,7 +79,7 @@ record Kept (last : Store) (own : OwnRecord) (b : Body) (phase : Phase) : Type 0
   pub valid : b .outcome .counted ≡ true → own ≡ recordOf (b .outcome .result .count)
   pub holds : HeldUpToDate (b .outcome .counted) (b .outcome .result .count) phase
 
-record Goes (last : Store) (own : OwnRecord) (t : Turn) : Type 0 where
+record Goes (last : Store) (own : OwnRecord) (t : Transition) : Type 0 where
   pub kept : Kept last own (t .body) (t .phase)
   pub says : SentUpToDate (t .body .outcome .counted) (t .body .outcome .result .count) (t .action)
 
@@ -88,7 +91,7 @@ Keeps c x =
     → Goes (lastStore last c x) (ownRecord (lastStore last c x) own c x) (turnOf (x .answer .reply))
 
 rests-keep :
-    (last : Store) (own : OwnRecord) (b : Body) (t : Turn)
+    (last : Store) (own : OwnRecord) (b : Body) (t : Transition)
     → Rests b t
     → StringsUpToDate t
     → (b .outcome .counted ≡ true → own ≡ recordOf (b .outcome .result .count))
@@ -108,14 +111,15 @@ rests-keep last own b t rests strings valid =
 
 -- the last store and its record are as before
 as-before :
-    (c : Controller) (x : Exchange) (last : Store) (own : OwnRecord) (t : Turn)
+    (c : Controller) (x : Exchange) (last : Store) (own : OwnRecord) (t : Transition)
     → carriesOut c x ≡ false
     → ownRecord last own c x ≡ own
     → Goes last own t
     → Goes (lastStore last c x) (ownRecord (lastStore last c x) own c x) t
 unfolding lastStore
 as-before c x last own t none same goes =
-    subst (λ (store : Store). Goes store (ownRecord store own c x) t) (sym (pick-no (storeBrought c (x .call)) last none))
+    subst (λ (store : Store). Goes store (ownRecord store own c x) t)
+    (sym (pick-no (storeBrought c (x .call)) last none))
     (subst (λ (later : OwnRecord). Goes last later t) (sym same) goes)
 
 refusals-case : OfRefusals Keeps
@@ -126,31 +130,24 @@ refusals-case c call number space check some at-space at-check last own before =
     (record { kept = record { hand = before .hand; valid = before .valid; holds = before .holds }; says = tt })
 
 link-case : OfLink Keeps
-unfolding LinkCall lastStore carriesOut bringsStore storeBrought notRefused holdsStore ownRecord recordAfter pick
-link-case c (byte value) t free rests strings none last own before = rests-keep last own (c .body) t rests (strings (before .holds)) (before .valid)
-link-case c broken t free rests strings none last own before = rests-keep last own (c .body) t rests (strings (before .holds)) (before .valid)
-link-case c tick t free rests strings none last own before = rests-keep last own (c .body) t rests (strings (before .holds)) (before .valid)
-link-case c taken t (free, load) rests strings none last own before =
+unfolding lastStore carriesOut bringsStore storeBrought notRefused holdsStore ownRecord recordAfter pick
+link-case c call t (byteCame value) free rests strings none last own before =
+    rests-keep last own (c .body) t rests (strings (before .holds)) (before .valid)
+link-case c call t LinkCall.linkBroke free rests strings none last own before =
+    rests-keep last own (c .body) t rests (strings (before .holds)) (before .valid)
+link-case c call t ticked free rests strings none last own before =
+    rests-keep last own (c .body) t rests (strings (before .holds)) (before .valid)
+link-case c call t (loadTaken load) free rests strings none last own before =
     let none = ap not load in
     as-before c (exchanged taken (plain (carried t))) last own t none (pick-no noRecord own none)
     (rests-keep last own (c .body) t rests (strings (before .holds)) (before .valid))
-link-case c (report drive r) t links rests strings none last own before = absurd links
-link-case c (hostData host space check) t links rests strings none last own before = absurd links
-link-case c (result r space check) t links rests strings none last own before = absurd links
-link-case c reset t links rests strings none last own before = absurd links
-link-case c (hand store) t links rests strings none last own before = absurd links
 
 no-case : OfNo Keeps
-unfolding SaysNo lastStore carriesOut bringsStore storeBrought notRefused ownRecord recordAfter pick
-no-case b held (byte value) refuses last own before = rests-keep last own b _ (go-refused-rests b held) (go-refused-strings b held) (before .valid)
-no-case b held broken refuses last own before = rests-keep last own b _ (go-refused-rests b held) (go-refused-strings b held) (before .valid)
-no-case b held taken refuses last own before = absurd refuses
-no-case b held (report drive r) refuses last own before = absurd refuses
-no-case b held (hostData host space check) refuses last own before = absurd refuses
-no-case b held (result r space check) refuses last own before = absurd refuses
-no-case b held tick refuses last own before = absurd refuses
-no-case b held reset refuses last own before = absurd refuses
-no-case b held (hand store) refuses last own before = absurd refuses
+unfolding lastStore carriesOut bringsStore storeBrought notRefused ownRecord recordAfter pick
+no-case b held call (byteRefused value refuses) last own before =
+    rests-keep last own b _ (go-refused-rests b held) (go-refused-strings b held) (before .valid)
+no-case b held call SaysNo.linkBroke last own before =
+    rests-keep last own b _ (go-refused-rests b held) (go-refused-strings b held) (before .valid)
 
 -- ---- a store is carried out: it has no record yet, and bit 22 is clear
 
@@ -159,27 +156,39 @@ module _ (store : Store) where
   none-valid : (counted : Bool) (count : ℕ) → counted ≡ false → counted ≡ true → noRecord ≡ recordOf count
   none-valid counted count none set = absurd (false≢true (sym none ∙ set))
 
-  rests-open : (b : Body) (t : Turn) → b .outcome .counted ≡ false → Rests b t → StringsUpToDate t → Goes store noRecord t
+  rests-open : (b : Body) (t : Transition) → b .outcome .counted ≡ false → Rests b t → StringsUpToDate t
+      → Goes store noRecord t
   rests-open b t none rests strings = rests-keep store noRecord b t rests strings (none-valid _ _ none)
+
+  unmarked : {operation : Operation} {counted : Bool} → askedFor store ≡ Operate operation → counted ≡ false
+      → Unmarked store counted operation store
+  unmarked asks none = record { same = refl; asks = asks; none = none }
 
   begun-opens :
       (b : Body) (operation : Operation)
       → b .outcome .counted ≡ false
       → askedFor store ≡ Operate operation
       → Goes store noRecord (begin b operation store)
-  unfolding begin orderMove pastTest pick InHand HeldUpToDate SentUpToDate
-  begun-opens b Read none asks = record { kept = record { hand = record { same = refl; asks = asks; none = none }; valid = none-valid _ _ none; holds = tt }; says = tt }
-  begun-opens b CheckBytes none asks = record { kept = record { hand = record { same = refl; asks = asks; none = none }; valid = none-valid _ _ none; holds = tt }; says = tt }
-  begun-opens b SuppliedCount none asks = record { kept = record { hand = record { same = refl; asks = asks; none = none }; valid = none-valid _ _ none; holds = tt }; says = tt }
-  begun-opens b Write none asks = record { kept = record { hand = record { same = refl; asks = asks; none = none }; valid = none-valid _ _ none; holds = tt }; says = tt }
-  begun-opens b Erase none asks = record { kept = record { hand = record { same = refl; asks = asks; none = none }; valid = none-valid _ _ none; holds = tt }; says = tt }
-  begun-opens b Rewind none asks = record { kept = record { hand = record { same = refl; asks = asks; none = none }; valid = none-valid _ _ none; holds = tt }; says = tt }
-  begun-opens b FastForward none asks = record { kept = record { hand = record { same = refl; asks = asks; none = none }; valid = none-valid _ _ none; holds = tt }; says = tt }
-  begun-opens b SkipForward none asks = record { kept = record { hand = record { same = refl; asks = asks; none = none }; valid = none-valid _ _ none; holds = tt }; says = tt }
-  begun-opens b SkipReverse none asks = record { kept = record { hand = record { same = refl; asks = asks; none = none }; valid = none-valid _ _ none; holds = tt }; says = tt }
-  begun-opens b SearchForward none asks = record { kept = record { hand = record { same = refl; asks = asks; none = none }; valid = none-valid _ _ none; holds = tt }; says = tt }
-  begun-opens b SearchReverse none asks = record { kept = record { hand = record { same = refl; asks = asks; none = none }; valid = none-valid _ _ none; holds = tt }; says = tt }
-  begun-opens b WriteMark none asks = record { kept = record { hand = record { same = refl; asks = asks; none = none }; valid = none-valid _ _ none; holds = tt }; says = tt }
+  unfolding orderMove InHand HeldUpToDate SentUpToDate
+  begun-opens b operation none =
+      by-beginning (λ operation t. askedFor store ≡ Operate operation → Goes store noRecord t) b store
+      (λ o same asks.
+      record {
+        kept =
+            record { hand = unmarked asks (same ∙ none); valid = none-valid _ _ (same ∙ none); holds = tt };
+        says = tt;
+      })
+      (λ asks. record {
+        kept = record { hand = unmarked asks none; valid = none-valid _ _ none; holds = tt };
+        says = tt;
+      })
+      (λ operation o same ordered asks.
+      record {
+        kept =
+            record { hand = unmarked asks (same ∙ none); valid = none-valid _ _ (same ∙ none); holds = tt };
+        says = tt;
+      })
+      operation
 
   decoded-opens :
       (b : Body) (decode : Decoded)
@@ -187,15 +196,20 @@ module _ (store : Store) where
       → ((operation : Operation) → decode ≡ Operate operation → askedFor store ≡ Operate operation)
       → Goes store noRecord (decoded b store decode)
   unfolding follow courseOf resetState startBody noOutcome InHand HeldUpToDate SentUpToDate
-  decoded-opens b Reset none asks = record { kept = record { hand = tt; valid = none-valid false _ refl; holds = tt }; says = tt }
+  decoded-opens b Reset none asks =
+      record { kept = record { hand = tt; valid = none-valid false _ refl; holds = tt }; says = tt }
   decoded-opens b (Code code) none asks = rests-open b _ none (ended-rests b store code) (ended-strings b store code)
   decoded-opens b (Track track) none asks =
-      rests-open (withCurrentDrive b (withTrack (currentDrive b) track)) _ none (settled-rests _ store) (settled-strings _ store)
-  decoded-opens b (Enable enable) none asks = rests-open (withFlags b (b .changed) enable) _ none (settled-rests _ store) (settled-strings _ store)
+      rests-open (withCurrentDrive b (withTrack (currentDrive b) track)) _ none (settled-rests _ store)
+      (settled-strings _ store)
+  decoded-opens b (Enable enable) none asks =
+      rests-open (withFlags b (b .changed) enable) _ none (settled-rests _ store) (settled-strings _ store)
   decoded-opens b (Guard guard) none asks =
-      rests-open (withCurrentDrive b (withGuard (currentDrive b) guard)) _ none (settled-rests _ store) (settled-strings _ store)
+      rests-open (withCurrentDrive b (withGuard (currentDrive b) guard)) _ none (settled-rests _ store)
+      (settled-strings _ store)
   decoded-opens b (Density density) none asks =
-      rests-open (withCurrentDrive b (withDensity (currentDrive b) density)) _ none (settled-rests _ store) (settled-strings _ store)
+      rests-open (withCurrentDrive b (withDensity (currentDrive b) density)) _ none (settled-rests _ store)
+      (settled-strings _ store)
   decoded-opens b (Operate operation) none asks =
       by-test-of (Goes store noRecord) b store operation (begun-opens b operation none (asks operation refl))
       (rests-open b _ none (ended-rests b store illegalMotion) (ended-strings b store illegalMotion))
@@ -203,7 +217,8 @@ module _ (store : Store) where
   carried-opens : (b : Body) → Goes store noRecord (carryOut b store)
   unfolding carryOut carryOutOn clearOutcome noOutcome
   carried-opens b =
-      pick-by (Goes store noRecord) (namesUnknown store) (λ unknown. rests-open _ _ refl (ended-rests _ store illegalDrive) (ended-strings _ store illegalDrive))
+      pick-by (Goes store noRecord) (namesUnknown store)
+      (λ unknown. rests-open _ _ refl (ended-rests _ store illegalDrive) (ended-strings _ store illegalDrive))
       (λ drive. decoded-opens _ (askedIn store _) refl (asked-operation _ (askedFor store)))
 
 stores-case : OfStores Keeps
@@ -223,16 +238,20 @@ handings-case b s store last own before = carried-opens store b
 -- whatever drive is written
 written :
     (b : Body) (held : Store) (drive : Drive) (host : Host) (space check : List ℕ)
-    → Keeps (stated b (DataAwaited held)) (exchanged (hostData host space check) (dataDone b drive held host space check))
-unfolding dataDone settleData dataWords orderMove lastStore carriesOut bringsStore storeBrought notRefused ownRecord recordAfter InHand HeldUpToDate SentUpToDate pick
+    → Keeps (stated b (DataAwaited held))
+    (exchanged (hostData host space check) (dataDone b drive held host space check))
+unfolding dataDone settleData dataWords orderMove lastStore carriesOut bringsStore storeBrought notRefused ownRecord
+    recordAfter InHand HeldUpToDate SentUpToDate pick
 written b held drive host space check last own before =
     record { kept = record { hand = before .hand; valid = before .valid; holds = tt }; says = tt }
 
 writes-case : OfData Keeps
 unfolding dataIn
-writes-case b held host space check = data-for Keeps refusals-case b held _ host space check (written b held _ host space check)
+writes-case b held host space check =
+    data-for Keeps refusals-case b held _ host space check (written b held _ host space check)
 
-module _ (drive : Drive) (operation : Operation) (last store : Store) (r : Result) (before check : ℕ) (same : store ≡ last) (asks : askedFor last ≡ Operate operation)
+module _ (drive : Drive) (operation : Operation) (last store : Store) (r : Result) (before check : ℕ)
+    (same : store ≡ last) (asks : askedFor last ≡ Operate operation)
     (good : resultRefusal drive operation store r check ≡ 0) where
   abbrev verdict : Verdict
   verdict = verdictOf drive operation store r
@@ -251,7 +270,8 @@ module _ (drive : Drive) (operation : Operation) (last store : Store) (r : Resul
   supplied-told set =
       by-test (suppliesCount operation)
       (λ supplies.
-      let some : eqb (heldCount store) 0 ≡ false = sym (ap (λ (n : ℕ). eqb n 0) (pick-yes _ _ supplies)) ∙ not-true _ set in
+      let some : eqb (heldCount store) 0
+      ≡ false = sym (ap (λ (n : ℕ). eqb n 0) (pick-yes _ _ supplies)) ∙ not-true _ set in
       pick-yes _ _ (asks-is SuppliedCount ∙ supplies)
       ∙ ap (λ (s : Store). pick (eqb (heldCount s) 0) noRecord (recordOf (heldCount s))) (sym same)
       ∙ pick-no _ _ some
@@ -270,13 +290,17 @@ module _ (drive : Drive) (operation : Operation) (last store : Store) (r : Resul
         ∙ sym (ap recordOf (pick-no _ _ unset ∙ pick-yes _ _ uses ∙ pick-yes _ _ uses ∙ pick-no _ _ own))
 
     -- a write well done is the store's own
-    write-told : suppliesCount operation ≡ false → verdict .used ≡ false → wroteWell operation (verdict .code) ≡ true → told
+    write-told : suppliesCount operation ≡ false → verdict .used ≡ false → wroteWell operation (verdict .code) ≡ true
+        → told
     unfolding passedBy resultCount verdictOf wroteWell
     write-told own unused well =
         let (writes, zero) = both-hold (sameOperation operation Write) (eqb (verdict .code) 0) well in
-        let (there, reported) = final-zero (isGone drive operation) (codeReported operation store (r .code)) (findingsRead operation (r .marks)) (eqb-true (verdict .code) 0 zero) in
+        let (there, reported) = final-zero (isGone drive operation) (codeReported operation store (r .code))
+        (findingsRead operation (r .marks)) (eqb-true (verdict .code) 0 zero) in
         let code = reported-zero operation store (r .code) reported in
-        let empty : eqb (length (r .image)) 0 ≡ true = not-false (eqb (length (r .image)) 0) (sym (ap (λ (t : Bool). not t && not (eqb (length (r .image)) 0)) there) ∙ unused) in
+        let empty : eqb (length (r .image)) 0
+        ≡ true = not-false (eqb (length (r .image)) 0)
+        (sym (ap (λ (t : Bool). not t && not (eqb (length (r .image)) 0)) there) ∙ unused) in
         pick-no _ _ (asks-is SuppliedCount ∙ own)
         ∙ pick-yes _ _ empty
         ∙ pick-yes _ _ (ap₂ (λ (t : Bool) (n : ℕ). t && eqb n 0) (asks-is Write ∙ writes) code)
@@ -288,57 +312,74 @@ module _ (drive : Drive) (operation : Operation) (last store : Store) (r : Resul
     unfolding verdictOf suppliedCount wroteWell
     none-told supplies =
         let zero : heldCount store ≡ 0 = sym (pick-yes _ _ supplies) ∙ eqb-true _ 0 (not-false _ unset) in
-        let empty : eqb (length (r .image)) 0 ≡ true = eq-eqb _ 0 (supplied-none drive r operation store check good supplies zero) in
+        let empty : eqb (length (r .image)) 0
+        ≡ true = eq-eqb _ 0 (supplied-none drive r operation store check good supplies zero) in
         let unused : (not (isGone drive operation) && not (eqb (length (r .image)) 0)) ≡ false =
         ap (λ (t : Bool). not (isGone drive operation) && not t) empty ∙ and-false (not (isGone drive operation)) in
-        let other : sameOperation operation Write ≡ false = ap (λ (n : ℕ). eqb n (numberOf Write)) (eqb-true (numberOf operation) (numberOf SuppliedCount) supplies) in
+        let other : sameOperation operation Write
+        ≡ false = ap (λ (n : ℕ). eqb n (numberOf Write))
+        (eqb-true (numberOf operation) (numberOf SuppliedCount) supplies) in
         ap₂ (λ (t u : Bool). t || (u && eqb (verdict .code) 0)) unused other
 
     image-or-write-told : (verdict .used || wroteWell operation (verdict .code)) ≡ true → told
     image-or-write-told set =
         by-test (suppliesCount operation) (λ supplies. absurd (false≢true (sym (none-told supplies) ∙ set)))
         (λ own. by-test (verdict .used) (image-told own)
-        (λ unused. write-told own unused (sym (ap (λ (t : Bool). t || wroteWell operation (verdict .code)) unused) ∙ set)))
+        (λ unused. write-told own unused
+        (sym (ap (λ (t : Bool). t || wroteWell operation (verdict .code)) unused) ∙ set)))
 
   either-told : (verdict .supplied || (verdict .used || wroteWell operation (verdict .code))) ≡ true → told
   either-told set =
       by-test (verdict .supplied) supplied-told
-      (λ unset. image-or-write-told unset (sym (ap (λ (t : Bool). t || (verdict .used || wroteWell operation (verdict .code))) unset) ∙ set))
+      (λ unset. image-or-write-told unset
+      (sym (ap (λ (t : Bool). t || (verdict .used || wroteWell operation (verdict .code))) unset) ∙ set))
 
 -- whatever drive moved
 ended :
     (b : Body) (operation : Operation) (held : Store) (drive : Drive) (r : Result) (space check : List ℕ)
     → resultRefusal drive operation held r (length check) ≡ 0
-    → Keeps (stated b (ResultAwaited operation held)) (exchanged (result r space check) (resultDone b drive operation held r space check))
-unfolding resultDone settleResult resultWords resultBits withRetry lastStore carriesOut bringsStore storeBrought notRefused ownRecord recordAfter InHand pick
+    → Keeps (stated b (ResultAwaited operation held))
+    (exchanged (result r space check) (resultDone b drive operation held r space check))
+unfolding resultDone settleResult resultWords resultBits withRetry lastStore carriesOut bringsStore storeBrought
+    notRefused ownRecord recordAfter InHand pick
 ended b operation held drive r space check good last own before =
     let mine = before .hand in
     let verdict = verdictOf drive operation held r in
     let body = withAfter b (settleResult (wordsOf b) drive operation held r (length space) check) in
     rests-keep last (passedBy last r) body _ (ending-rests body operation held) (ending-strings body operation held)
-    (λ set. either-told drive operation last held r (b .outcome .result .count) (length check) (mine .same) (mine .asks) good
-    (sym (ap (λ (t : Bool). t || (verdict .supplied || (verdict .used || wroteWell operation (verdict .code)))) (mine .none)) ∙ set))
+    (λ set. either-told drive operation last held r (b .outcome .result .count) (length check) (mine .same) (mine .asks)
+    good
+    (sym (ap (λ (t : Bool). t || (verdict .supplied || (verdict .used || wroteWell operation (verdict .code))))
+    (mine .none)) ∙ set))
 
 results-case : OfResults Keeps
 unfolding resultIn
-results-case b operation held r space check = result-for Keeps refusals-case b held _ operation r space check (ended b operation held _ r space check)
+results-case b operation held r space check =
+    result-for Keeps refusals-case b held _ operation r space check (ended b operation held _ r space check)
 
 -- ---- every call, and every list
 
 keeps : Kinds Keeps
-unfolding yesToGo resetState startBody noOutcome lastStore carriesOut bringsStore storeBrought notRefused ownRecord recordAfter InHand HeldUpToDate SentUpToDate pick
+unfolding yesToGo resetState startBody noOutcome lastStore carriesOut bringsStore storeBrought notRefused ownRecord
+    recordAfter InHand HeldUpToDate SentUpToDate pick
 keeps =
     record {
       refusals = refusals-case;
       link = link-case;
       stores = stores-case;
       handings = handings-case;
-      reports = λ c n r within last own before. record { kept = record { hand = before .hand; valid = before .valid; holds = before .holds }; says = tt };
-      yes = λ b held value accepts last own before. record { kept = record { hand = before .hand; valid = before .valid; holds = tt }; says = tt };
+      reports =
+          λ c n r within last own before.
+          record { kept = record { hand = before .hand; valid = before .valid; holds = before .holds }; says = tt };
+      yes =
+          λ b held value accepts last own before.
+          record { kept = record { hand = before .hand; valid = before .valid; holds = tt }; says = tt };
       no = no-case;
       writes = writes-case;
       results = results-case;
-      resets = λ c last own before. record { kept = record { hand = tt; valid = λ set. absurd (false≢true set); holds = tt }; says = tt };
+      resets =
+          λ c last own before.
+          record { kept = record { hand = tt; valid = λ set. absurd (false≢true set); holds = tt }; says = tt };
     }
 
 -- what is sent is the record's own
@@ -377,4 +418,5 @@ own-from (call ∷ calls) last own c before =
 
 pub counts-are-own : (calls : List Call) → CountsAreOwn (run fresh calls)
 unfolding fresh startBody noOutcome InHand HeldUpToDate
-counts-are-own calls = own-from calls noStore noRecord fresh (record { hand = tt; valid = λ set. absurd (false≢true set); holds = tt })
+counts-are-own calls =
+    own-from calls noStore noRecord fresh (record { hand = tt; valid = λ set. absurd (false≢true set); holds = tt })

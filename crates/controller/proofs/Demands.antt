@@ -1,7 +1,9 @@
--- The three demands, of the calls themselves. 1: `calls-meet-their-contracts` and `refused-calls-change-nothing`. 2: `calls-run-the-machine`: a list of exchanges from a fresh
--- controller in which every answer is one that the contract of its call's own function allows is the machine's run. 3:
--- `calls-keep-drives-separate`: the drives are separate in any two such lists; `calls-leave-job-order-free`: stores of different drives may be reordered, from any idle state. And of every such list: `calls-count-their-own-record`, and
--- `calls-order-what-was-asked` and `calls-hand-back-each-record`; of any result: `calls-ask-trusted-retries`.
+-- The three demands, of the calls themselves. 1: `calls-meet-their-contracts` and `refused-calls-change-nothing`. 2:
+-- `calls-refine-the-machine`: a list of exchanges from a fresh controller in which every answer is one that the
+-- contract of its call's own function allows is the machine's run. 3: `drives-do-not-interfere`: the drives are
+-- separate in any two such lists; `stores-on-different-drives-commute`: stores of different drives may be reordered,
+-- from any idle state. And of every such list: `calls-count-their-own-record`, and `calls-order-what-was-asked` and
+-- `calls-hand-back-each-record`; of any result: `calls-ask-trusted-retries`.
 -- Assumes nothing.
 pub mod Contracts
 use mathlib.Core.Path.{_≡_, refl, sym, ap, ap₂, subst, subst₂, _∙_}
@@ -33,14 +35,15 @@ use Rattle.controller.proofs.Demands.Contracts.{Allows, Meet, all-met, 
 
 -- ---- demand 1
 
--- Each call's own function, and the one that makes a fresh controller, meets its contract, which has no `requires`; so it returns and does
--- nothing undefined, whatever it is handed.
+-- Each call's own function, and the one that makes a fresh controller, meets its contract, which has no `requires`; so
+-- it returns and does nothing undefined, whatever it is handed.
 pub calls-meet-their-contracts : {M : Type 1} → Meet M
 calls-meet-their-contracts = all-met
 
--- A refused call changes nothing: whatever state it is handed, damaged ones included, the state comes back as it was, nothing is to be done, no
--- byte is given, and the lent space and the check store are as they were lent.
-pub refused-calls-change-nothing : (c : Controller) (call : Call) (answer : Answer) → Allows c call answer → RefusedUnchanged c call answer
+-- A refused call changes nothing: whatever state it is handed, damaged ones included, the state comes back as it was,
+-- nothing is to be done, no byte is given, and the lent space and the check store are as they were lent.
+pub refused-calls-change-nothing : (c : Controller) (call : Call) (answer : Answer) → Allows c call answer
+    → RefusedUnchanged c call answer
 refused-calls-change-nothing c call answer allowed =
     subst (RefusedUnchanged c call) (sym (answers-are-steps c call answer allowed)) (steps-refused-unchanged c call)
 
@@ -66,12 +69,14 @@ unfolding Made callsOf run
 made-runs c [] made = refl
 made-runs c (x ∷ xs) (allowed, others) =
     let answer = answers-are-steps c (x .call) (x .answer) allowed in
-    ap₂ (λ (y : Exchange) (ys : List Exchange). y ∷ ys) (ap (λ (a : Answer). record { call = x .call; answer = a }) answer)
-    (made-runs (x .answer .reply .controller) xs others ∙ ap (λ (a : Answer). run (a .reply .controller) (callsOf xs)) answer)
+    ap₂ (λ (y : Exchange) (ys : List Exchange). y ∷ ys)
+    (ap (λ (a : Answer). record { call = x .call; answer = a }) answer)
+    (made-runs (x .answer .reply .controller) xs others
+    ∙ ap (λ (a : Answer). run (a .reply .controller) (callsOf xs)) answer)
 
 -- Every answer, state and buffer is the machine's.
-pub calls-run-the-machine : (xs : List Exchange) → FromFresh xs → xs ≡ run fresh (callsOf xs)
-calls-run-the-machine xs made =
+pub calls-refine-the-machine : (xs : List Exchange) → FromFresh xs → xs ≡ run fresh (callsOf xs)
+calls-refine-the-machine xs made =
     made-runs (made .start) xs (made .goes) ∙ ap (λ (c : Controller). run c (callsOf xs)) (made .begins)
 
 -- and the machine's run is such a list, so the demands speak of something
@@ -86,9 +91,10 @@ runs-are-from-fresh calls = record { start = fresh; begins = refl; goes = runs-a
 -- ---- demand 3
 
 -- The drives are separate.
-pub calls-keep-drives-separate : (xs ys : List Exchange) → FromFresh xs → FromFresh ys → Separate xs ys
-calls-keep-drives-separate xs ys one two =
-    subst₂ Separate (sym (calls-run-the-machine xs one)) (sym (calls-run-the-machine ys two)) (drives-are-separate (callsOf xs) (callsOf ys))
+pub drives-do-not-interfere : (xs ys : List Exchange) → FromFresh xs → FromFresh ys → Separate xs ys
+drives-do-not-interfere xs ys one two =
+    subst₂ Separate (sym (calls-refine-the-machine xs one)) (sym (calls-refine-the-machine ys two))
+    (drives-are-separate (callsOf xs) (callsOf ys))
 
 -- ---- job order among drives
 
@@ -103,7 +109,8 @@ unfoldable callsOfAll : List (List Exchange) → List (List Call)
 callsOfAll [] = []
 callsOfAll (xs ∷ others) = callsOf xs ∷ callsOfAll others
 
-made-all-run : (c : Controller) (stores : List (List Exchange)) → Made c (allOf stores) → stores ≡ runs c (callsOfAll stores)
+made-all-run : (c : Controller) (stores : List (List Exchange)) → Made c (allOf stores)
+    → stores ≡ runs c (callsOfAll stores)
 unfolding allOf runs callsOfAll
 made-all-run c [] made = refl
 made-all-run c (xs ∷ others) made =
@@ -112,34 +119,43 @@ made-all-run c (xs ∷ others) made =
     ap₂ (λ (l : List Exchange) (m : List (List Exchange)). l ∷ m) one
     (made-all-run (after c xs) others rest ∙ ap (λ (l : List Exchange). runs (after c l) (callsOfAll others)) one)
 
--- Stores of different drives may be carried out in any order: all four tracks, densities, gaps and guards end alike. From any idle state.
-pub calls-leave-job-order-free : (c : Controller) (stores others : List (List Exchange))
+-- Stores of different drives may be carried out in any order: all four tracks, densities, gaps and guards end alike.
+-- From any idle state.
+pub stores-on-different-drives-commute : (c : Controller) (stores others : List (List Exchange))
     → Made c (allOf stores)
     → Made c (allOf others)
     → OrderIsFree c stores others
-calls-leave-job-order-free c stores others one two =
-    subst₂ (OrderIsFree c) (sym (made-all-run c stores one)) (sym (made-all-run c others two)) (order-is-free c (callsOfAll stores) (callsOfAll others))
+stores-on-different-drives-commute c stores others one two =
+    subst₂ (OrderIsFree c) (sym (made-all-run c stores one)) (sym (made-all-run c others two))
+    (order-is-free c (callsOfAll stores) (callsOfAll others))
 
 -- ---- claims over every list, resets and stores that name no drive included
 
--- Wherever primary's bit 22 is set, secondary is the count of the record that the last store carried out itself passed or wrote, or that it supplied.
+-- Wherever primary's bit 22 is set, secondary is the count of the record that the last store carried out itself passed
+-- or wrote, or that it supplied.
 pub calls-count-their-own-record : (xs : List Exchange) → FromFresh xs → CountsAreOwn xs
-calls-count-their-own-record xs made = subst CountsAreOwn (sym (calls-run-the-machine xs made)) (counts-are-own (callsOf xs))
+calls-count-their-own-record xs made =
+    subst CountsAreOwn (sym (calls-refine-the-machine xs made)) (counts-are-own (callsOf xs))
 
--- Every motion order is the one that its store asked for, of the drive that it selected; none goes out unasked, and no store gives two.
+-- Every motion order is the one that its store asked for, of the drive that it selected; none goes out unasked, and no
+-- store gives two.
 pub calls-order-what-was-asked : (xs : List Exchange) → FromFresh xs → OrdersAreAsked xs
-calls-order-what-was-asked xs made = subst OrdersAreAsked (sym (calls-run-the-machine xs made)) (orders-are-asked (callsOf xs))
+calls-order-what-was-asked xs made =
+    subst OrdersAreAsked (sym (calls-refine-the-machine xs made)) (orders-are-asked (callsOf xs))
 
--- The record of code, motion and count is handed back once for each store that ended, and is what primary and secondary then show; nothing else
--- hands one back, and none is lost.
+-- The record of code, motion and count is handed back once for each store that ended, and is what primary and secondary
+-- then show; nothing else hands one back, and none is lost.
 pub calls-hand-back-each-record : (xs : List Exchange) → FromFresh xs → RecordsAreHanded xs
-calls-hand-back-each-record xs made = subst RecordsAreHanded (sym (calls-run-the-machine xs made)) (records-are-handed (callsOf xs))
+calls-hand-back-each-record xs made =
+    subst RecordsAreHanded (sym (calls-refine-the-machine xs made)) (records-are-handed (callsOf xs))
 
 -- ---- the retry bit
 
--- After a forward skip that went well bit 2 of primary is clear, and a code that loses the tape, or 16, always sets it: of any result that is not
--- refused, whatever state it is handed.
-pub calls-ask-trusted-retries : (c : Controller) (r : Result) (space check : List ℕ) (answer : Answer) → Allows c (result r space check) answer → RetryTrusted c r answer
+-- After a forward skip that went well bit 2 of primary is clear, and a code that loses the tape, or 16, always sets it:
+-- of any result that is not refused, whatever state it is handed.
+pub calls-ask-trusted-retries : (c : Controller) (r : Result) (space check : List ℕ) (answer : Answer)
+    → Allows c (result r space check) answer → RetryTrusted c r answer
 unfolding step
 calls-ask-trusted-retries c r space check answer allowed =
-    subst (RetryTrusted c r) (sym (answers-are-steps c (result r space check) answer allowed)) (retries-are-trusted c r space check)
+    subst (RetryTrusted c r) (sym (answers-are-steps c (result r space check) answer allowed))
+    (retries-are-trusted c r space check)

@@ -1,5 +1,5 @@
--- Demand 3 over the definitions: what a drive ends with and was given is a function of its own history alone, so two lists with the same
--- history of a drive agree on it.
+-- Demand 3 over the definitions: what a drive ends with and was given is a function of its own history alone, so two
+-- lists with the same history of a drive agree on it.
 -- Assumes nothing.
 pub mod OneDrive
 pub mod Views
@@ -18,7 +18,8 @@ use Rattle.controller.specs.declared.controller.Controller.{Controller}
 use Rattle.controller.specs.Controller.{fresh}
 use Rattle.controller.specs.Machine.{Call, Exchange, step, run}
 use Rattle.controller.specs.Lists.{lastStore, noStore, after}
-use Rattle.controller.specs.Separation.{Event, Output, eventsOf, historyFrom, outputsFrom, admits, admittedFrom, EndsAlike, Separate}
+use Rattle.controller.specs.Separation.{Event, Output, eventsOf, historyFrom, outputsFrom, admits, admittedFrom}
+use Rattle.controller.specs.Separation.{EndsAlike, Separate}
 use Rattle.controller.proofs.DrivesAreSeparate.OneDrive.{View, told, gives, toldAll, givesAll}
 use Rattle.controller.proofs.Steps.Resting.{seen}
 use Rattle.controller.proofs.DrivesAreSeparate.Views.{viewOf, InHand}
@@ -38,11 +39,13 @@ unfolding toldAll givesAll
 gives-append d v [] more = refl
 gives-append d v (event ∷ events) more =
     ap (λ (l : List Output). gives d v event ++ l) (gives-append d (told v event) events more)
-    ∙ sym (append-assoc (gives d v event) (givesAll d (told v event) events) (givesAll d (toldAll (told v event) events) more))
+    ∙ sym (append-assoc (gives d v event) (givesAll d (told v event) events)
+    (givesAll d (toldAll (told v event) events) more))
 
 -- ---- a whole list
 
--- the machine of one drive, over the drive's history, ends where the controller has the drive, and gives what the controller gave it
+-- the machine of one drive, over the drive's history, ends where the controller has the drive, and gives what the
+-- controller gave it
 pub record Determined (d : ℕ) (last : Store) (c : Controller) (xs : List Exchange) : Type 0 where
   pub drive : seen d (after c xs .body) ≡ toldAll (viewOf d last c) (historyFrom d last c xs) .drive
   pub given : outputsFrom d last c xs ≡ givesAll d (viewOf d last c) (historyFrom d last c xs)
@@ -72,7 +75,8 @@ determined d low (call ∷ calls) last c held admitted =
           ∙ ap (λ (w : View). toldAll w more .drive) (follows .view)
           ∙ sym (ap (λ (w : View). w .drive) (told-append v events more));
       given =
-          ap₂ (λ (l m : List Output). l ++ m) (follows .given) (rest .given ∙ ap (λ (w : View). givesAll d w more) (follows .view))
+          ap₂ (λ (l m : List Output). l ++ m) (follows .given)
+          (rest .given ∙ ap (λ (w : View). givesAll d w more) (follows .view))
           ∙ sym (gives-append d v events more);
     }
 
@@ -93,7 +97,8 @@ unfolding fresh InHand
 drives-are-separate calls others d low admitted-one admitted-two same =
     let one = determined d low calls noStore fresh tt admitted-one in
     let two = determined d low others noStore fresh tt admitted-two in
-    let drive = one .drive ∙ ap (λ (events : List Event). toldAll (viewOf d noStore fresh) events .drive) same ∙ sym (two .drive) in
+    let drive = one .drive ∙ ap (λ (events : List Event). toldAll (viewOf d noStore fresh) events .drive) same
+    ∙ sym (two .drive) in
     record {
       ends = seen-alike _ _ drive;
       given = one .given ∙ ap (givesAll d (viewOf d noStore fresh)) same ∙ sym (two .given);

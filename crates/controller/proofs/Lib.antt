@@ -1,4 +1,6 @@
 pub mod DamageLaws
+pub mod IdleLaws
+pub mod WrittenOut
 pub mod LongCounts
 pub mod AnswerLaws
 pub mod BenchCases
@@ -15,3 +17,4 @@ pub mod RetriesAreTrusted
 pub mod RecordsAreHanded
 pub mod Demands
 pub mod WrongAnswers
+pub mod SameMachine

@@ -1,6 +1,6 @@
--- No count is above the limit (document 02, Wish 10): "Since 65,535 is the limit, no 16-bit count is above it. Show that, then remove the test,
--- however it is done now, in stores and images; every call answers as before." Where the test stood, the definition with it is written here as it was,
--- and is the one without it, of all that a byte can be.
+-- No count is above the limit (document 02, request 10): "Since 65,535 is the limit, no 16-bit count is above it. Show
+-- that, then remove the test, however it is done now, in stores and images; every call answers as before." Where the
+-- test stood, the definition with it is written here as it was, and is the one without it, of all that a byte can be.
 -- Assumes nothing.
 use mathlib.Core.Path.{_≡_, refl}
 use mathlib.Core.Bool.{Bool, true, not, _||_, or-true}
@@ -24,7 +24,8 @@ use Rattle.operations.specs.Codes.{illegalStore}
 use Rattle.operations.specs.Decode.{controlOf, readOf, decodeOf}
 use Rattle.operations.specs.Store.{heldCount}
 use Rattle.link.specs.declared.state.Phase.{Phase}
-use Rattle.link.specs.declared.state.Phase.the-variants.{Collecting, AckOffered, Sending, GoOffered, DataAwaited, ResultAwaited, EndOffered}
+use Rattle.link.specs.declared.state.Phase.the-variants.{Collecting, AckOffered, Sending, GoOffered, DataAwaited}
+use Rattle.link.specs.declared.state.Phase.the-variants.{ResultAwaited, EndOffered}
 use Rattle.link.specs.Bytes.{mostNoes}
 use Rattle.link.specs.Damaged.{soundPart, soundString, soundPhase}
 use Rattle.transfers.specs.Expected.{unmarkedRefusal}
@@ -53,12 +54,16 @@ decodeTested operation first third fourth =
     (pick (eqb operation 3) (controlOf fourth)
     (pick (eqb operation 4)
     (pick (eqb first 0x00) (Operate Read)
-    (pick (eqb first 0x40) (Operate CheckBytes) (pick (eqb first 0x80) (countTested SuppliedCount (third * 256 + fourth)) (Code illegalStore))))
-    (pick (eqb operation 5) (countTested Write (third * 256 + fourth)) (pick (eqb operation 6) (Operate Erase) (Code illegalStore)))))
+    (pick (eqb first 0x40) (Operate CheckBytes)
+    (pick (eqb first 0x80) (countTested SuppliedCount (third * 256 + fourth)) (Code illegalStore))))
+    (pick (eqb operation 5) (countTested Write (third * 256 + fourth))
+    (pick (eqb operation 6) (Operate Erase) (Code illegalStore)))))
 
-pub decodes-as-before : (operation first third fourth : ℕ) → third < 256 → fourth < 256 → decodeOf operation first fourth ≡ decodeTested operation first third fourth
+pub decodes-as-before : (operation first third fourth : ℕ) → third < 256 → fourth < 256
+    → decodeOf operation first fourth ≡ decodeTested operation first third fourth
 unfolding decodeOf readOf pick
-decodes-as-before operation first third fourth high low = simp (le-ltb limit (third * 256 + fourth) (operand-within third fourth high low))
+decodes-as-before operation first third fourth high low =
+    simp (le-ltb limit (third * 256 + fourth) (operand-within third fourth high low))
 
 -- ---- held counts
 
@@ -72,7 +77,8 @@ phaseTested (AckOffered s) = soundString s
 phaseTested (Sending send) = leb (send .noes) mostNoes
 phaseTested (GoOffered store) = countSound store
 phaseTested (DataAwaited store) = countSound store
-phaseTested (ResultAwaited operation store) = not (sameOperation operation Write || suppliesCount operation) || countSound store
+phaseTested (ResultAwaited operation store) =
+    not (sameOperation operation Write || suppliesCount operation) || countSound store
 phaseTested (EndOffered interrupt) = true
 
 abbrev pub Operand : Store → Type 0

@@ -1,5 +1,6 @@
--- Job order among drives, over the definitions: what a completed store does to its drive is a function of that drive and of the store alone, and it does nothing
--- to another. So the four drives end as their own stores, in their own order, leave them.
+-- Job order among drives, over the definitions: what a completed store does to its drive is a function of that drive
+-- and of the store alone, and it does nothing to another. So the four drives end as their own stores, in their own
+-- order, leave them.
 -- Assumes nothing.
 use mathlib.Core.Path.{_≡_, refl, sym, ap, ap₂, subst, _∙_}
 use Prim.Native.Nat.{ℕ, _≤_}
@@ -13,15 +14,18 @@ use Rattle.status.specs.declared.drives.Drive.{Drive}
 use Rattle.operations.specs.declared.store.Store.{Store}
 use Rattle.operations.specs.Store.{namesDrive, namedDrive}
 use Rattle.link.specs.declared.state.Phase.{Phase}
-use Rattle.link.specs.declared.state.Phase.the-variants.{Collecting, AckOffered, Sending, GoOffered, DataAwaited, ResultAwaited, EndOffered}
+use Rattle.link.proofs.PhaseLaws.{each-phase}
 use Rattle.controller.specs.declared.controller.Controller.{Controller}
 use Rattle.controller.specs.Controller.{isIdleIn, isIdle}
 use Rattle.controller.specs.Machine.{Call, Exchange, run}
 use Rattle.controller.specs.Machine.Call.{byte, taken, broken, report, hostData, result, tick, reset, hand}
 use Rattle.controller.specs.Lists.{notRefused, holdsStore, storeBrought, carriesOut, lastStore, noStore, after}
-use Rattle.controller.specs.Separation.{Event, isOf, awaitsGo, eventOf, eventsOf, historyFrom, admittedFrom, EndsAlike}
+use Rattle.controller.specs.Separation.{Event, isOf, awaitsGo, eventOf, eventsOf, historyFrom, admittedFrom}
+use Rattle.controller.specs.Separation.{EndsAlike}
 use Rattle.controller.specs.Separation.Event.{reportCame, storeCame, goAnswered, dataCame, resultCame}
-use Rattle.controller.specs.JobOrder.{storesFrom, firstOf, isReport, reportsFixed, Completes, CompletedStore, withoutLength, withoutLengths, completedBy, allOf, AllComplete, completedStores, ownStores, SameOwnOrder, OrderIsFree}
+use Rattle.controller.specs.JobOrder.{storesFrom, firstOf, isReport, reportsFixed, Completes, CompletedStore}
+use Rattle.controller.specs.JobOrder.{withoutLength, withoutLengths, completedBy, allOf, AllComplete}
+use Rattle.controller.specs.JobOrder.{completedStores, ownStores, SameOwnOrder, OrderIsFree}
 use Rattle.controller.proofs.Steps.Resting.{Free, seen}
 use Rattle.controller.proofs.DrivesAreSeparate.OneDrive.{View, resting, told, toldAll}
 use Rattle.controller.proofs.DrivesAreSeparate.Views.{viewOf, free-held, free-view}
@@ -31,13 +35,10 @@ use Rattle.controller.proofs.DrivesAreSeparate.{determined, seen-alike}
 
 idle-free : (phase : Phase) → isIdleIn phase ≡ true → Free phase
 unfolding isIdleIn Free
-idle-free (Collecting s) idle = tt
-idle-free (AckOffered s) idle = tt
-idle-free (Sending s) idle = tt
-idle-free (GoOffered store) idle = absurd (false≢true idle)
-idle-free (DataAwaited store) idle = absurd (false≢true idle)
-idle-free (ResultAwaited operation store) idle = absurd (false≢true idle)
-idle-free (EndOffered interrupt) idle = tt
+idle-free =
+    each-phase (λ (phase : Phase). isIdleIn phase ≡ true → Free phase) (λ s idle. tt) (λ s idle. tt) (λ send idle. tt)
+    (λ store idle. absurd (false≢true idle)) (λ store idle. absurd (false≢true idle))
+    (λ operation store idle. absurd (false≢true idle)) (λ interrupt idle. tt)
 
 -- ---- the space that is lent
 
@@ -64,19 +65,24 @@ module _ (d : ℕ) where
   NoneOf (store ∷ stores) = (isOf d store ≡ false) × NoneOf stores
 
   -- a call that belongs to another drive's store, and is no report, is no event of the drive
-  no-event : (store : Store) (c : Controller) (call : Call) → isOf d store ≡ false → isReport call ≡ false → eventOf d store c call ≡ []
+  no-event : (store : Store) (c : Controller) (call : Call) → isOf d store ≡ false → isReport call ≡ false
+      → eventOf d store c call ≡ []
   unfolding eventOf isReport
   no-event store c (report drive r) other plain = absurd (false≢true (sym plain))
-  no-event store c taken other plain = pick-no _ [] (ap (λ (t : Bool). holdsStore c && t) other ∙ and-false (holdsStore c))
-  no-event store c (byte b) other plain = pick-no _ [] (ap (λ (t : Bool). awaitsGo (c .phase) && t) other ∙ and-false (awaitsGo (c .phase)))
-  no-event store c broken other plain = pick-no _ [] (ap (λ (t : Bool). awaitsGo (c .phase) && t) other ∙ and-false (awaitsGo (c .phase)))
+  no-event store c taken other plain =
+      pick-no _ [] (ap (λ (t : Bool). holdsStore c && t) other ∙ and-false (holdsStore c))
+  no-event store c (byte b) other plain =
+      pick-no _ [] (ap (λ (t : Bool). awaitsGo (c .phase) && t) other ∙ and-false (awaitsGo (c .phase)))
+  no-event store c broken other plain =
+      pick-no _ [] (ap (λ (t : Bool). awaitsGo (c .phase) && t) other ∙ and-false (awaitsGo (c .phase)))
   no-event store c (hostData host space check) other plain = pick-no _ [] other
   no-event store c (result r space check) other plain = pick-no _ [] other
   no-event store c (hand given) other plain = pick-no _ [] other
   no-event store c tick other plain = refl
   no-event store c reset other plain = refl
 
-  no-events : (store : Store) (c : Controller) (x : Exchange) → isOf d store ≡ false → not (notRefused x && isReport (x .call)) ≡ true → eventsOf d store c x ≡ []
+  no-events : (store : Store) (c : Controller) (x : Exchange) → isOf d store ≡ false
+      → not (notRefused x && isReport (x .call)) ≡ true → eventsOf d store c x ≡ []
   unfolding eventsOf
   no-events store c x other fixed =
       by-test (isReport (x .call))
@@ -84,7 +90,8 @@ module _ (d : ℕ) where
       (by-test (notRefused x)
       (λ done. absurd (false≢true (ap₂ (λ (s t : Bool). not (s && t)) (sym done) (sym report) ∙ fixed)))
       (λ refused. refused)))
-      (λ plain. ap (λ (l : List Event). pick (notRefused x) l []) (no-event store c (x .call) other plain) ∙ pick-both (notRefused x) [])
+      (λ plain. ap (λ (l : List Event). pick (notRefused x) l []) (no-event store c (x .call) other plain)
+      ∙ pick-both (notRefused x) [])
 
   -- a list without reports, and without a store of the drive, is not in its history
   no-history :
@@ -98,13 +105,17 @@ module _ (d : ℕ) where
   no-history (x ∷ xs) last c other none fixed =
       let next = x .answer .reply .controller in
       let (first, others) = both-hold (not (notRefused x && isReport (x .call))) (reportsFixed xs) fixed in
-      let at : (later : Store) → isOf d later ≡ false → NoneOf (storesFrom next xs) → eventsOf d later c x ++ historyFrom d later next xs ≡ [] =
-      λ later foreign rest. ap₂ (λ (l m : List Event). l ++ m) (no-events later c x foreign first) (no-history xs later next foreign rest others)
+      let at : (later : Store) → isOf d later ≡ false → NoneOf (storesFrom next xs)
+      → eventsOf d later c x ++ historyFrom d later next xs ≡ [] =
+      λ later foreign rest. ap₂ (λ (l m : List Event). l ++ m) (no-events later c x foreign first)
+      (no-history xs later next foreign rest others)
       in
       by-test (carriesOut c x)
       (λ yes. let (brought, rest) = subst NoneOf (pick-yes _ _ yes) none in
-      subst (λ (later : Store). eventsOf d later c x ++ historyFrom d later next xs ≡ []) (sym (pick-yes _ _ yes)) (at (storeBrought c (x .call)) brought rest))
-      (λ no. subst (λ (later : Store). eventsOf d later c x ++ historyFrom d later next xs ≡ []) (sym (pick-no _ _ no)) (at last other (subst NoneOf (pick-no _ _ no) none)))
+      subst (λ (later : Store). eventsOf d later c x ++ historyFrom d later next xs ≡ []) (sym (pick-yes _ _ yes))
+      (at (storeBrought c (x .call)) brought rest))
+      (λ no. subst (λ (later : Store). eventsOf d later c x ++ historyFrom d later next xs ≡ []) (sym (pick-no _ _ no))
+      (at last other (subst NoneOf (pick-no _ _ no) none)))
 
 -- ---- a completed store
 
@@ -128,7 +139,8 @@ module _ (d : ℕ) (low : d ≤ 3) where
     ended : seen d (after c (run c calls) .body) ≡ endedBy (seen d (c .body)) (historyFrom d noStore c (run c calls))
     ended =
         let free = idle-free (c .phase) idle in
-        determined d low calls noStore c (free-held noStore (c .body .selected) (c .phase) free) (completes .admitted) .drive
+        determined d low calls noStore c (free-held noStore (c .body .selected) (c .phase) free)
+        (completes .admitted) .drive
         ∙ ap (λ (v : View). toldAll v (historyFrom d noStore c (run c calls)) .drive) (free-view d noStore c free)
 
     -- its own store
@@ -146,10 +158,12 @@ module _ (d : ℕ) (low : d ≤ 3) where
     unfolding NoneOf isOf toldAll
     other-ended other =
         let store = firstOf (storesFrom c (run c calls)) in
-        let none : NoneOf d (store ∷ []) = (ap (λ (t : Bool). namesDrive store && t) other ∙ and-false (namesDrive store), tt) in
+        let none : NoneOf d (store ∷ []) =
+        (ap (λ (t : Bool). namesDrive store && t) other ∙ and-false (namesDrive store), tt) in
         ended
         ∙ ap (endedBy (seen d (c .body)))
-        (no-history d (run c calls) noStore c (none-names d) (subst (NoneOf d) (sym (completes .one)) none) (completes .fixed))
+        (no-history d (run c calls) noStore c (none-names d) (subst (NoneOf d) (sym (completes .one)) none)
+        (completes .fixed))
 
 -- ---- a list of them
 
@@ -169,7 +183,8 @@ all-ended :
     → (c : Controller) (stores : List (List Call))
     → isIdle c ≡ true
     → AllComplete c (runs c stores)
-    → seen d (after c (allOf (runs c stores)) .body) ≡ allEndedBy (seen d (c .body)) (ownStores d (completedStores c (runs c stores)))
+    → seen d (after c (allOf (runs c stores)) .body)
+    ≡ allEndedBy (seen d (c .body)) (ownStores d (completedStores c (runs c stores)))
 unfolding runs AllComplete completedStores ownStores allOf after allEndedBy completedBy
 all-ended d low c [] idle complete = refl
 all-ended d low c (calls ∷ others) idle (completes, rest) =
@@ -178,7 +193,8 @@ all-ended d low c (calls ∷ others) idle (completes, rest) =
     let more = runs next others in
     let stores = ownStores d (completedStores next more) in
     let whole : seen d (after c (xs ++ allOf more) .body) ≡ allEndedBy (seen d (next .body)) stores =
-    ap (λ (k : Controller). seen d (k .body)) (after-append c xs (allOf more)) ∙ all-ended d low next others (completes .ends) rest
+    ap (λ (k : Controller). seen d (k .body)) (after-append c xs (allOf more))
+    ∙ all-ended d low next others (completes .ends) rest
     in
     by-test (eqb (namedDrive (firstOf (storesFrom c xs))) d)
     (λ own. whole ∙ ap (λ (drive : Drive). allEndedBy drive stores) (own-ended d low c calls idle completes own)
@@ -191,7 +207,8 @@ all-ended d low c (calls ∷ others) idle (completes, rest) =
 pub order-is-free : (c : Controller) (stores others : List (List Call)) → OrderIsFree c (runs c stores) (runs c others)
 order-is-free c stores others idle one two same d low =
     seen-alike _ _
-    (all-ended d low c stores idle one ∙ ap (allEndedBy (seen d (c .body))) (same d low) ∙ sym (all-ended d low c others idle two))
+    (all-ended d low c stores idle one ∙ ap (allEndedBy (seen d (c .body))) (same d low)
+    ∙ sym (all-ended d low c others idle two))
 
 -- ---- the condition can be met
 
@@ -208,4 +225,5 @@ neighbours-change-places [] one other behind unlike d low =
     (λ foreign. rw (mine, foreign)))
     (λ foreign. by-test (eqb (other .drive) d) (λ its. rw (foreign, its)) (λ neither. rw (foreign, neither)))
 neighbours-change-places (store ∷ before) one other behind unlike d low =
-    ap (λ (l : List CompletedStore). pick (eqb (store .drive) d) (store ∷ l) l) (neighbours-change-places before one other behind unlike d low)
+    ap (λ (l : List CompletedStore). pick (eqb (store .drive) d) (store ∷ l) l)
+    (neighbours-change-places before one other behind unlike d low)

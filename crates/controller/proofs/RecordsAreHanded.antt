@@ -1,5 +1,5 @@
--- The record of code, motion and count is handed back once for each store that ended, and for nothing else (`records-are-handed`, over the
--- definitions).
+-- The record of code, motion and count is handed back once for each store that ended, and for nothing else
+-- (`records-are-handed`, over the definitions).
 -- Assumes nothing.
 use mathlib.Core.Path.{_≡_, refl, sym, ap, subst, _∙_}
 use Prim.Native.Nat.{ℕ}
@@ -13,7 +13,6 @@ use Rattle.status.specs.declared.words.Outcome.{Outcome}
 use Rattle.status.specs.declared.words.ResultRecord.{ResultRecord}
 use Rattle.status.specs.Drives.{withTrack, withDensity, withGuard}
 use Rattle.operations.specs.declared.operation.Operation.{Operation}
-use Rattle.operations.specs.declared.operation.Operation.the-variants.{Read, CheckBytes, SuppliedCount, Write, Erase, Rewind, FastForward, SkipForward, SkipReverse, SearchForward, SearchReverse, WriteMark}
 use Rattle.operations.specs.declared.decode.Decoded.{Decoded}
 use Rattle.operations.specs.declared.decode.Decoded.the-variants.{Reset, Code, Track, Enable, Guard, Density, Operate}
 use Rattle.operations.specs.declared.store.Store.{Store}
@@ -23,55 +22,67 @@ use Rattle.operations.specs.Store.{asksInterrupt, namesUnknown, askedFor, asked
 use Rattle.operations.specs.Course.{courseOf}
 use Rattle.operations.proofs.DensityLaws.{by-density}
 use Rattle.link.specs.declared.state.Phase.{Phase}
-use Rattle.link.specs.declared.state.Phase.the-variants.{Collecting, AckOffered, Sending, GoOffered, DataAwaited, ResultAwaited, EndOffered}
+use Rattle.link.specs.declared.state.Phase.the-variants.{DataAwaited, ResultAwaited}
 use Rattle.link.specs.declared.state.Handed.{Handed}
 use Rattle.link.specs.declared.state.Handed.the-variants.{NoneHanded, OneHanded}
 use Rattle.link.specs.declared.state.Body.{Body}
-use Rattle.link.specs.declared.state.Turn.{Turn}
-use Rattle.link.specs.State.{storeOf, offered, startBody, withFlags, withOutcome, withCurrentDrive, currentDrive, resetState}
-use Rattle.link.specs.Link.{noToGo, yesToGo}
+use Rattle.link.specs.declared.state.Transition.{Transition}
+use Rattle.link.specs.State.{storeOf, offered, startBody, withFlags, withOutcome, withCurrentDrive, currentDrive}
+use Rattle.link.specs.State.{resetState}
 use Rattle.operations.specs.After.{withCode}
 use Rattle.transfers.specs.Results.{Result, resultRefusal, settleResult}
 use Rattle.transfers.specs.Data.{Host}
 use Rattle.controller.specs.declared.controller.Controller.{Controller}
 use Rattle.controller.specs.declared.controller.Reply.{Reply}
 use Rattle.controller.specs.Controller.{fresh, carried}
-use Rattle.controller.specs.Stores.{settle, endWith, endOperation, pastTest, orderMove, begin, follow, clearOutcome, carryOutOn, carryOut}
+use Rattle.controller.specs.Stores.{settle, endWith, endOperation, orderMove, begin, follow, clearOutcome}
+use Rattle.controller.specs.Stores.{carryOutOn, carryOut, noToGo, yesToGo}
 use Rattle.controller.specs.Records.{wordsOf, withAfter, dataDone, resultDone}
 use Rattle.controller.specs.Machine.{unchanged, dataIn, resultIn, Call, Exchange, plain, step, run}
-use Rattle.controller.specs.Machine.Call.{byte, taken, broken, report, hostData, result, tick, reset, hand}
+use Rattle.controller.specs.Machine.Call.{byte, taken, broken, hostData, result, tick}
 use Rattle.controller.specs.Lists.{notRefused, holdsStore, heldStore}
 use Rattle.controller.specs.Separation.{asksReset}
-use Rattle.controller.specs.Handed.{resetsAll, owedAfter, owes, holdsStoreIn, Due, owedStill, DueFrom, RecordsAreHanded}
-use Rattle.controller.proofs.Courses.{decoded, by-test-of}
+use Rattle.controller.specs.Handed.{resetsAll, owedAfter, owes, holdsStoreIn, Due, owedStill, DueFrom}
+use Rattle.controller.specs.Handed.{RecordsAreHanded}
+use Rattle.controller.proofs.Courses.{decoded, by-test-of, by-beginning}
 use Rattle.controller.proofs.RetriesAreTrusted.{completed-outcome, ended-outcome}
 use Rattle.controller.proofs.Steps.Resting.{by-free, Free, Rests, settled-rests, ending-rests}
-use Rattle.controller.proofs.Steps.{stated, exchanged, LinkCall, SaysNo, OfRefusals, OfLink, OfStores, OfHandings, OfNo, OfData, OfResults, Kinds, data-for, result-for, by-step}
+use Rattle.controller.proofs.Steps.LinkCall.{byteCame, ticked, loadTaken}
+use Rattle.controller.proofs.Steps.SaysNo.{byteRefused}
+use Rattle.controller.proofs.Steps.{stated, exchanged, LinkCall, SaysNo, OfRefusals, OfLink, OfStores}
+use Rattle.controller.proofs.Steps.{OfHandings, OfNo, OfData, OfResults, Kinds, data-for, result-for, by-step}
 
 -- ---- what is kept from call to call: a record is owed where a store is in hand
 
 abbrev Dues : Controller → Exchange → Type 0
-Dues c x = (owed : Bool) → owed ≡ holdsStoreIn (c .phase) → Due (owes owed c x) (x .answer .reply) (x .answer .reply .handed)
+Dues c x =
+    (owed : Bool) → owed ≡ holdsStoreIn (c .phase) → Due (owes owed c x) (x .answer .reply) (x .answer .reply .handed)
 
 free-holds : (phase : Phase) → Free phase → holdsStoreIn phase ≡ false
 unfolding holdsStoreIn
-free-holds = by-free (λ (phase : Phase). holdsStoreIn phase ≡ false) (λ s. refl) (λ s. refl) (λ s. refl) (λ interrupt. refl)
+free-holds =
+    by-free (λ (phase : Phase). holdsStoreIn phase ≡ false) (λ s. refl) (λ s. refl) (λ s. refl) (λ interrupt. refl)
 
 -- a turn that hands nothing back
-none-due : (owed : Bool) (t : Turn) → t .handed ≡ NoneHanded → owed ≡ holdsStoreIn (t .phase) → Due owed (carried t) (t .handed)
+none-due : (owed : Bool) (t : Transition) → t .handed ≡ NoneHanded → owed ≡ holdsStoreIn (t .phase)
+    → Due owed (carried t) (t .handed)
 unfolding Due
 none-due owed t none same = subst (Due owed (carried t)) (sym none) same
 
 -- a turn that settles a code
-one-due : (owed : Bool) (t : Turn) (final : ResultRecord) → t .handed ≡ OneHanded final → owed ≡ true → final ≡ t .body .outcome .result → Free (t .phase) → Due owed (carried t) (t .handed)
+one-due : (owed : Bool) (t : Transition) (final : ResultRecord) → t .handed ≡ OneHanded final → owed ≡ true
+    → final ≡ t .body .outcome .result → Free (t .phase) → Due owed (carried t) (t .handed)
 unfolding Due
-one-due owed t final one due shown free = subst (Due owed (carried t)) (sym one) (due, shown, free-holds (t .phase) free)
+one-due owed t final one due shown free =
+    subst (Due owed (carried t)) (sym one) (due, shown, free-holds (t .phase) free)
 
 -- the end of an operation hands its record back
-ended-hands : (b : Body) (operation : Operation) (store : Store) → endOperation b operation store .handed ≡ OneHanded (b .outcome .result)
+ended-hands : (b : Body) (operation : Operation) (store : Store)
+    → endOperation b operation store .handed ≡ OneHanded (b .outcome .result)
 unfolding endOperation settle
 ended-hands b operation store =
-    pick-by (λ (t : Turn). t .handed ≡ OneHanded (b .outcome .result)) (offersEnd operation) (λ offers. refl) (λ none. refl)
+    pick-by (λ (t : Transition). t .handed ≡ OneHanded (b .outcome .result)) (offersEnd operation) (λ offers. refl)
+    (λ none. refl)
 
 -- ---- a store
 
@@ -79,28 +90,24 @@ module _ (store : Store) where
   settled-due : (b : Body) (owed : Bool) → owed ≡ true → Due owed (carried (settle b store)) (settle b store .handed)
   unfolding settle
   settled-due b owed due =
-      one-due owed (settle b store) (b .outcome .result) refl due (sym (ap (λ (o : Outcome). o .result) (completed-outcome b (asksInterrupt store)))) (settled-rests b store .free)
+      one-due owed (settle b store) (b .outcome .result) refl due
+      (sym (ap (λ (o : Outcome). o .result) (completed-outcome b (asksInterrupt store))))
+      (settled-rests b store .free)
 
-  coded-due : (b : Body) (code : ℕ) (owed : Bool) → owed ≡ true → Due owed (carried (endWith b store code)) (endWith b store code .handed)
+  coded-due : (b : Body) (code : ℕ) (owed : Bool) → owed ≡ true
+      → Due owed (carried (endWith b store code)) (endWith b store code .handed)
   unfolding endWith
   coded-due b code = settled-due (withOutcome b (withCode (b .outcome) code))
 
-  begun-due : (b : Body) (operation : Operation) → Due true (carried (begin b operation store)) (begin b operation store .handed)
-  unfolding begin orderMove pastTest pick Due holdsStoreIn
-  begun-due b Read = refl
-  begun-due b CheckBytes = refl
-  begun-due b SuppliedCount = refl
-  begun-due b Write = refl
-  begun-due b Erase = refl
-  begun-due b Rewind = refl
-  begun-due b FastForward = refl
-  begun-due b SkipForward = refl
-  begun-due b SkipReverse = refl
-  begun-due b SearchForward = refl
-  begun-due b SearchReverse = refl
-  begun-due b WriteMark = refl
+  begun-due : (b : Body) (operation : Operation)
+      → Due true (carried (begin b operation store)) (begin b operation store .handed)
+  unfolding orderMove Due holdsStoreIn
+  begun-due b =
+      by-beginning (λ operation t. Due true (carried t) (t .handed)) b store (λ o same. refl) refl
+      (λ operation o same ordered. refl)
 
-  decoded-due : (b : Body) (decode : Decoded) → Due (not (asksReset decode)) (carried (decoded b store decode)) (decoded b store decode .handed)
+  decoded-due : (b : Body) (decode : Decoded)
+      → Due (not (asksReset decode)) (carried (decoded b store decode)) (decoded b store decode .handed)
   unfolding follow courseOf asksReset resetState Due holdsStoreIn
   decoded-due b Reset = refl
   decoded-due b (Code code) = coded-due b code true refl
@@ -109,35 +116,42 @@ module _ (store : Store) where
   decoded-due b (Guard guard) = settled-due (withCurrentDrive b (withGuard (currentDrive b) guard)) true refl
   decoded-due b (Density density) = settled-due (withCurrentDrive b (withDensity (currentDrive b) density)) true refl
   decoded-due b (Operate operation) =
-      by-test-of (λ (t : Turn). Due true (carried t) (t .handed)) b store operation (begun-due b operation) (coded-due b illegalMotion true refl)
+      by-test-of (λ (t : Transition). Due true (carried t) (t .handed)) b store operation (begun-due b operation)
+      (coded-due b illegalMotion true refl)
 
   -- a store that selects a drive, whatever density decides: a reset is asked for in any
-  selecting-due : (b : Body) (n : ℕ) → Due (not (asksReset (askedFor store))) (carried (carryOutOn b store n)) (carryOutOn b store n .handed)
+  selecting-due : (b : Body) (n : ℕ)
+      → Due (not (asksReset (askedFor store))) (carried (carryOutOn b store n)) (carryOutOn b store n .handed)
   unfolding carryOutOn asksReset
   selecting-due b n =
       subst (λ (t : Bool). Due (not t) (carried (carryOutOn b store n)) (carryOutOn b store n .handed))
-      (by-density (λ (x : Decoded). asksReset x ≡ asksReset (askedFor store)) _ (askedFor store) refl (λ operation is. sym (ap asksReset is)))
+      (by-density (λ (x : Decoded). asksReset x ≡ asksReset (askedFor store)) _ (askedFor store) refl
+      (λ operation is. sym (ap asksReset is)))
       (decoded-due _ (askedIn store _))
 
   -- or none where it names drive 4-7
   choose-due :
-      (unknown : Bool) (ended turned : Turn)
+      (unknown : Bool) (ended turned : Transition)
       → Due true (carried ended) (ended .handed)
       → Due (not (asksReset (askedFor store))) (carried turned) (turned .handed)
-      → Due (not (not unknown && asksReset (askedFor store))) (carried (pick unknown ended turned)) (pick unknown ended turned .handed)
+      → Due (not (not unknown && asksReset (askedFor store))) (carried (pick unknown ended turned))
+      (pick unknown ended turned .handed)
   unfolding pick
   choose-due true ended turned ends turns = ends
   choose-due false ended turned ends turns = turns
 
   carried-due : (b : Body) → Due (not (resetsAll store)) (carried (carryOut b store)) (carryOut b store .handed)
   unfolding carryOut resetsAll
-  carried-due b = choose-due (namesUnknown store) _ _ (coded-due (clearOutcome b) illegalDrive true refl) (selecting-due (clearOutcome b) _)
+  carried-due b =
+      choose-due (namesUnknown store) _ _ (coded-due (clearOutcome b) illegalDrive true refl)
+      (selecting-due (clearOutcome b) _)
 
 stores-case : OfStores Dues
 unfolding owes owedAfter notRefused holdsStore offered pick
 stores-case b s lead owed same =
     let store = storeOf s in
-    subst (λ (later : Bool). Due later (carried (carryOut b store)) (carryOut b store .handed)) (sym (pick-yes (not (resetsAll store)) owed (ap not lead)))
+    subst (λ (later : Bool). Due later (carried (carryOut b store)) (carryOut b store .handed))
+    (sym (pick-yes (not (resetsAll store)) owed (ap not lead)))
     (carried-due store b)
 
 handings-case : OfHandings Dues
@@ -148,11 +162,12 @@ handings-case b s store owed same = carried-due store b
 
 refusals-case : OfRefusals Dues
 unfolding owes notRefused Due
-refusals-case c call number space check some at-space at-check owed same = pick-no (owedAfter owed c call) owed some ∙ same
+refusals-case c call number space check some at-space at-check owed same =
+    pick-no (owedAfter owed c call) owed some ∙ same
 
 -- nothing is in hand before or after
 link-due :
-    (c : Controller) (call : Call) (t : Turn) (owed : Bool)
+    (c : Controller) (call : Call) (t : Transition) (owed : Bool)
     → owes owed c (exchanged call (plain (carried t))) ≡ owed
     → Free (c .phase) → Rests (c .body) t → t .handed ≡ NoneHanded → owed ≡ holdsStoreIn (c .phase)
     → Due (owes owed c (exchanged call (plain (carried t)))) (carried t) (t .handed)
@@ -160,45 +175,38 @@ link-due c call t owed kept free rests none same =
     none-due _ t none (kept ∙ same ∙ free-holds (c .phase) free ∙ sym (free-holds (t .phase) (rests .free)))
 
 link-case : OfLink Dues
-unfolding LinkCall owes owedAfter notRefused holdsStore pick
-link-case c (byte value) t free rests strings none owed same = link-due c (byte value) t owed refl free rests none same
-link-case c broken t free rests strings none owed same = link-due c broken t owed refl free rests none same
-link-case c tick t free rests strings none owed same = link-due c tick t owed refl free rests none same
-link-case c taken t (free, load) rests strings none owed same =
+unfolding owes owedAfter notRefused holdsStore pick
+link-case c call t (byteCame value) free rests strings none owed same =
+    link-due c (byte value) t owed refl free rests none same
+link-case c call t LinkCall.linkBroke free rests strings none owed same =
+    link-due c broken t owed refl free rests none same
+link-case c call t ticked free rests strings none owed same = link-due c tick t owed refl free rests none same
+link-case c call t (loadTaken load) free rests strings none owed same =
     link-due c taken t owed (pick-no (not (resetsAll (heldStore c))) owed (ap not load)) free rests none same
-link-case c (report drive r) t links rests strings none owed same = absurd links
-link-case c (hostData host space check) t links rests strings none owed same = absurd links
-link-case c (result r space check) t links rests strings none owed same = absurd links
-link-case c reset t links rests strings none owed same = absurd links
-link-case c (hand store) t links rests strings none owed same = absurd links
 
 no-case : OfNo Dues
-unfolding SaysNo owes owedAfter notRefused noToGo Due holdsStoreIn pick
-no-case b held (byte value) refuses owed same = (same, refl, refl)
-no-case b held broken refuses owed same = (same, refl, refl)
-no-case b held taken refuses owed same = absurd refuses
-no-case b held (report drive r) refuses owed same = absurd refuses
-no-case b held (hostData host space check) refuses owed same = absurd refuses
-no-case b held (result r space check) refuses owed same = absurd refuses
-no-case b held tick refuses owed same = absurd refuses
-no-case b held reset refuses owed same = absurd refuses
-no-case b held (hand store) refuses owed same = absurd refuses
+unfolding owes owedAfter notRefused noToGo Due holdsStoreIn pick
+no-case b held call (byteRefused value refuses) owed same = (same, refl, refl)
+no-case b held call SaysNo.linkBroke owed same = (same, refl, refl)
 
 -- whatever drive is written
 written :
     (b : Body) (held : Store) (drive : Drive) (host : Host) (space check : List ℕ)
-    → Dues (stated b (DataAwaited held)) (exchanged (hostData host space check) (dataDone b drive held host space check))
+    → Dues (stated b (DataAwaited held))
+    (exchanged (hostData host space check) (dataDone b drive held host space check))
 unfolding dataDone orderMove owes owedAfter notRefused Due holdsStoreIn pick
 written b held drive host space check owed same = same
 
 writes-case : OfData Dues
 unfolding dataIn
-writes-case b held host space check = data-for Dues refusals-case b held _ host space check (written b held _ host space check)
+writes-case b held host space check =
+    data-for Dues refusals-case b held _ host space check (written b held _ host space check)
 
 -- whatever drive moved
 ended :
     (b : Body) (operation : Operation) (held : Store) (drive : Drive) (r : Result) (space check : List ℕ)
-    → Dues (stated b (ResultAwaited operation held)) (exchanged (result r space check) (resultDone b drive operation held r space check))
+    → Dues (stated b (ResultAwaited operation held))
+    (exchanged (result r space check) (resultDone b drive operation held r space check))
 unfolding resultDone owes owedAfter notRefused holdsStoreIn pick
 ended b operation held drive r space check owed same =
     let body = withAfter b (settleResult (wordsOf b) drive operation held r (length space) check) in
@@ -207,7 +215,8 @@ ended b operation held drive r space check owed same =
 
 results-case : OfResults Dues
 unfolding resultIn
-results-case b operation held r space check = result-for Dues refusals-case b held _ operation r space check (λ good. ended b operation held _ r space check)
+results-case b operation held r space check =
+    result-for Dues refusals-case b held _ operation r space check (λ good. ended b operation held _ r space check)
 
 -- ---- every call, and every list
 
@@ -228,17 +237,23 @@ dues =
     }
 
 -- a record is owed then where a store is in hand
-still-holds : (owed : Bool) (c : Controller) (handed : Handed) (answer : Reply) → answer .controller ≡ c → Due owed answer handed → owedStill owed handed ≡ holdsStoreIn (c .phase)
+still-holds : (owed : Bool) (c : Controller) (handed : Handed) (answer : Reply) → answer .controller ≡ c
+    → Due owed answer handed → owedStill owed handed ≡ holdsStoreIn (c .phase)
 unfolding Due owedStill
-still-holds owed c (OneHanded final) answer is (due, shown, gone) = sym gone ∙ ap (λ (x : Controller). holdsStoreIn (x .phase)) is
+still-holds owed c (OneHanded final) answer is (due, shown, gone) =
+    sym gone ∙ ap (λ (x : Controller). holdsStoreIn (x .phase)) is
 still-holds owed c NoneHanded answer is due = due ∙ ap (λ (x : Controller). holdsStoreIn (x .phase)) is
 
-due-from : (calls : List Call) (owed : Bool) (c : Controller) → owed ≡ holdsStoreIn (c .phase) → DueFrom owed c (run c calls)
+due-from : (calls : List Call) (owed : Bool) (c : Controller) → owed ≡ holdsStoreIn (c .phase)
+    → DueFrom owed c (run c calls)
 unfolding run DueFrom
 due-from [] owed c same = tt
 due-from (call ∷ calls) owed c same =
-    let due = by-step Dues dues c call owed same in
-    (due, due-from calls _ (step c call .reply .controller) (still-holds _ _ (step c call .reply .handed) (step c call .reply) refl due))
+    let due = by-step Dues dues c call owed same in (
+      due,
+      due-from calls _ (step c call .reply .controller)
+          (still-holds _ _ (step c call .reply .handed) (step c call .reply) refl due),
+    )
 
 pub records-are-handed : (calls : List Call) → RecordsAreHanded (run fresh calls)
 unfolding fresh holdsStoreIn

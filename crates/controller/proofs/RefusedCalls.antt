@@ -5,7 +5,8 @@ use Rattle.controller.specs.declared.controller.Controller.{Controller}
 use Rattle.controller.specs.Records.{dataDone, resultDone}
 use Rattle.controller.specs.Machine.{Call, Exchange, dataIn, resultIn, step}
 use Rattle.controller.specs.Refused.{RefusedUnchanged}
-use Rattle.controller.proofs.Steps.{exchanged, OfRefusals, OfData, OfResults, Kinds, data-for, result-for, by-step}
+use Rattle.controller.proofs.Steps.{exchanged, OfRefusals, OfData, OfResults, Kinds, data-for, result-for}
+use Rattle.controller.proofs.Steps.{by-step}
 
 abbrev Unmoved : Controller → Exchange → Type 0
 Unmoved c x = RefusedUnchanged c (x .call) (x .answer)
@@ -16,17 +17,19 @@ refusals-case c call number space check some at-space at-check refused =
 
 writes-case : OfData Unmoved
 unfolding dataIn dataDone
-writes-case b held host space check = data-for Unmoved refusals-case b held _ host space check (λ refused. absurd (refused refl))
+writes-case b held host space check =
+    data-for Unmoved refusals-case b held _ host space check (λ refused. absurd (refused refl))
 
 results-case : OfResults Unmoved
 unfolding resultIn resultDone
-results-case b operation held r space check = result-for Unmoved refusals-case b held _ operation r space check (λ good refused. absurd (refused refl))
+results-case b operation held r space check =
+    result-for Unmoved refusals-case b held _ operation r space check (λ good refused. absurd (refused refl))
 
 unmoved : Kinds Unmoved
 unmoved =
     record {
       refusals = refusals-case;
-      link = λ c call t links rests strings none refused. absurd (refused refl);
+      link = λ c call t links free rests strings none refused. absurd (refused refl);
       stores = λ b s lead refused. absurd (refused refl);
       handings = λ b s store refused. absurd (refused refl);
       reports = λ c n r within refused. absurd (refused refl);

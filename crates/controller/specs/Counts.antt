@@ -1,5 +1,6 @@
--- The count that bit 22 of primary marks as valid: wherever the bit is set, secondary is the count of the record that the last store
--- carried out itself passed or wrote, or the one that it supplied, and never of an earlier one. Over every list of calls from Fresh.
+-- The count that bit 22 of primary marks as valid: wherever the bit is set, secondary is the count of the record that
+-- the last store carried out itself passed or wrote, or the one that it supplied, and never of an earlier one. Over
+-- every list of calls from Fresh.
 -- Assumes nothing.
 use mathlib.Core.Path.{_≡_}
 use Prim.Native.Nat.{ℕ, _/_, _%_}
@@ -13,9 +14,9 @@ use Rattle.operations.specs.declared.operation.Operation.the-variants.{Supplied
 use Rattle.operations.specs.declared.store.Store.{Store}
 use Rattle.operations.specs.Store.{askedFor, heldCount}
 use Rattle.status.specs.declared.words.Word.{Word}
-use Rattle.status.specs.declared.strings.Six.{Six}
+use Rattle.link.specs.declared.frames.Frame.{Frame}
 use Rattle.status.specs.Words.{secondaryWord}
-use Rattle.status.specs.Strings.{stringOf}
+use Rattle.link.specs.Frames.{stringOf}
 use Rattle.link.specs.declared.state.Action.{Action}
 use Rattle.link.specs.declared.state.Action.the-variants.{Nothing, Byte, Text, Order}
 use Rattle.link.specs.Bytes.{secondaryUpdate, interrupt}
@@ -24,13 +25,13 @@ use Rattle.transfers.specs.Results.{Result}
 use Rattle.controller.specs.declared.controller.Controller.{Controller}
 use Rattle.controller.specs.declared.controller.Reply.{Reply}
 use Rattle.controller.specs.Controller.{fresh}
-use Rattle.controller.specs.Machine.{Call, Exchange}
-use Rattle.controller.specs.Machine.Call.{byte, taken, broken, report, hostData, result, tick, reset, hand}
+use Rattle.controller.specs.Machine.{Call, Exchange, whenStoreComes, whenLent}
 use Rattle.controller.specs.Lists.{notRefused, holdsStore, lastStore, noStore, asksFor}
 
 -- ---- the record of a store
 
--- the record that the last store carried out has passed, written or supplied the count of: none yet, or one of so many bytes
+-- the record that the last store carried out has passed, written or supplied the count of: none yet, or one of so many
+-- bytes
 pub data OwnRecord : Type 0 where
   noRecord : OwnRecord
   recordOf : ℕ → OwnRecord
@@ -39,26 +40,21 @@ pub data OwnRecord : Type 0 where
 unfoldable pub suppliedBy : Store → OwnRecord
 suppliedBy store = pick (eqb (heldCount store) 0) noRecord (recordOf (heldCount store))
 
--- of a store's result: the record of its image, or, "writes with code 0", the one that it wrote; of a store that supplies a count, the record of
--- that and of no other, "whatever the code"
+-- of a store's result: the record of its image, or, "writes with code 0", the one that it wrote; of a store that
+-- supplies a count, the record of that and of no other, "whatever the code"
 unfoldable pub passedBy : Store → Result → OwnRecord
 passedBy store r =
     pick (asksFor SuppliedCount (askedFor store)) (suppliedBy store)
-    (pick (eqb (length (r .image)) 0) (pick (asksFor Write (askedFor store) && eqb (r .code) 0) (recordOf (heldCount store)) noRecord)
+    (pick (eqb (length (r .image)) 0)
+    (pick (asksFor Write (askedFor store) && eqb (r .code) 0) (recordOf (heldCount store)) noRecord)
     (recordOf (countOf (r .image))))
 
--- a call not refused: a store that is carried out has no record yet, and its result may tell of one. `store` is the last store carried out,
--- this call's included.
+-- a call not refused: a store that is carried out has no record yet, and its result may tell of one. `store` is the
+-- last store carried out, this call's included.
 unfoldable pub recordAfter : Store → OwnRecord → Controller → Call → OwnRecord
-recordAfter store own c taken = pick (holdsStore c) noRecord own
-recordAfter store own c (hand given) = noRecord
-recordAfter store own c (result r space check) = passedBy store r
-recordAfter store own c (byte b) = own
-recordAfter store own c broken = own
-recordAfter store own c (report drive r) = own
-recordAfter store own c (hostData host space check) = own
-recordAfter store own c tick = own
-recordAfter store own c reset = own
+recordAfter store own c call =
+    whenLent (λ host space check. own) (λ r space check. passedBy store r)
+    (whenStoreComes (pick (holdsStore c) noRecord own) (λ given. noRecord) own call) call
 
 -- a refused call tells nothing
 unfoldable pub ownRecord : Store → OwnRecord → Controller → Exchange → OwnRecord
@@ -71,12 +67,15 @@ unfoldable pub bit22 : Word → Bool
 bit22 word = eqb (word .b2 / 2 % 2) 1
 
 -- "A sent string is six bytes: lead, four status bytes, check": the word that it brings
-unfoldable pub wordIn : Six → Word
+unfoldable pub wordIn : Frame → Word
 wordIn string = record { b0 = string .b1; b1 = string .b2; b2 = string .b3; b3 = string .b4 }
 
--- "if bit 22 send secondary; then primary": a secondary that is sent is this record's, and so is the count that a primary that is sent marks
-pub record Brings (own : OwnRecord) (count : ℕ) (string : Six) : Type 0 where
-  pub secondary : string .b0 ≡ secondaryUpdate → (own ≡ recordOf count) × (string ≡ stringOf secondaryUpdate (secondaryWord count))
+-- "if bit 22 send secondary; then primary": a secondary that is sent is this record's, and so is the count that a
+-- primary that is sent marks
+pub record Brings (own : OwnRecord) (count : ℕ) (string : Frame) : Type 0 where
+  pub secondary :
+      string .b0 ≡ secondaryUpdate
+      → (own ≡ recordOf count) × (string ≡ stringOf secondaryUpdate (secondaryWord count))
   pub primary : string .b0 ≡ interrupt → bit22 (wordIn string) ≡ true → own ≡ recordOf count
 
 -- whatever goes out
@@ -88,7 +87,9 @@ Sends own count (Order order) = Unit
 
 -- what holds after a call: of primary as it stands, and of what is sent
 pub record Valid (own : OwnRecord) (reply : Reply) : Type 0 where
-  pub stands : bit22 (primaryNow (reply .controller .body)) ≡ true → own ≡ recordOf (reply .controller .body .outcome .result .count)
+  pub stands :
+      bit22 (primaryNow (reply .controller .body)) ≡ true
+      → own ≡ recordOf (reply .controller .body .outcome .result .count)
   pub sends : Sends own (reply .controller .body .outcome .result .count) (reply .action)
 
 -- at every call of a list

@@ -1,5 +1,5 @@
--- The record of final code, motion and count that is handed back (document 02, Wish 4): one for each store that ended, none for any other; no store gives
--- two, and none is lost. Over every list of calls from Fresh.
+-- The record of final code, motion and count that is handed back (document 02, request 4): one for each store that
+-- ended, none for any other; no store gives two, and none is lost. Over every list of calls from Fresh.
 -- Assumes nothing.
 use mathlib.Core.Path.{_≡_}
 use mathlib.Core.Bool.{Bool, true, false, not, _&&_}
@@ -9,14 +9,13 @@ use Rattle.status.specs.declared.words.ResultRecord.{ResultRecord}
 use Rattle.operations.specs.declared.store.Store.{Store}
 use Rattle.operations.specs.Store.{namesUnknown, askedFor}
 use Rattle.link.specs.declared.state.Phase.{Phase}
-use Rattle.link.specs.declared.state.Phase.the-variants.{Collecting, AckOffered, Sending, GoOffered, DataAwaited, ResultAwaited, EndOffered}
+use Rattle.link.specs.State.{whenInHand}
 use Rattle.link.specs.declared.state.Handed.{Handed}
 use Rattle.link.specs.declared.state.Handed.the-variants.{NoneHanded, OneHanded}
 use Rattle.controller.specs.declared.controller.Controller.{Controller}
 use Rattle.controller.specs.declared.controller.Reply.{Reply}
 use Rattle.controller.specs.Controller.{fresh}
-use Rattle.controller.specs.Machine.{Call, Exchange}
-use Rattle.controller.specs.Machine.Call.{byte, taken, broken, report, hostData, result, tick, reset, hand}
+use Rattle.controller.specs.Machine.{Call, Exchange, whenStoreComes, whenReportOrReset}
 use Rattle.controller.specs.Lists.{notRefused, holdsStore, heldStore}
 use Rattle.controller.specs.Separation.{asksReset}
 
@@ -26,17 +25,14 @@ use Rattle.controller.specs.Separation.{asksReset}
 unfoldable pub resetsAll : Store → Bool
 resetsAll store = not (namesUnknown store) && asksReset (askedFor store)
 
--- a call not refused: a store that is carried out owes its record, but for one that resets the controller; a reset drops what is owed
+-- a call not refused: a store that is carried out owes its record, but for one that resets the controller; a reset
+-- drops what is owed
 unfoldable pub owedAfter : Bool → Controller → Call → Bool
-owedAfter owed c taken = pick (holdsStore c) (not (resetsAll (heldStore c))) owed
-owedAfter owed c (hand store) = not (resetsAll store)
-owedAfter owed c reset = false
-owedAfter owed c (byte b) = owed
-owedAfter owed c broken = owed
-owedAfter owed c (report drive r) = owed
-owedAfter owed c (hostData host space check) = owed
-owedAfter owed c (result r space check) = owed
-owedAfter owed c tick = owed
+owedAfter owed c call =
+    whenReportOrReset (λ drive r. owed) false
+    (whenStoreComes (pick (holdsStore c) (not (resetsAll (heldStore c))) owed)
+    (λ store. not (resetsAll store)) owed call)
+    call
 
 -- a refused call changes nothing of that
 unfoldable pub owes : Bool → Controller → Exchange → Bool
@@ -46,19 +42,15 @@ owes owed c x = pick (notRefused x) (owedAfter owed c (x .call)) owed
 
 -- a store is in hand: GO is offered to it, or its data or its result is awaited
 unfoldable pub holdsStoreIn : Phase → Bool
-holdsStoreIn (GoOffered store) = true
-holdsStoreIn (DataAwaited store) = true
-holdsStoreIn (ResultAwaited operation store) = true
-holdsStoreIn (Collecting s) = false
-holdsStoreIn (AckOffered s) = false
-holdsStoreIn (Sending s) = false
-holdsStoreIn (EndOffered interrupt) = false
+holdsStoreIn = whenInHand (λ store. true) (λ store. true) (λ operation store. true) false
 
--- A record that is handed back is owed, is the one that primary and secondary then show, and its store is in hand no more; where none is handed back,
--- what is owed is in hand.
+-- A record that is handed back is owed, is the one that primary and secondary then show, and its store is in hand no
+-- more; where none is handed back, what is owed is in hand.
 unfoldable pub Due : Bool → Reply → Handed → Type 0
 Due owed reply (OneHanded final) =
-    (owed ≡ true) × (final ≡ reply .controller .body .outcome .result) × (holdsStoreIn (reply .controller .phase) ≡ false)
+    (owed ≡ true)
+    × (final ≡ reply .controller .body .outcome .result)
+    × (holdsStoreIn (reply .controller .phase) ≡ false)
 Due owed reply NoneHanded = owed ≡ holdsStoreIn (reply .controller .phase)
 
 -- one that was handed back is owed no more

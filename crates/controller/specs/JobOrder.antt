@@ -1,6 +1,7 @@
--- Job order among drives (document 02, Wish 13): "For every list of completed stores without a reset, each naming its drive, with its GO answer, data and result, and
--- every other list of the same stores that keeps each drive's own order: all four tracks, densities, gaps and guards end alike. Both lists start from one idle
--- state, and reports stay fixed throughout."
+-- Job order among drives (document 02, request 13): "For every list of completed stores without a reset, each naming
+-- its drive, with its GO answer, data and result, and every other list of the same stores that keeps each drive's own
+-- order: all four tracks, densities, gaps and guards end alike. Both lists start from one idle state, and reports stay
+-- fixed throughout."
 -- Assumes nothing.
 use mathlib.Core.Path.{_≡_}
 use Prim.Native.Nat.{ℕ, _≤_}
@@ -14,8 +15,7 @@ use Rattle.operations.specs.declared.store.Store.{Store}
 use Rattle.operations.specs.Store.{namedDrive}
 use Rattle.controller.specs.declared.controller.Controller.{Controller}
 use Rattle.controller.specs.Controller.{isIdle}
-use Rattle.controller.specs.Machine.{Call, Exchange}
-use Rattle.controller.specs.Machine.Call.{byte, taken, broken, report, hostData, result, tick, reset, hand}
+use Rattle.controller.specs.Machine.{Call, Exchange, whenReportOrReset}
 use Rattle.controller.specs.Lists.{notRefused, storeBrought, carriesOut, noStore, after}
 use Rattle.controller.specs.Separation.{Event, historyFrom, admittedFrom, EndsAlike}
 use Rattle.controller.specs.Separation.Event.{reportCame, storeCame, goAnswered, dataCame, resultCame}
@@ -26,7 +26,8 @@ use Rattle.controller.specs.Separation.Event.{reportCame, storeCame, goA
 unfoldable pub storesFrom : Controller → List Exchange → List Store
 storesFrom c [] = []
 storesFrom c (x ∷ xs) =
-    pick (carriesOut c x) (storeBrought c (x .call) ∷ storesFrom (x .answer .reply .controller) xs) (storesFrom (x .answer .reply .controller) xs)
+    pick (carriesOut c x) (storeBrought c (x .call) ∷ storesFrom (x .answer .reply .controller) xs)
+    (storesFrom (x .answer .reply .controller) xs)
 
 -- the first of them
 unfoldable pub firstOf : List Store → Store
@@ -35,23 +36,16 @@ firstOf (store ∷ stores) = store
 
 -- a report
 unfoldable pub isReport : Call → Bool
-isReport (report drive r) = true
-isReport (byte b) = false
-isReport taken = false
-isReport broken = false
-isReport (hostData host space check) = false
-isReport (result r space check) = false
-isReport tick = false
-isReport reset = false
-isReport (hand store) = false
+isReport = whenReportOrReset (λ drive r. true) false false
 
 -- "reports stay fixed throughout": none is carried out
 unfoldable pub reportsFixed : List Exchange → Bool
 reportsFixed [] = true
 reportsFixed (x ∷ xs) = not (notRefused x && isReport (x .call)) && reportsFixed xs
 
--- "completed stores without a reset, each naming its drive": the calls that carry one store out and end idle. It came by the link or was handed over; refused
--- calls, ticks and loads may be among them, and the host may answer EOR and strings as it likes.
+-- "completed stores without a reset, each naming its drive": the calls that carry one store out and end idle. It came
+-- by the link or was handed over; refused calls, ticks and loads may be among them, and the host may answer EOR and
+-- strings as it likes.
 pub record Completes (c : Controller) (xs : List Exchange) : Type 0 where
   pub one : storesFrom c xs ≡ firstOf (storesFrom c xs) ∷ []
   pub admitted : admittedFrom c xs ≡ true
@@ -60,8 +54,9 @@ pub record Completes (c : Controller) (xs : List Exchange) : Type 0 where
 
 -- ---- the same store in two lists
 
--- The drive that it names; and of its history its operation and operand, "its GO answer, data and result". So "the same store" may come by the link in the one list and
--- by hand in the other, ask for an interrupt in one of them alone, and be lent other spaces.
+-- The drive that it names; and of its history its operation and operand, "its GO answer, data and result". So "the same
+-- store" may come by the link in the one list and by hand in the other, ask for an interrupt in one of them alone, and
+-- be lent other spaces.
 pub record CompletedStore : Type 0 where
   pub drive : ℕ
   pub events : List Event
@@ -81,7 +76,8 @@ withoutLengths (event ∷ events) = withoutLength event ∷ withoutLengths event
 -- what calls completed, from a state on
 unfoldable pub completedBy : Controller → List Exchange → CompletedStore
 completedBy c xs =
-    let drive = namedDrive (firstOf (storesFrom c xs)) in record { drive = drive; events = withoutLengths (historyFrom drive noStore c xs) }
+    let drive = namedDrive (firstOf (storesFrom c xs)) in
+    record { drive = drive; events = withoutLengths (historyFrom drive noStore c xs) }
 
 -- ---- a list of completed stores
 
@@ -104,7 +100,8 @@ unfoldable pub ownStores : ℕ → List CompletedStore → List CompletedStore
 ownStores d [] = []
 ownStores d (store ∷ stores) = pick (eqb (store .drive) d) (store ∷ ownStores d stores) (ownStores d stores)
 
--- "every other list of the same stores that keeps each drive's own order"; a store that names drive 4-7 touches no drive and may stand anywhere
+-- "every other list of the same stores that keeps each drive's own order"; a store that names drive 4-7 touches no
+-- drive and may stand anywhere
 abbrev pub SameOwnOrder : List CompletedStore → List CompletedStore → Type 0
 SameOwnOrder stores others = (d : ℕ) → d ≤ 3 → ownStores d stores ≡ ownStores d others
 
@@ -114,7 +111,8 @@ SameOwnOrder stores others = (d : ℕ) → d ≤ 3 → ownStores d stores ≡ ow
 abbrev pub driveAfter : ℕ → Controller → List (List Exchange) → Drive
 driveAfter d c stores = driveOf (after c (allOf stores) .body .drives) d
 
--- "all four tracks, densities, gaps and guards end alike"; of the idle state nothing else is asked: in a damaged one no store completes
+-- "all four tracks, densities, gaps and guards end alike"; of the idle state nothing else is asked: in a damaged one no
+-- store completes
 abbrev pub OrderIsFree : Controller → List (List Exchange) → List (List Exchange) → Type 0
 OrderIsFree c stores others =
     isIdle c ≡ true

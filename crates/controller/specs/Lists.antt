@@ -1,5 +1,5 @@
--- Lists of calls with their answers, as the claims over whole lists read them: which calls were carried out, which stores, and the state at
--- the end. "They start from Fresh; each call gets the state that the last one handed back".
+-- Lists of calls with their answers, as the claims over whole lists read them: which calls were carried out, which
+-- stores, and the state at the end. "They start from Fresh; each call gets the state that the last one handed back".
 -- Assumes nothing.
 use mathlib.Core.Bool.{Bool, true, false, not, _&&_, _||_}
 use mathlib.Core.List.{List, [], _∷_}
@@ -14,8 +14,7 @@ use Rattle.operations.specs.Operation.{sameOperation}
 use Rattle.controller.specs.declared.controller.Controller.{Controller}
 use Rattle.link.specs.Bytes.{loadLead}
 use Rattle.link.specs.State.{storeOf, offered}
-use Rattle.controller.specs.Machine.{Call, Exchange}
-use Rattle.controller.specs.Machine.Call.{byte, taken, broken, report, hostData, result, tick, reset, hand}
+use Rattle.controller.specs.Machine.{Call, Exchange, whenStoreComes}
 
 -- the call is carried out
 unfoldable pub notRefused : Exchange → Bool
@@ -35,33 +34,19 @@ noStore = record { address = 0; first = 0; second = 0; third = 0; fourth = 0 }
 
 -- whether a call brings a store: a taken that meets a store's ACK, and a handing
 unfoldable pub bringsStore : Controller → Call → Bool
-bringsStore c taken = holdsStore c
-bringsStore c (hand store) = true
-bringsStore c (byte b) = false
-bringsStore c broken = false
-bringsStore c (report drive r) = false
-bringsStore c (hostData host space check) = false
-bringsStore c (result r space check) = false
-bringsStore c tick = false
-bringsStore c reset = false
+bringsStore c = whenStoreComes (holdsStore c) (λ store. true) false
 
 -- the store that it brings
 unfoldable pub storeBrought : Controller → Call → Store
-storeBrought c taken = heldStore c
-storeBrought c (hand store) = store
-storeBrought c (byte b) = noStore
-storeBrought c broken = noStore
-storeBrought c (report drive r) = noStore
-storeBrought c (hostData host space check) = noStore
-storeBrought c (result r space check) = noStore
-storeBrought c tick = noStore
-storeBrought c reset = noStore
+storeBrought c = whenStoreComes (heldStore c) (λ store. store) noStore
 
--- "A store is carried out where a taken not refused meets its ACK"; one "handed over is carried out as if its ACK had just been taken"
+-- "A store is carried out where a taken not refused meets its ACK"; one "handed over is carried out as if its ACK had
+-- just been taken"
 unfoldable pub carriesOut : Controller → Exchange → Bool
 carriesOut c x = notRefused x && bringsStore c (x .call)
 
--- the last store carried out, this call's included: "GO answers, data calls and results not refused belong to the last such store"
+-- the last store carried out, this call's included: "GO answers, data calls and results not refused belong to the last
+-- such store"
 unfoldable pub lastStore : Store → Controller → Exchange → Store
 lastStore last c x = pick (carriesOut c x) (storeBrought c (x .call)) last
 

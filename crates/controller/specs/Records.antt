@@ -3,7 +3,7 @@
 use Prim.Native.Nat.{ℕ}
 use mathlib.Core.List.{List}
 use lib.ListN.{length}
-use Rattle.common.specs.Given.{given}
+use Rattle.common.specs.Space.{overwrite}
 use Rattle.status.specs.declared.drives.Drive.{Drive}
 use Rattle.status.specs.Drives.{withGap}
 use Rattle.operations.specs.declared.operation.Operation.{Operation}
@@ -20,7 +20,8 @@ use Rattle.controller.specs.declared.controller.Transfer.{Transfer}
 use Rattle.controller.specs.Controller.{carried}
 use Rattle.controller.specs.Stores.{orderMove, endOperation}
 
--- a call's answer: its reply, how many bytes of the lent space it gives, and what it leaves in that space and in the check store
+-- a call's answer: its reply, how many bytes of the lent space it gives, and what it leaves in that space and in the
+-- check store
 pub record Answer : Type 0 where
   pub reply : Reply
   pub bytes : ℕ
@@ -51,7 +52,7 @@ dataDone b drive store host space check =
     record {
       reply = carried (orderMove (withStatus b (written .words)) Write store);
       bytes = written .bytes;
-      space = given image space;
+      space = overwrite image space;
       check = dataCheck drive store image check;
     }
 

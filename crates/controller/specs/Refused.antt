@@ -1,4 +1,5 @@
--- A refused call: "state and buffers unchanged, no action" (document 01, Turned back). Of any call, in any state, damaged ones included.
+-- A refused call: "state and buffers unchanged, no action" (document 01, Turned back). Of any call, in any state,
+-- damaged ones included.
 -- Assumes nothing.
 use mathlib.Core.Path.{_≡_}
 use Prim.Native.Nat.{ℕ}
@@ -7,32 +8,15 @@ use Rattle.link.specs.declared.state.Action.the-variants.{Nothing}
 use Rattle.link.specs.declared.state.Handed.the-variants.{NoneHanded}
 use Rattle.controller.specs.declared.controller.Controller.{Controller}
 use Rattle.controller.specs.Records.{Answer}
-use Rattle.controller.specs.Machine.{Call}
-use Rattle.controller.specs.Machine.Call.{byte, taken, broken, report, hostData, result, tick, reset, hand}
+use Rattle.controller.specs.Machine.{Call, whenLent}
 
 -- the space that a call is lent; the calls that are lent nothing have none
 unfoldable pub lentSpace : Call → List ℕ
-lentSpace (hostData host space check) = space
-lentSpace (result r space check) = space
-lentSpace (byte b) = []
-lentSpace taken = []
-lentSpace broken = []
-lentSpace (report drive r) = []
-lentSpace tick = []
-lentSpace reset = []
-lentSpace (hand store) = []
+lentSpace = whenLent (λ host space check. space) (λ r space check. space) []
 
 -- the check store, "lent to data and result calls only"
 unfoldable pub lentCheck : Call → List ℕ
-lentCheck (hostData host space check) = check
-lentCheck (result r space check) = check
-lentCheck (byte b) = []
-lentCheck taken = []
-lentCheck broken = []
-lentCheck (report drive r) = []
-lentCheck tick = []
-lentCheck reset = []
-lentCheck (hand store) = []
+lentCheck = whenLent (λ host space check. check) (λ r space check. check) []
 
 -- "state and buffers unchanged, no action": and no byte is given, and no record handed back
 pub record Unchanged (c : Controller) (call : Call) (answer : Answer) : Type 0 where

@@ -1,5 +1,5 @@
--- The retry bit as hosts may trust it (document 02, Wish 2): "Host drivers now back up and retry skips that went well." Of any result that is not
--- refused, in any state.
+-- The retry bit as hosts may trust it (document 02, request 2): "Host drivers now back up and retry skips that went
+-- well." Of any result that is not refused, in any state.
 -- Assumes nothing.
 use mathlib.Core.Path.{_≡_}
 use Prim.Native.Nat.{ℕ, _/_, _%_}
@@ -16,8 +16,8 @@ use Rattle.operations.specs.Codes.{recoverable, unrecoverable}
 use Rattle.operations.specs.Answers.{isIn}
 use Rattle.operations.specs.After.{losesTape}
 use Rattle.link.specs.declared.state.Phase.{Phase}
-use Rattle.link.specs.declared.state.Phase.the-variants.{Collecting, AckOffered, Sending, GoOffered, DataAwaited, ResultAwaited, EndOffered}
 use Rattle.link.specs.declared.state.Body.{Body}
+use Rattle.link.specs.State.{whenResultAwaited}
 use Rattle.link.specs.Completion.{primaryNow}
 use Rattle.transfers.specs.Results.{Result, findingsRead}
 use Rattle.controller.specs.declared.controller.Controller.{Controller}
@@ -27,30 +27,32 @@ use Rattle.controller.specs.Records.{Answer}
 unfoldable pub bit2 : Word → Bool
 bit2 word = eqb (word .b0 / 32 % 2) 1
 
--- a forward skip that went well: "Codes 10, 11 and 12 .. leave bit 2 clear. So do C, D and F on a forward skip, and code 15 where only check
--- blockettes are bad."
+-- a forward skip that went well: "Codes 10, 11 and 12 .. leave bit 2 clear. So do C, D and F on a forward skip, and
+-- code 15 where only check blockettes are bad."
 unfoldable pub wentWell : ℕ → Findings → Bool
-wentWell code found = isIn code (0x0 ∷ 0xC ∷ 0xD ∷ 0xF ∷ 0x10 ∷ 0x11 ∷ 0x12 ∷ []) || (eqb code recoverable && checksAlone found)
+wentWell code found =
+    isIn code (0x0 ∷ 0xC ∷ 0xD ∷ 0xF ∷ 0x10 ∷ 0x11 ∷ 0x12 ∷ []) || (eqb code recoverable && checksAlone found)
 
 -- "Another bit among 16-20 still sets it.": bits 16, 17, 18 and 20
 unfoldable pub anotherBit : Outcome → Bool
 anotherBit outcome = outcome .parity || (outcome .overflow || (outcome .underflow || outcome .rdl))
 
--- what a result of an operation leaves, where the scan found this: bit 2 is clear after a forward skip that went well, and set with a code that
--- loses the tape and with 16
+-- what a result of an operation leaves, where the scan found this: bit 2 is clear after a forward skip that went well,
+-- and set with a code that loses the tape and with 16
 pub record TrustedRetry (operation : Operation) (found : Findings) (b : Body) : Type 0 where
-  pub clear : operation ≡ SkipForward → wentWell (b .outcome .result .code) found ≡ true → anotherBit (b .outcome) ≡ false → bit2 (primaryNow b) ≡ false
-  pub set : (losesTape (b .outcome .result .code) || eqb (b .outcome .result .code) unrecoverable) ≡ true → bit2 (primaryNow b) ≡ true
+  pub clear :
+      operation ≡ SkipForward
+      → wentWell (b .outcome .result .code) found ≡ true
+      → anotherBit (b .outcome) ≡ false
+      → bit2 (primaryNow b) ≡ false
+  pub set :
+      (losesTape (b .outcome .result .code) || eqb (b .outcome .result .code) unrecoverable) ≡ true
+      → bit2 (primaryNow b) ≡ true
 
 -- by the operation whose result is awaited
 unfoldable pub TrustedIn : Phase → Result → Body → Type 0
-TrustedIn (ResultAwaited operation store) r b = TrustedRetry operation (findingsRead operation (r .marks)) b
-TrustedIn (Collecting s) r b = Unit
-TrustedIn (AckOffered s) r b = Unit
-TrustedIn (Sending s) r b = Unit
-TrustedIn (GoOffered store) r b = Unit
-TrustedIn (DataAwaited store) r b = Unit
-TrustedIn (EndOffered interrupt) r b = Unit
+TrustedIn phase r b =
+    whenResultAwaited (λ operation store. TrustedRetry operation (findingsRead operation (r .marks)) b) Unit phase
 
 -- of an answer to a result in a state
 abbrev pub RetryTrusted : Controller → Result → Answer → Type 0

@@ -1,6 +1,6 @@
--- Separation of the drives: "Demand 3 is one claim about both whole lists, not one for each call." The lists are of calls with their answers:
--- refused calls stay in, and lent space has any length and holds anything. "They start from Fresh; each call gets the state that the last
--- one handed back".
+-- Separation of the drives: "Demand 3 is one claim about both whole lists, not one for each call." The lists are of
+-- calls with their answers: refused calls stay in, and lent space has any length and holds anything. "They start from
+-- Fresh; each call gets the state that the last one handed back".
 -- Assumes nothing.
 use mathlib.Core.Path.{_≡_}
 use Prim.Native.Nat.{ℕ, _≤_, _/_, _%_}
@@ -12,22 +12,23 @@ use Rattle.common.specs.Pick.{pick}
 use Rattle.operations.specs.declared.decode.Decoded.{Decoded}
 use Rattle.operations.specs.declared.decode.Decoded.the-variants.{Reset, Code, Track, Enable, Guard, Density, Operate}
 use Rattle.status.specs.declared.drives.Drive.{Drive}
-use Rattle.status.specs.declared.strings.Six.{Six}
+use Rattle.link.specs.declared.frames.Frame.{Frame}
 use Rattle.status.specs.Drives.{driveOf}
 use Rattle.operations.specs.declared.store.Store.{Store}
 use Rattle.link.specs.declared.state.Phase.{Phase}
-use Rattle.link.specs.declared.state.Phase.the-variants.{Collecting, AckOffered, Sending, GoOffered, DataAwaited, ResultAwaited, EndOffered}
 use Rattle.controller.specs.declared.controller.Controller.{Controller}
 use Rattle.link.specs.declared.state.Action.{Action}
 use Rattle.link.specs.declared.state.Action.the-variants.{Nothing, Byte, Text, Order}
 use Rattle.operations.specs.Store.{namesDrive, namedDrive, askedFor}
 use Rattle.link.specs.Bytes.{ack}
+use Rattle.link.specs.State.{whenInHand}
 use Rattle.controller.specs.Controller.{fresh}
 use Rattle.transfers.specs.Data.{Host}
 use Rattle.transfers.specs.Results.{Result}
-use Rattle.controller.specs.Machine.{Call, Exchange}
+use Rattle.controller.specs.Machine.{Call, Exchange, whenLent, whenReportOrReset}
 use Rattle.controller.specs.Machine.Call.{byte, taken, broken, report, hostData, result, tick, reset, hand}
-use Rattle.controller.specs.Lists.{notRefused, holdsStore, storeBrought, carriesOut, lastStore, noStore, asksRead, after}
+use Rattle.controller.specs.Lists.{notRefused, holdsStore, storeBrought, carriesOut}
+use Rattle.controller.specs.Lists.{lastStore, noStore, asksRead, after}
 
 -- ---- the history of a drive
 
@@ -35,9 +36,9 @@ use Rattle.controller.specs.Lists.{notRefused, holdsStore, storeBrought,
 unfoldable pub isOf : ℕ → Store → Bool
 isOf d store = namesDrive store && eqb (namedDrive store) d
 
--- "its history ..: its reports not refused; stores carried out that name it (operation and operand); of these each GO answer (yes or no),
--- data call (host bytes) and result (code, mark flag, late flags, image, marks, length of host space)"; "A drive's history includes the place" (document
--- 02, Wish 6)
+-- "its history ..: its reports not refused; stores carried out that name it (operation and operand); of these each GO
+-- answer (yes or no), data call (host bytes) and result (code, mark flag, late flags, image, marks, length of host
+-- space)"; "A drive's history includes the place" (document 02, request 6)
 pub data Event : Type 0 where
   reportCame : ℕ → Event
   storeCame : ℕ → ℕ → ℕ → ℕ → ℕ → Event
@@ -51,13 +52,7 @@ storeEvent store = storeCame (store .address / 16 % 8) (store .first) (store .se
 
 -- where a byte or a broken link answers GO
 unfoldable pub awaitsGo : Phase → Bool
-awaitsGo (GoOffered store) = true
-awaitsGo (Collecting s) = false
-awaitsGo (AckOffered s) = false
-awaitsGo (Sending s) = false
-awaitsGo (DataAwaited store) = false
-awaitsGo (ResultAwaited operation store) = false
-awaitsGo (EndOffered interrupt) = false
+awaitsGo = whenInHand (λ store. true) (λ store. false) (λ operation store. false) false
 
 -- what a call not refused adds to the history of drive d; `store` is the store that it belongs to
 unfoldable pub eventOf : ℕ → Store → Controller → Call → List Event
@@ -78,7 +73,8 @@ eventsOf d store c x = pick (notRefused x) (eventOf d store c (x .call)) []
 -- "in order"
 unfoldable pub historyFrom : ℕ → Store → Controller → List Exchange → List Event
 historyFrom d last c [] = []
-historyFrom d last c (x ∷ xs) = eventsOf d (lastStore last c x) c x ++ historyFrom d (lastStore last c x) (x .answer .reply .controller) xs
+historyFrom d last c (x ∷ xs) =
+    eventsOf d (lastStore last c x) c x ++ historyFrom d (lastStore last c x) (x .answer .reply .controller) xs
 
 -- the history of a drive in a list from Fresh
 abbrev pub history : ℕ → List Exchange → List Event
@@ -88,7 +84,7 @@ history d = historyFrom d noStore fresh
 
 -- "Its orders ..; its write images and read bytes"
 pub data Output : Type 0 where
-  motion : Six → Output
+  motion : Frame → Output
   image : List ℕ → Output
   delivery : List ℕ → Output
 
@@ -103,27 +99,24 @@ ordersFor d (Text s) = []
 unfoldable pub bytesGiven : Exchange → List ℕ
 bytesGiven x = take (x .answer .bytes) (x .answer .space)
 
--- "its write images and read bytes come from the data calls and results of its stores"; "Check bytes .. demand 3 leaves their delivery out": of
--- the operations that deliver, reads alone, those with a supplied count too: "separation of the drives covers this store too"
+-- "its write images and read bytes come from the data calls and results of its stores"; "Check bytes .. demand 3 leaves
+-- their delivery out": of the operations that deliver, reads alone, those with a supplied count too: "separation of the
+-- drives covers this store too"
 unfoldable pub transferOf : ℕ → Store → List ℕ → Call → List Output
-transferOf d store bytes (hostData host space check) = pick (isOf d store) (image bytes ∷ []) []
-transferOf d store bytes (result r space check) = pick (isOf d store && asksRead (askedFor store)) (delivery bytes ∷ []) []
-transferOf d store bytes (byte b) = []
-transferOf d store bytes taken = []
-transferOf d store bytes broken = []
-transferOf d store bytes (report drive r) = []
-transferOf d store bytes (hand given) = []
-transferOf d store bytes tick = []
-transferOf d store bytes reset = []
+transferOf d store bytes =
+    whenLent (λ host space check. pick (isOf d store) (image bytes ∷ []) [])
+    (λ r space check. pick (isOf d store && asksRead (askedFor store)) (delivery bytes ∷ []) []) []
 
 -- what a call with its answer gives the drive; a refused call transfers nothing
 unfoldable pub outputsOf : ℕ → Store → Exchange → List Output
-outputsOf d store x = pick (notRefused x) (transferOf d store (bytesGiven x) (x .call)) [] ++ ordersFor d (x .answer .reply .action)
+outputsOf d store x =
+    pick (notRefused x) (transferOf d store (bytesGiven x) (x .call)) [] ++ ordersFor d (x .answer .reply .action)
 
 -- "in order"
 unfoldable pub outputsFrom : ℕ → Store → Controller → List Exchange → List Output
 outputsFrom d last c [] = []
-outputsFrom d last c (x ∷ xs) = outputsOf d (lastStore last c x) x ++ outputsFrom d (lastStore last c x) (x .answer .reply .controller) xs
+outputsFrom d last c (x ∷ xs) =
+    outputsOf d (lastStore last c x) x ++ outputsFrom d (lastStore last c x) (x .answer .reply .controller) xs
 
 -- all that a drive was given and delivered in a list from Fresh
 abbrev pub outputs : ℕ → List Exchange → List Output
@@ -147,15 +140,7 @@ resets store = not (leb 4 (namedDrive store)) && asksReset (askedFor store)
 
 -- the call reset
 unfoldable pub isReset : Call → Bool
-isReset reset = true
-isReset (byte b) = false
-isReset taken = false
-isReset broken = false
-isReset (report drive r) = false
-isReset (hostData host space check) = false
-isReset (result r space check) = false
-isReset tick = false
-isReset (hand store) = false
+isReset = whenReportOrReset (λ drive r. false) true false
 
 -- every store carried out names its drive, and neither a store nor a call resets the controller
 unfoldable pub admits : Controller → Exchange → Bool
@@ -178,14 +163,15 @@ admitted = admittedFrom fresh
 abbrev pub left : ℕ → List Exchange → Drive
 left d xs = driveOf (after fresh xs .body .drives) d
 
--- a drive ends with the same track, density and gap, and "with the same guard as well" (document 02, Wish 7)
+-- a drive ends with the same track, density and gap, and "with the same guard as well" (document 02, request 7)
 pub record EndsAlike (one other : Drive) : Type 0 where
   pub track : one .track ≡ other .track
   pub density : one .density ≡ other .density
   pub gap : one .gap ≡ other .gap
   pub guard : one .guard ≡ other .guard
 
--- the drive ends alike, was given the same motion orders and write images, and delivered the same bytes, all in the same order and byte for byte
+-- the drive ends alike, was given the same motion orders and write images, and delivered the same bytes, all in the
+-- same order and byte for byte
 pub record Agree (d : ℕ) (xs ys : List Exchange) : Type 0 where
   pub ends : EndsAlike (left d xs) (left d ys)
   pub given : outputs d xs ≡ outputs d ys

@@ -1,15 +1,18 @@
-// Stores: how what a store asks for is carried out on the body. Its course is decided first, from the store and the drive's record.
+// Stores: how what a store asks for is carried out on the body. Its course is decided first, from the store and the
+// drive's record.
+use crate::offers::offer_end;
 use link::body::reset_state;
 use link::body::with_current_drive;
 use link::body::with_flags;
-use link::bytes::END_OF_RECORD;
 use link::bytes::GO;
 use link::completion::complete;
+use link::frames::Frame;
+use link::frames::order_of;
 use link::state::Action;
 use link::state::Body;
 use link::state::Handed;
 use link::state::Phase;
-use link::state::Turn;
+use link::state::Transition;
 use operations::after::with_code;
 use operations::codes::ILLEGAL_DRIVE;
 use operations::course::Course;
@@ -24,22 +27,22 @@ use operations::store::asks_interrupt;
 use operations::store::names_unknown;
 use operations::store::selected_by;
 use status::drives::drive_of;
-use status::strings::Six;
-use status::strings::order_of;
 use status::words::ResultRecord;
 use status::words::no_outcome;
 use status::words::with_count;
 ghost use mathlib.Core.Path.{_≡_};
-ghost use Rattle.controller.specs.Stores.{handBack, settle, endWith, endOperation, motionOrder, orderMove, offerGo, awaitCheckBytes, pastTest, begin, follow, clearOutcome, carryOutOn, carryOut};
+ghost use Rattle.controller.specs.Stores.{handBack, settle, endWith, endOperation, motionOrder, orderMove};
+ghost use Rattle.controller.specs.Stores.{offerGo, awaitCheckBytes, pastTest, begin, follow, clearOutcome};
+ghost use Rattle.controller.specs.Stores.{carryOutOn, carryOut};
 
-// A turn that hands back the record of the store whose code it settles.
-fn hand_back(turn: Turn, result: ResultRecord) -> Turn
-    ensures { λ r. ⌜ r ≡ handBack turn result ⌝ }
+// A transition that hands back the record of the store whose code it settles.
+fn hand_back(transition: Transition, result: ResultRecord) -> Transition
+    ensures { λ r. ⌜ r ≡ handBack transition result ⌝ }
 {
-    let body = turn.body;
-    let phase = turn.phase;
-    let action = turn.action;
-    Turn {
+    let body = transition.body;
+    let phase = transition.phase;
+    let action = transition.action;
+    Transition {
         body,
         phase,
         action,
@@ -48,7 +51,7 @@ fn hand_back(turn: Turn, result: ResultRecord) -> Turn
 }
 
 // The store is done: its record is handed back, and it is completed.
-fn settle(b: Body, store: Store) -> Turn
+fn settle(b: Body, store: Store) -> Transition
     ensures { λ r. ⌜ r ≡ settle b store ⌝ }
 {
     let result = b.outcome.result;
@@ -56,7 +59,7 @@ fn settle(b: Body, store: Store) -> Turn
 }
 
 // A code ends the store.
-fn end_with(mut b: Body, store: Store, code: u8) -> Turn
+fn end_with(mut b: Body, store: Store, code: u8) -> Transition
     ensures { λ r. ⌜ r ≡ endWith b store code ⌝ }
 {
     let coded = with_code(b.outcome, code);
@@ -65,24 +68,17 @@ fn end_with(mut b: Body, store: Store, code: u8) -> Turn
 }
 
 // The end of an operation with a result: EOR is offered, or the store is completed at once.
-pub fn end_operation(b: Body, operation: Operation, store: Store) -> Turn
+pub fn end_operation(b: Body, operation: Operation, store: Store) -> Transition
     ensures { λ r. ⌜ r ≡ endOperation b operation store ⌝ }
 {
     if offers_end(operation) {
-        let asked = asks_interrupt(store);
-        let result = b.outcome.result;
-        return Turn {
-            body: b,
-            phase: Phase::EndOffered(asked),
-            action: Action::Byte(END_OF_RECORD),
-            handed: Handed::OneHanded(result),
-        };
+        return offer_end(b, store);
     }
     settle(b, store)
 }
 
 // The order of an operation for the selected drive.
-fn motion_order(b: Body, operation: Operation, store: Store) -> Six
+fn motion_order(b: Body, operation: Operation, store: Store) -> Frame
     ensures { λ r. ⌜ r ≡ motionOrder b operation store ⌝ }
 {
     let drive = drive_of(b.drives, b.selected);
@@ -98,11 +94,11 @@ fn motion_order(b: Body, operation: Operation, store: Store) -> Six
 }
 
 // The move is ordered, and its result awaited.
-pub fn order_move(b: Body, operation: Operation, store: Store) -> Turn
+pub fn order_move(b: Body, operation: Operation, store: Store) -> Transition
     ensures { λ r. ⌜ r ≡ orderMove b operation store ⌝ }
 {
     let order = motion_order(b, operation, store);
-    Turn {
+    Transition {
         body: b,
         phase: Phase::ResultAwaited(operation, store),
         action: Action::Order(order),
@@ -111,10 +107,10 @@ pub fn order_move(b: Body, operation: Operation, store: Store) -> Turn
 }
 
 // A write offers GO: the host's data comes before the move.
-fn offer_go(b: Body, store: Store) -> Turn
+fn offer_go(b: Body, store: Store) -> Transition
     ensures { λ r. ⌜ r ≡ offerGo b store ⌝ }
 {
-    Turn {
+    Transition {
         body: b,
         phase: Phase::GoOffered(store),
         action: Action::Byte(GO),
@@ -123,10 +119,10 @@ fn offer_go(b: Body, store: Store) -> Turn
 }
 
 // Check bytes await a result with no order.
-fn await_check_bytes(b: Body, store: Store) -> Turn
+fn await_check_bytes(b: Body, store: Store) -> Transition
     ensures { λ r. ⌜ r ≡ awaitCheckBytes b store ⌝ }
 {
-    Turn {
+    Transition {
         body: b,
         phase: Phase::ResultAwaited(Operation::CheckBytes, store),
         action: Action::Nothing,
@@ -146,7 +142,7 @@ fn past_test(mut b: Body, operation: Operation) -> Body
 }
 
 // An operation begins.
-fn begin(b: Body, operation: Operation, store: Store) -> Turn
+fn begin(b: Body, operation: Operation, store: Store) -> Transition
     ensures { λ r. ⌜ r ≡ begin b operation store ⌝ }
 {
     let body = past_test(b, operation);
@@ -158,7 +154,7 @@ fn begin(b: Body, operation: Operation, store: Store) -> Turn
 }
 
 // A store's course is followed.
-fn follow(b: Body, store: Store, course: Course) -> Turn
+fn follow(b: Body, store: Store, course: Course) -> Transition
     ensures { λ r. ⌜ r ≡ follow b store course ⌝ }
 {
     match course {
@@ -180,7 +176,7 @@ fn clear_outcome(mut b: Body) -> Body
 }
 
 // A store that selects this drive.
-fn carry_out_on(mut b: Body, store: Store, selected: u8) -> Turn
+fn carry_out_on(mut b: Body, store: Store, selected: u8) -> Transition
     ensures { λ r. ⌜ r ≡ carryOutOn b store selected ⌝ }
 {
     let drive = drive_of(b.drives, selected);
@@ -191,7 +187,7 @@ fn carry_out_on(mut b: Body, store: Store, selected: u8) -> Turn
 }
 
 // A store is carried out.
-pub fn carry_out(b: Body, store: Store) -> Turn
+pub fn carry_out(b: Body, store: Store) -> Transition
     ensures { λ r. ⌜ r ≡ carryOut b store ⌝ }
 {
     let cleared = clear_outcome(b);

@@ -1,5 +1,5 @@
-// The two calls that are lent space, data and result. What they come to for the selected drive is settled in transfers; here it is
-// put into the state.
+// The two calls that are lent space, data and result. What they come to for the selected drive is settled in transfers;
+// here it is put into the state.
 use crate::controller::Controller;
 use crate::controller::Transfer;
 use crate::controller::carried;
@@ -79,7 +79,8 @@ fn data_done(
     check: &mut [u8],
 ) -> Transfer
     requires { ⌜ dataRefusal drive store (length (now host)) place (length (now space)) (length (now check)) ≡ 0 ⌝ }
-    ensures { λ r. ⌜ answered r (now (space .exit)) (now (check .exit)) ≡ dataDone b drive store (hostOf (now (host .entry)) place) (now (space .entry)) (now (check .entry)) ⌝ }
+    ensures { λ r. ⌜ answered r (now (space .exit)) (now (check .exit))
+        ≡ dataDone b drive store (hostOf (now (host .entry)) place) (now (space .entry)) (now (check .entry)) ⌝ }
 {
     let words = words_of(b);
     let written = settle_data(words, drive, store, host, place, space, check);
@@ -103,8 +104,11 @@ fn result_done(
     space: &mut [u8],
     check: &mut [u8],
 ) -> Transfer
-    requires { ⌜ resultRefusal drive operation store (resultWith ending (now image) (now marks)) (length (now check)) ≡ 0 ⌝ }
-    ensures { λ r. ⌜ answered r (now (space .exit)) (now (check .exit)) ≡ resultDone b drive operation store (resultWith ending (now (image .entry)) (now (marks .entry))) (now (space .entry)) (now (check .entry)) ⌝ }
+    requires { ⌜ resultRefusal drive operation store (resultWith ending (now image) (now marks)) (length (now check))
+        ≡ 0 ⌝ }
+    ensures { λ r. ⌜ answered r (now (space .exit)) (now (check .exit))
+        ≡ resultDone b drive operation store (resultWith ending (now (image .entry)) (now (marks .entry)))
+        (now (space .entry)) (now (check .entry)) ⌝ }
 {
     let words = words_of(b);
     let after = settle_result(
@@ -134,10 +138,11 @@ fn refused_transfer(number: u32, c: Controller) -> Transfer
 }
 
 impl Controller {
-    // The host's bytes for a write, and the place of the one that came with bad parity, or NO_PLACE. The image stands at the start of the space
-    // afterwards.
+    // The host's bytes for a write, and the place of the one that came with bad parity, or NO_PLACE. The image stands
+    // at the start of the space afterwards.
     pub fn data(self, host: &[u8], place: usize, space: &mut [u8], check: &mut [u8]) -> Transfer
-        ensures { λ r. ⌜ answered r (now (space .exit)) (now (check .exit)) ≡ dataCall self (hostOf (now (host .entry)) place) (now (space .entry)) (now (check .entry)) ⌝ }
+        ensures { λ r. ⌜ answered r (now (space .exit)) (now (check .exit))
+            ≡ dataCall self (hostOf (now (host .entry)) place) (now (space .entry)) (now (check .entry)) ⌝ }
     {
         if is_damaged(self) {
             return refused_transfer(STATE_DAMAGED, self);
@@ -165,7 +170,9 @@ impl Controller {
         space: &mut [u8],
         check: &mut [u8],
     ) -> Transfer
-        ensures { λ r. ⌜ answered r (now (space .exit)) (now (check .exit)) ≡ resultCall self (resultOf code mark late (now (image .entry)) (now (marks .entry))) (now (space .entry)) (now (check .entry)) ⌝ }
+        ensures { λ r. ⌜ answered r (now (space .exit)) (now (check .exit))
+            ≡ resultCall self (resultOf code mark late (now (image .entry)) (now (marks .entry)))
+            (now (space .entry)) (now (check .entry)) ⌝ }
     {
         if is_damaged(self) {
             return refused_transfer(STATE_DAMAGED, self);

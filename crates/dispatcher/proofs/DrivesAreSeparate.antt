@@ -1,5 +1,6 @@
--- The separation of the drives for what the dispatcher sends (`drives-are-separate`, over the definitions): the controller's list in a list of the
--- dispatcher's is a run of the machine, and is admitted where what is passed on is, since every store that waits names a drive and resets nothing.
+-- The separation of the drives for what the dispatcher sends (`drives-are-separate`, over the definitions): the
+-- controller's list in a list of the dispatcher's is a run of the machine, and is admitted where what is passed on is,
+-- since every store that waits names a drive and resets nothing.
 -- Assumes nothing.
 use mathlib.Core.Path.{_≡_, refl, sym, ap, subst, subst₂, _∙_}
 use mathlib.Core.Bool.{Bool, true, false, not, _&&_, _||_, false≢true, and-false}
@@ -24,15 +25,20 @@ use Rattle.queues.specs.declared.jobs.Turn.{Turn}
 use Rattle.queues.specs.declared.jobs.Turn.the-variants.{Nobody, Job}
 use Rattle.queues.specs.Jobs.{freshQueues, areSound, queueOf, turnOf, queued, nextStore, served}
 use Rattle.queues.proofs.JobLaws.{Served}
-use Rattle.queues.proofs.WaitingLaws.{waiting, AllKept, fresh-kept, kept-sound, fresh-waiting, queued-same, queued-other, next-first, served-same, served-other}
+use Rattle.queues.proofs.WaitingLaws.{waiting, AllKept, fresh-kept, kept-sound, fresh-waiting, queued-same}
+use Rattle.queues.proofs.WaitingLaws.{queued-other, next-first, served-same, served-other}
 use Rattle.dispatcher.specs.declared.dispatcher.Dispatcher.{Dispatcher}
-use Rattle.dispatcher.specs.Dispatcher.{Answer, leave, besideAnswer, passedAnswer, freshDispatcher, isResetStore, isWhole, queueRefusal, handOver}
+use Rattle.dispatcher.specs.Dispatcher.{Answer, unchanged, answerWithQueues, passedAnswer, freshDispatcher}
+use Rattle.dispatcher.specs.Dispatcher.{isResetStore, isWhole, queueRefusal, handOver}
 use Rattle.controller.specs.Controller.{isIdle}
 use Rattle.dispatcher.specs.Lists.{Call, Exchange, plain, step, run, notRefused}
-use Rattle.dispatcher.specs.Lists.Call.{queue, hand, passed}
-use Rattle.dispatcher.specs.Separation.{ownAnswer, ownExchange, sentAt, sentBy, sentFrom, sent, admitsOwn, admittedFrom, admitted, Separate}
+use Rattle.dispatcher.specs.Lists.Call.{hand, passed}
+use Rattle.dispatcher.specs.Separation.{ownAnswer, ownExchange, sentAt, sentBy, sentFrom, sent, admitsOwn}
+use Rattle.dispatcher.specs.Separation.{admittedFrom, admitted, Separate}
 use Rattle.dispatcher.proofs.Laws.{neither, queue-room, queue-low, hand-accepted}
-use Rattle.dispatcher.proofs.Steps.{exchanged, OfRefusals, OfPassed, OfQueueing, OfNothing, OfHandings, IsOwn, Kinds, passed-queues, by-step}
+use Rattle.dispatcher.proofs.Steps.IsOwn.{queueing, handing}
+use Rattle.dispatcher.proofs.Steps.{exchanged, OfRefusals, OfPassed, OfQueueing, OfNothing, OfHandings, IsOwn}
+use Rattle.dispatcher.proofs.Steps.{Kinds, passed-queues, by-step}
 use Rattle.dispatcher.proofs.InOrder.{kept-by}
 
 -- ---- the stores that wait
@@ -110,20 +116,20 @@ quiet d x nothing same fit =
 
 -- refused, of the dispatcher's own calls
 own-quiet : (d : Dispatcher) (call : Call) (a : Answer) → IsOwn call → sentBy (d .queues) false a call ≡ []
-unfolding IsOwn sentBy pick
-own-quiet d (queue job store) a own = refl
-own-quiet d hand a own = refl
-own-quiet d (passed call) a own = absurd own
+unfolding sentBy pick
+own-quiet d call a (queueing job store) = refl
+own-quiet d call a handing = refl
 
 refusals-case : OfRefusals Leaving
 unfolding notRefused
 refusals-case d call number own some kept fit =
-    let x = exchanged call (plain (leave number d)) in
-    quiet d x (ap (λ (t : Bool). sentBy (d .queues) t (x .answer) call) some ∙ own-quiet d call (x .answer) own) refl fit
+    let x = exchanged call (plain (unchanged number d)) in
+    quiet d x (ap (λ (t : Bool). sentBy (d .queues) t (x .answer) call) some ∙ own-quiet d call (x .answer) own)
+    refl fit
 
 nothing-case : OfNothing Leaving
 unfolding notRefused sentBy sentAt pick
-nothing-case d is kept fit = quiet d _ (ap (sentAt (d .queues) (plain (leave 0 d))) is) refl fit
+nothing-case d is kept fit = quiet d _ (ap (sentAt (d .queues) (plain (unchanged 0 d))) is) refl fit
 
 queueing-case : OfQueueing Leaving
 unfolding notRefused sentBy
@@ -135,8 +141,10 @@ queueing-case d k store good kept fit =
     by-test (eqb k job)
     (λ same.
     subst (λ (n : ℕ). AllFit (waiting (queued (d .queues) k store) n)) (eqb-true k job same)
-    (subst AllFit (sym (queued-same (d .queues) kept k low store room)) (fit-more (waiting (d .queues) k) store (fit k low) (taken-fit d k store good))))
-    (λ differ. subst AllFit (sym (queued-other (d .queues) kept k low store room job within (eqb-false k job differ))) (fit job within)))
+    (subst AllFit (sym (queued-same (d .queues) kept k low store room))
+    (fit-more (waiting (d .queues) k) store (fit k low) (taken-fit d k store good))))
+    (λ differ. subst AllFit (sym (queued-other (d .queues) kept k low store room job within (eqb-false k job differ)))
+    (fit job within)))
 
 -- a call that the controller answers, admitted or not
 passed-case : OfPassed Leaving
@@ -144,22 +152,25 @@ unfolding sentBy step passedAnswer admitsOwn controller-separation.admittedFrom
 passed-case d call kept fit =
     let sound = kept-sound (d .queues) kept in
     let own = machine.step (d .controller) call in
-    let is : step d (passed call) ≡ besideAnswer (d .queues) own = pick-yes _ _ sound in
+    let is : step d (passed call) ≡ answerWithQueues (d .queues) own = pick-yes _ _ sound in
     subst (λ (a : Answer). Leaves d (exchanged (passed call) a)) (sym is)
     (record {
       sends = one call (pick-yes _ _ sound) refl;
       fit = fit;
-      admits = λ admitted. ap (allAdmitted (d .controller)) (pick-yes _ _ sound) ∙ ap (λ (t : Bool). t && true) admitted;
+      admits =
+          λ admitted. ap (allAdmitted (d .controller)) (pick-yes _ _ sound) ∙ ap (λ (t : Bool). t && true) admitted;
     })
 
 -- what is handed over is admitted
 hand-admitted : (c : Controller) (store : Store) (answer : records.Answer) → Fit store
     → controller-separation.admits c (record { call = machine.hand store; answer = answer }) ≡ true
-unfolding controller-separation.admits controller-separation.isReset controller-separation.resets isResetStore lists.carriesOut lists.bringsStore lists.storeBrought
+unfolding controller-separation.admits controller-separation.isReset controller-separation.resets isResetStore
+    lists.carriesOut lists.bringsStore lists.storeBrought
 hand-admitted c store answer fit =
     let x : machine.Exchange = record { call = machine.hand store; answer = answer } in
     let above = leb 4 (namedDrive store) in
-    let keeps : not (not above && controller-separation.asksReset (askedFor store)) ≡ true = rw (fit .keeps) (ap not (and-false (not above))) in
+    let keeps : not (not above && controller-separation.asksReset (askedFor store))
+    ≡ true = rw (fit .keeps) (ap not (and-false (not above))) in
     pick-by (λ (t : Bool). t ≡ true) (lists.carriesOut c x) (λ carried. rw (fit .names, keeps) refl)
     (λ refused. ap not (and-false (lists.notRefused x)))
 
@@ -182,12 +193,22 @@ hands-case d k whole idle is served-now kept fit =
           (λ same.
           subst (λ (n : ℕ). AllFit (waiting (served queues k) n)) (eqb-true k job same)
           (subst AllFit (sym (served-same queues kept k low some)) (fit-rest (waiting queues k) (fit k low))))
-          (λ differ. subst AllFit (sym (served-other queues kept k low some job within (eqb-false k job differ))) (fit job within));
-      admits = λ own. ap (allAdmitted c) sending ∙ ap (λ (t : Bool). t && true) (hand-admitted c store (ownAnswer (x .answer)) its);
+          (λ differ. subst AllFit (sym (served-other queues kept k low some job within (eqb-false k job differ)))
+          (fit job within));
+      admits =
+          λ own. ap (allAdmitted c) sending
+          ∙ ap (λ (t : Bool). t && true) (hand-admitted c store (ownAnswer (x .answer)) its);
     }
 
 leaving : Kinds Leaving
-leaving = record { refusals = refusals-case; passes = passed-case; queues = queueing-case; nothing = nothing-case; hands = hands-case }
+leaving =
+    record {
+      refusals = refusals-case;
+      passes = passed-case;
+      queues = queueing-case;
+      nothing = nothing-case;
+      hands = hands-case;
+    }
 
 -- ---- every list
 
@@ -220,13 +241,18 @@ add-sent d x xs (one call is same) admits rest =
     let longer = ap (λ (l : List machine.Exchange). l ++ sentFrom next xs) is in
     record {
       calls = call ∷ rest .calls;
-      runs = longer ∙ ap (λ (l : List machine.Exchange). first ∷ l) (rest .runs ∙ ap (λ (c : Controller). machine.run c (rest .calls)) same);
+      runs =
+          longer ∙ ap (λ (l : List machine.Exchange). first ∷ l)
+          (rest .runs ∙ ap (λ (c : Controller). machine.run c (rest .calls)) same);
       admits = λ admitted.
           let (own, others) = both-hold (admitsOwn c (x .answer) (x .call)) (admittedFrom next xs) admitted in
-          let this = both-hold (controller-separation.admits c first) true (sym (ap (allAdmitted c) is) ∙ admits own) .0 in
-          let rest-admitted = subst (λ (c : Controller). allAdmitted c (sentFrom next xs) ≡ true) same (rest .admits others) in
+          let this = both-hold (controller-separation.admits c first) true
+          (sym (ap (allAdmitted c) is) ∙ admits own) .0 in
+          let rest-admitted = subst (λ (c : Controller). allAdmitted c (sentFrom next xs) ≡ true) same
+          (rest .admits others) in
           ap (allAdmitted c) longer
-          ∙ ap (λ (t : Bool). t && allAdmitted (machine.step c call .reply .controller) (sentFrom next xs)) this ∙ rest-admitted;
+          ∙ ap (λ (t : Bool). t && allAdmitted (machine.step c call .reply .controller) (sentFrom next xs)) this
+          ∙ rest-admitted;
     }
 
 sent-run : (calls : List Call) (d : Dispatcher) → AllKept (d .queues) → Waiting (d .queues) → SentRun d (run d calls)
@@ -235,7 +261,8 @@ sent-run [] d kept fit = record { calls = []; runs = refl; admits = λ admitted.
 sent-run (call ∷ calls) d kept fit =
     let leaves = by-step Leaving leaving d call kept fit in
     let next = step d call .reply .dispatcher in
-    add-sent d (exchanged call (step d call)) (run next calls) (leaves .sends) (leaves .admits) (sent-run calls next (kept-by d call kept) (leaves .fit))
+    add-sent d (exchanged call (step d call)) (run next calls) (leaves .sends) (leaves .admits)
+    (sent-run calls next (kept-by d call kept) (leaves .fit))
 
 -- ---- the theorem
 
@@ -250,6 +277,9 @@ drives-are-separate calls others drive low admitted-one admitted-two same =
     let two = sent-run others freshDispatcher fresh-kept fresh-fit in
     subst₂ (controller-separation.Agree drive) (sym (one .runs)) (sym (two .runs))
     (controller-drives.drives-are-separate (one .calls) (two .calls) drive low
-    (subst (λ (l : List machine.Exchange). controller-separation.admitted l ≡ true) (one .runs) (one .admits admitted-one))
-    (subst (λ (l : List machine.Exchange). controller-separation.admitted l ≡ true) (two .runs) (two .admits admitted-two))
-    (ap (controller-separation.history drive) (sym (one .runs)) ∙ same ∙ ap (controller-separation.history drive) (two .runs)))
+    (subst (λ (l : List machine.Exchange). controller-separation.admitted l ≡ true) (one .runs)
+    (one .admits admitted-one))
+    (subst (λ (l : List machine.Exchange). controller-separation.admitted l ≡ true) (two .runs)
+    (two .admits admitted-two))
+    (ap (controller-separation.history drive) (sym (one .runs)) ∙ same
+    ∙ ap (controller-separation.history drive) (two .runs)))

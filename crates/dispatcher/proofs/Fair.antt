@@ -1,5 +1,5 @@
--- Every store is handed over in time (`fair`, over the definitions). 4 for each store of its job before it, and the turns until its job is next: that
--- number falls with every handing that is not refused.
+-- Every store is handed over in time (`fair`, over the definitions). 4 for each store of its job before it, and the
+-- turns until its job is next: that number falls with every handing that is not refused.
 -- Assumes nothing.
 use mathlib.Core.Path.{_≡_, refl, sym, ap, subst, _∙_}
 use mathlib.Core.Bool.{Bool, true, false}
@@ -21,7 +21,8 @@ use Rattle.queues.specs.declared.jobs.Turn.the-variants.{Nobody, Job}
 use Rattle.queues.specs.Queue.{waitingIn}
 use Rattle.queues.specs.Jobs.{queueOf, turnOf, queued, nextStore, served}
 use Rattle.queues.proofs.JobLaws.{Served}
-use Rattle.queues.proofs.WaitingLaws.{waiting, AllKept, waits-some, queued-same, queued-other, queued-last, next-first, served-same, served-other, served-last}
+use Rattle.queues.proofs.WaitingLaws.{waiting, AllKept, waits-some, queued-same, queued-other, queued-last, next-first}
+use Rattle.queues.proofs.WaitingLaws.{served-same, served-other, served-last}
 use Rattle.queues.proofs.TurnLaws.{away, nearer}
 use Rattle.dispatcher.specs.declared.dispatcher.Dispatcher.{Dispatcher}
 use Rattle.dispatcher.specs.Dispatcher.{Answer, isWhole, queueRefusal, handOver}
@@ -30,7 +31,8 @@ use Rattle.dispatcher.specs.Lists.{Call, Exchange, plain, step, run, not
 use Rattle.dispatcher.specs.Lists.Call.{queue, hand, passed}
 use Rattle.dispatcher.specs.Fairness.{isHanding, handings, Fair}
 use Rattle.dispatcher.proofs.Laws.{queue-room, queue-low, hand-accepted}
-use Rattle.dispatcher.proofs.Steps.{exchanged, OfRefusals, OfPassed, OfQueueing, OfNothing, OfHandings, Kinds, passed-queues, by-step}
+use Rattle.dispatcher.proofs.Steps.{exchanged, OfRefusals, OfPassed, OfQueueing, OfNothing, OfHandings, Kinds}
+use Rattle.dispatcher.proofs.Steps.{passed-queues, by-step}
 use Rattle.dispatcher.proofs.InOrder.{handedAt, kept-by}
 
 -- whether a call is a handing that counts
@@ -54,13 +56,15 @@ module _ (job : ℕ) (within : job ≤ 3) where
   data Moved (d : Dispatcher) (x : Exchange) : Type 0 where
     passedBy : (more : List Store) → lineOf (x .answer .reply .dispatcher) ≡ lineOf d ++ more → handedAt job d x ≡ []
         → (0 < length (lineOf d) → handingAt x + turnsOf (x .answer .reply .dispatcher) ≤ turnsOf d) → Moved d x
-    servedBy : (store : Store) → lineOf d ≡ store ∷ lineOf (x .answer .reply .dispatcher) → handedAt job d x ≡ store ∷ [] → handingAt x ≤ 1 → Moved d x
+    servedBy : (store : Store) → lineOf d ≡ store ∷ lineOf (x .answer .reply .dispatcher)
+        → handedAt job d x ≡ store ∷ [] → handingAt x ≤ 1 → Moved d x
 
   abbrev Moves : Dispatcher → Exchange → Type 0
   Moves d x = AllKept (d .queues) → Moved d x
 
   -- the queues are as they were, and no handing counts
-  still : (d : Dispatcher) (x : Exchange) → x .answer .reply .dispatcher .queues ≡ d .queues → handedAt job d x ≡ [] → handingAt x ≡ 0 → Moved d x
+  still : (d : Dispatcher) (x : Exchange) → x .answer .reply .dispatcher .queues ≡ d .queues → handedAt job d x ≡ []
+      → handingAt x ≡ 0 → Moved d x
   still d x is nothing none =
       let same : turnsOf (x .answer .reply .dispatcher) ≡ turnsOf d = ap (λ (q : Queues). away (q .last) job) is in
       passedBy [] (ap (λ (q : Queues). waiting q job) is ∙ sym (append-nil (lineOf d))) nothing (λ waits. omega arith)
@@ -82,10 +86,13 @@ module _ (job : ℕ) (within : job ≤ 3) where
       by-test (eqb k job)
       (λ same.
       passedBy (store ∷ [])
-      (subst (λ (n : ℕ). waiting (queued (d .queues) k store) n ≡ waiting (d .queues) n ++ (store ∷ [])) (eqb-true k job same) (queued-same (d .queues) kept k low store room))
+      (subst (λ (n : ℕ). waiting (queued (d .queues) k store) n ≡ waiting (d .queues) n ++ (store ∷ []))
+      (eqb-true k job same) (queued-same (d .queues) kept k low store room))
       refl (λ waits. omega (arith, last)))
       (λ differ.
-      passedBy [] (queued-other (d .queues) kept k low store room job within (eqb-false k job differ) ∙ sym (append-nil (lineOf d))) refl (λ waits. omega (arith, last)))
+      passedBy []
+      (queued-other (d .queues) kept k low store room job within (eqb-false k job differ)
+      ∙ sym (append-nil (lineOf d))) refl (λ waits. omega (arith, last)))
 
   -- where the job waits, somebody is served
   nothing-case : OfNothing Moves
@@ -93,7 +100,8 @@ module _ (job : ℕ) (within : job ≤ 3) where
   nothing-case d is kept =
       passedBy [] (sym (append-nil (lineOf d))) (ap (ofTurn job (d .queues)) is)
       (λ waits.
-      let next = nearer (d .queues) job (omega (arith, kept .low)) within (waits-some (d .queues) kept job within waits) in
+      let next = nearer (d .queues) job (omega (arith, kept .low)) within (waits-some (d .queues) kept job within waits)
+      in
       job-some (next .next) (sym is ∙ next .is))
 
   hands-case : OfHandings Moves
@@ -110,32 +118,49 @@ module _ (job : ℕ) (within : job ≤ 3) where
       (λ same.
       servedBy (nextStore queues k)
       (subst (λ (n : ℕ). waiting queues n ≡ nextStore queues k ∷ waiting (served queues k) n) (eqb-true k job same)
-      (next-first queues kept k low some ∙ ap (λ (l : List Store). nextStore queues k ∷ l) (sym (served-same queues kept k low some))))
+      (next-first queues kept k low some
+      ∙ ap (λ (l : List Store). nextStore queues k ∷ l) (sym (served-same queues kept k low some))))
       (handed ∙ pick-yes _ _ same) (omega arith))
       (λ differ.
-      passedBy [] (served-other queues kept k low some job within (eqb-false k job differ) ∙ sym (append-nil (lineOf d))) (handed ∙ pick-no _ _ differ)
+      passedBy []
+      (served-other queues kept k low some job within (eqb-false k job differ) ∙ sym (append-nil (lineOf d)))
+      (handed ∙ pick-no _ _ differ)
       (λ waits.
       let next = nearer queues job (omega (arith, kept .low)) within (waits-some queues kept job within waits) in
       let same = job-same (next .next) k (sym (next .is) ∙ is) in
       let closer = next .closer (λ e. eqb-false k job differ (sym same ∙ e)) in
-      let turns : turnsOf (handOver d k .dispatcher) ≡ away k job = ap (λ (n : ℕ). away n job) (served-last queues kept k low) in
+      let turns : turnsOf (handOver d k .dispatcher)
+      ≡ away k job = ap (λ (n : ℕ). away n job) (served-last queues kept k low) in
       let near : away k job < turnsOf d = subst (λ (n : ℕ). away n job < turnsOf d) same closer in
       omega (arith, one, near, turns)))
 
   moved : Kinds Moves
-  moved = record { refusals = refusals-case; passes = passed-case; queues = queueing-case; nothing = nothing-case; hands = hands-case }
+  moved =
+      record {
+        refusals = refusals-case;
+        passes = passed-case;
+        queues = queueing-case;
+        nothing = nothing-case;
+        hands = hands-case;
+      }
 
   -- ---- every list
 
   -- the job's stores that are handed over begin with the first that wait, as many as the handings suffice for
   abbrev Within : Dispatcher → List Exchange → Type 0
-  Within d xs = (j : ℕ) → j < length (lineOf d) → 4 * j + turnsOf d < handings xs → take (suc j) (handedIn job d xs) ≡ take (suc j) (lineOf d)
+  Within d xs =
+      (j : ℕ) → j < length (lineOf d) → 4 * j + turnsOf d < handings xs
+      → take (suc j) (handedIn job d xs) ≡ take (suc j) (lineOf d)
 
-  further : (d : Dispatcher) (x : Exchange) (xs : List Exchange) → Moved d x → Within (x .answer .reply .dispatcher) xs → Within d (x ∷ xs)
+  further : (d : Dispatcher) (x : Exchange) (xs : List Exchange) → Moved d x → Within (x .answer .reply .dispatcher) xs
+      → Within d (x ∷ xs)
   unfolding handings handedIn
   further d x xs (passedBy more line nothing closer) rest j inside enough =
-      let longer : length (lineOf (x .answer .reply .dispatcher)) ≡ length (lineOf d) + length more = ap length line ∙ length-append (lineOf d) more in
-      rw nothing (rest j (omega arith) (omega (arith, closer (omega arith))) ∙ rw line (take-append-le (suc j) (lineOf d) more inside))
+      let longer : length (lineOf (x .answer .reply .dispatcher))
+      ≡ length (lineOf d) + length more = ap length line ∙ length-append (lineOf d) more in
+      rw nothing
+      (rest j (omega arith) (omega (arith, closer (omega arith)))
+      ∙ rw line (take-append-le (suc j) (lineOf d) more inside))
   further d x xs (servedBy store first handed once) rest zero inside enough = rw (handed, first) refl
   further d x xs (servedBy store first handed once) rest (suc j) inside enough =
       let long : length (lineOf d) ≡ suc (length (lineOf (x .answer .reply .dispatcher))) = ap length first in
@@ -145,13 +170,15 @@ module _ (job : ℕ) (within : job ≤ 3) where
   unfolding run handings
   within-list [] d kept = λ j inside enough. absurd (omega arith)
   within-list (call ∷ calls) d kept =
-      further d (exchanged call (step d call)) (run (step d call .reply .dispatcher) calls) (by-step Moves moved d call kept)
+      further d (exchanged call (step d call)) (run (step d call .reply .dispatcher) calls)
+      (by-step Moves moved d call kept)
       (within-list calls (step d call .reply .dispatcher) (kept-by d call kept))
 
 pub fair : (d : Dispatcher) (calls : List Call) → AllKept (d .queues) → Fair d (run d calls)
 fair d calls kept job before behind store low line enough =
     let n = length before in
-    let long : length (waiting (d .queues) job) ≡ n + suc (length behind) = ap length line ∙ length-append before (store ∷ behind) in
+    let long : length (waiting (d .queues) job)
+    ≡ n + suc (length behind) = ap length line ∙ length-append before (store ∷ behind) in
     let first : take (n + 1) (handedIn job d (run d calls)) ≡ take (n + 1) (waiting (d .queues) job) =
     rw add-one (within-list job low calls d kept n (omega arith) (omega arith)) in
     first ∙ ap (take (n + 1)) line ∙ take-append-add before (store ∷ behind) 1

@@ -1,5 +1,5 @@
--- The stores of a job are handed over in the order in which they were queued, each once, none lost (`in-order`, over the definitions): what waits and what
--- is queued is, at each call, what is handed over and what waits then.
+-- The stores of a job are handed over in the order in which they were queued, each once, none lost (`in-order`, over
+-- the definitions): what waits and what is queued is, at each call, what is handed over and what waits then.
 -- Assumes nothing.
 use mathlib.Core.Path.{_≡_, refl, sym, ap, subst, _∙_}
 use mathlib.Core.Bool.{Bool, true, false}
@@ -18,16 +18,19 @@ use Rattle.queues.specs.declared.jobs.Turn.{Turn}
 use Rattle.queues.specs.declared.jobs.Turn.the-variants.{Nobody, Job}
 use Rattle.queues.specs.Queue.{waitingIn, emptyQueue}
 use Rattle.queues.specs.Jobs.{freshQueues, turnOf, queueOf, queued, nextStore, served}
-use Rattle.queues.proofs.WaitingLaws.{waiting, AllKept, fresh-kept, fresh-waiting, queued-same, queued-other, queued-kept, next-first, served-same, served-other, served-kept}
+use Rattle.queues.proofs.WaitingLaws.{waiting, AllKept, fresh-kept, fresh-waiting, queued-same, queued-other}
+use Rattle.queues.proofs.WaitingLaws.{queued-kept, next-first, served-same, served-other, served-kept}
 use Rattle.queues.proofs.JobLaws.{Served}
 use Rattle.dispatcher.specs.declared.dispatcher.Dispatcher.{Dispatcher}
 use Rattle.dispatcher.specs.Dispatcher.{Answer, freshDispatcher, isWhole, queueRefusal, handOver}
 use Rattle.controller.specs.Controller.{isIdle}
-use Rattle.dispatcher.specs.Lists.{Call, Exchange, plain, step, run, after, notRefused, queuedBy, ofTurn, handedBy, queuedIn, handedIn}
+use Rattle.dispatcher.specs.Lists.{Call, Exchange, plain, step, run, after, notRefused, queuedBy, ofTurn}
+use Rattle.dispatcher.specs.Lists.{handedBy, queuedIn, handedIn}
 use Rattle.dispatcher.specs.Lists.Call.{queue, hand, passed}
 use Rattle.dispatcher.specs.Order.{InOrder}
 use Rattle.dispatcher.proofs.Laws.{queue-room, queue-low, hand-accepted}
-use Rattle.dispatcher.proofs.Steps.{exchanged, OfRefusals, OfPassed, OfQueueing, OfNothing, OfHandings, Kinds, passed-queues, by-step}
+use Rattle.dispatcher.proofs.Steps.{exchanged, OfRefusals, OfPassed, OfQueueing, OfNothing, OfHandings, Kinds}
+use Rattle.dispatcher.proofs.Steps.{passed-queues, by-step}
 
 -- what a call queues and hands over of a job
 abbrev queuedAt : ℕ → Exchange → List Store
@@ -40,7 +43,8 @@ handedAt job d x = pick (notRefused x) (handedBy job (d .queues) (x .call)) []
 pub record Ordered (d : Dispatcher) (x : Exchange) : Type 0 where
   pub kept : AllKept (x .answer .reply .dispatcher .queues)
   pub same : (job : ℕ) → job ≤ 3
-      → waiting (d .queues) job ++ queuedAt job x ≡ handedAt job d x ++ waiting (x .answer .reply .dispatcher .queues) job
+      → waiting (d .queues) job ++ queuedAt job x
+      ≡ handedAt job d x ++ waiting (x .answer .reply .dispatcher .queues) job
 
 abbrev Orders : Dispatcher → Exchange → Type 0
 Orders d x = AllKept (d .queues) → Ordered d x
@@ -51,7 +55,9 @@ still : (d : Dispatcher) (x : Exchange) → x .answer .reply .dispatcher .queues
 still d x is none nothing kept =
     record {
       kept = subst AllKept (sym is) kept;
-      same = λ job low. ap (λ (l : List Store). waiting (d .queues) job ++ l) (none job) ∙ append-nil (waiting (d .queues) job)
+      same =
+          λ job low. ap (λ (l : List Store). waiting (d .queues) job ++ l) (none job)
+          ∙ append-nil (waiting (d .queues) job)
           ∙ ap (λ (q : Queues). waiting q job) (sym is)
           ∙ ap (λ (l : List Store). l ++ waiting (x .answer .reply .dispatcher .queues) job) (sym (nothing job));
     }
@@ -80,7 +86,8 @@ queueing-case d k store good kept =
           (λ same.
           let e = eqb-true k job same in
           ap (λ (l : List Store). waiting (d .queues) job ++ l) (pick-yes _ _ same)
-          ∙ subst (λ (n : ℕ). waiting (d .queues) n ++ (store ∷ []) ≡ waiting (queued (d .queues) k store) n) e (sym (queued-same (d .queues) kept k low store room)))
+          ∙ subst (λ (n : ℕ). waiting (d .queues) n ++ (store ∷ []) ≡ waiting (queued (d .queues) k store) n) e
+          (sym (queued-same (d .queues) kept k low store room)))
           (λ differ.
           ap (λ (l : List Store). waiting (d .queues) job ++ l) (pick-no _ _ differ) ∙ append-nil _
           ∙ sym (queued-other (d .queues) kept k low store room job within (eqb-false k job differ)));
@@ -98,19 +105,30 @@ hands-case d k whole idle is served-now kept =
       kept = served-kept (d .queues) kept k low some;
       same = λ job within.
           let queues = d .queues in
-          let alone = ap (λ (l : List Store). waiting queues job ++ l) (pick-both _ []) ∙ append-nil (waiting queues job) in
+          let alone = ap (λ (l : List Store). waiting queues job ++ l) (pick-both _ [])
+          ∙ append-nil (waiting queues job) in
           let rest = waiting (served queues k) job in
           by-test (eqb k job)
           (λ same.
-          let first = subst (λ (n : ℕ). waiting queues n ≡ nextStore queues k ∷ waiting (served queues k) n) (eqb-true k job same)
-          (next-first queues kept k low some ∙ ap (λ (l : List Store). nextStore queues k ∷ l) (sym (served-same queues kept k low some))) in
+          let first = subst (λ (n : ℕ). waiting queues n ≡ nextStore queues k ∷ waiting (served queues k) n)
+          (eqb-true k job same)
+          (next-first queues kept k low some
+          ∙ ap (λ (l : List Store). nextStore queues k ∷ l) (sym (served-same queues kept k low some))) in
           alone ∙ first ∙ ap (λ (l : List Store). l ++ rest) (sym (handed job ∙ pick-yes _ _ same)))
           (λ differ.
-          alone ∙ sym (served-other queues kept k low some job within (eqb-false k job differ)) ∙ ap (λ (l : List Store). l ++ rest) (sym (handed job ∙ pick-no _ _ differ)));
+          alone ∙ sym (served-other queues kept k low some job within (eqb-false k job differ))
+          ∙ ap (λ (l : List Store). l ++ rest) (sym (handed job ∙ pick-no _ _ differ)));
     }
 
 ordered : Kinds Orders
-ordered = record { refusals = refusals-case; passes = passed-case; queues = queueing-case; nothing = nothing-case; hands = hands-case }
+ordered =
+    record {
+      refusals = refusals-case;
+      passes = passed-case;
+      queues = queueing-case;
+      nothing = nothing-case;
+      hands = hands-case;
+    }
 
 -- the queues stay kept
 pub kept-by : (d : Dispatcher) (call : Call) → AllKept (d .queues) → AllKept (step d call .reply .dispatcher .queues)
@@ -119,7 +137,8 @@ kept-by d call kept = by-step Orders ordered d call kept .kept
 -- ---- every list
 
 in-order-from : (calls : List Call) (d : Dispatcher) → AllKept (d .queues) → (job : ℕ) → job ≤ 3
-    → waiting (d .queues) job ++ queuedIn job (run d calls) ≡ handedIn job d (run d calls) ++ waiting (after d (run d calls) .queues) job
+    → waiting (d .queues) job ++ queuedIn job (run d calls)
+    ≡ handedIn job d (run d calls) ++ waiting (after d (run d calls) .queues) job
 unfolding run after queuedIn handedIn
 in-order-from [] d kept job low = append-nil (waiting (d .queues) job)
 in-order-from (call ∷ calls) d kept job low =
@@ -131,7 +150,8 @@ in-order-from (call ∷ calls) d kept job low =
     ∙ ap (λ (l : List Store). l ++ queuedIn job (run next calls)) (one .same job low)
     ∙ append-assoc (handedAt job d x) (waiting (next .queues) job) (queuedIn job (run next calls))
     ∙ ap (λ (l : List Store). handedAt job d x ++ l) others
-    ∙ sym (append-assoc (handedAt job d x) (handedIn job next (run next calls)) (waiting (after next (run next calls) .queues) job))
+    ∙ sym (append-assoc (handedAt job d x) (handedIn job next (run next calls))
+    (waiting (after next (run next calls) .queues) job))
 
 pub in-order : (calls : List Call) → InOrder (run freshDispatcher calls)
 unfolding freshDispatcher

@@ -9,7 +9,7 @@ use borrow.Author.Tests.{leb-false, eq-eqb, not-true, not-false}
 use Rattle.common.proofs.PickLaws.{both-hold, pick-yes, not-refused}
 use Rattle.operations.specs.declared.store.Store.{Store}
 use Rattle.link.specs.declared.state.Phase.{Phase}
-use Rattle.link.specs.declared.state.Phase.the-variants.{Collecting, AckOffered, Sending, GoOffered, DataAwaited, ResultAwaited, EndOffered}
+use Rattle.link.proofs.PhaseLaws.{each-phase}
 use Rattle.link.specs.Damaged.{isSound}
 use Rattle.controller.specs.declared.controller.Controller.{Controller}
 use Rattle.controller.specs.declared.controller.Reply.{Reply}
@@ -34,7 +34,8 @@ pub whole-ranges : (d : Dispatcher) → isWhole d ≡ true → Ranges (d .queues
 whole-ranges d whole = sound-ranges (d .queues) (whole-queues d whole)
 
 -- a store that is not refused finds room
-pub queue-room : (d : Dispatcher) (job : ℕ) (store : Store) → queueRefusal d job store ≡ 0 → queueOf (d .queues) job .length < 8
+pub queue-room : (d : Dispatcher) (job : ℕ) (store : Store) → queueRefusal d job store ≡ 0
+    → queueOf (d .queues) job .length < 8
 unfolding queueRefusal
 queue-room d job store e =
     let whole = not-refused _ _ _ (λ z. omega arith) e in
@@ -52,20 +53,23 @@ queue-low d job store e =
     omega arith
 
 -- a state that is whole and idle takes a store
-idle-hand : (c : Controller) (store : Store) (phase : Phase) → isIdleIn phase ≡ true → machine.handIn c (c .body) store phase .refusal ≡ 0
+idle-hand : (c : Controller) (store : Store) (phase : Phase) → isIdleIn phase ≡ true
+    → machine.handIn c (c .body) store phase .refusal ≡ 0
 unfolding isIdleIn machine.handIn
-idle-hand c store (Collecting s) idle = ap (λ (r : Reply). r .refusal) (pick-yes _ _ idle)
-idle-hand c store (AckOffered s) idle = absurd (false≢true idle)
-idle-hand c store (Sending s) idle = absurd (false≢true idle)
-idle-hand c store (GoOffered held) idle = absurd (false≢true idle)
-idle-hand c store (DataAwaited held) idle = absurd (false≢true idle)
-idle-hand c store (ResultAwaited operation held) idle = absurd (false≢true idle)
-idle-hand c store (EndOffered interrupt) idle = absurd (false≢true idle)
+idle-hand c store =
+    each-phase (λ (phase : Phase). isIdleIn phase ≡ true → machine.handIn c (c .body) store phase .refusal ≡ 0)
+    (λ s idle. ap (λ (r : Reply). r .refusal) (pick-yes _ _ idle)) (λ s. busy) (λ send. busy) (λ held. busy)
+    (λ held. busy) (λ operation held. busy) (λ interrupt. busy)
+  where
+    busy : {A : Type 0} → false ≡ true → A
+    busy idle = absurd (false≢true idle)
 
-pub hand-accepted : (d : Dispatcher) (job : ℕ) → isWhole d ≡ true → isIdle (d .controller) ≡ true → eqb (handOver d job .refusal) 0 ≡ true
+pub hand-accepted : (d : Dispatcher) (job : ℕ) → isWhole d ≡ true → isIdle (d .controller) ≡ true
+    → eqb (handOver d job .refusal) 0 ≡ true
 unfolding isWhole handOver machine.handCall
 hand-accepted d job whole idle =
     let c = d .controller in
     let hurt = machine.isDamaged c in
-    let sound = not-false (isSound (c .body) (c .phase)) (not-true hurt (both-hold (areSound (d .queues)) (not hurt) whole .1)) in
+    let sound = not-false (isSound (c .body) (c .phase))
+    (not-true hurt (both-hold (areSound (d .queues)) (not hurt) whole .1)) in
     eq-eqb _ 0 (ap (λ (r : Reply). r .refusal) (pick-yes _ _ sound) ∙ idle-hand c _ (c .phase) idle)

@@ -1,5 +1,5 @@
--- A refused call changes nothing: the dispatcher's own leave all as it is, and those that are passed on are refused as the controller's are, or for the
--- queues alone.
+-- A refused call changes nothing: the dispatcher's own leave all as it is, and those that are passed on are refused as
+-- the controller's are, or for the queues alone.
 -- Assumes nothing.
 use mathlib.Core.Path.{_≡_, refl, sym, ap, _∙_}
 use mathlib.Core.Bool.{Bool}
@@ -12,20 +12,21 @@ use Rattle.queues.specs.Jobs.{areSound}
 use Rattle.dispatcher.specs.declared.dispatcher.Dispatcher.{Dispatcher}
 use Rattle.dispatcher.specs.Dispatcher.{Answer, passedAnswer}
 use Rattle.dispatcher.specs.Lists.{Call, Exchange, step}
-use Rattle.dispatcher.specs.Lists.Call.{queue, hand, passed}
+use Rattle.dispatcher.specs.Lists.Call.{passed}
 use Rattle.dispatcher.specs.Refused.{lentSpace, lentCheck, RefusedUnchanged}
 use Rattle.dispatcher.proofs.Laws.{hand-accepted}
-use Rattle.dispatcher.proofs.Steps.{exchanged, IsOwn, OfRefusals, OfPassed, Kinds, by-step}
+use Rattle.dispatcher.proofs.Steps.IsOwn.{queueing, handing}
+use Rattle.dispatcher.proofs.Steps.{exchanged, OfRefusals, OfPassed, Kinds, by-step}
 
 abbrev Unmoved : Dispatcher → Exchange → Type 0
 Unmoved d x = RefusedUnchanged d (x .call) (x .answer)
 
 refusals-case : OfRefusals Unmoved
-unfolding IsOwn lentSpace lentCheck
-refusals-case d (queue job store) number own some refused =
+unfolding lentSpace lentCheck
+refusals-case d call number (queueing job store) some refused =
     record { state = refl; action = refl; handed = refl; bytes = refl; space = refl; check = refl }
-refusals-case d hand number own some refused = record { state = refl; action = refl; handed = refl; bytes = refl; space = refl; check = refl }
-refusals-case d (passed call) number own some refused = absurd own
+refusals-case d call number handing some refused =
+    record { state = refl; action = refl; handed = refl; bytes = refl; space = refl; check = refl }
 
 passed-case : OfPassed Unmoved
 unfolding step passedAnswer lentSpace lentCheck

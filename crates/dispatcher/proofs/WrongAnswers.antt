@@ -1,4 +1,5 @@
--- Wrong answers that the contracts of the dispatcher's calls rule out, two for each: no answer that the contract allows is wrong in that way.
+-- Wrong answers that the contracts of the dispatcher's calls rule out, two for each: no answer that the contract allows
+-- is wrong in that way.
 -- Assumes nothing.
 use mathlib.Core.Path.{_≡_, refl, sym, ap, subst, _∙_}
 use mathlib.Core.Bool.{true, false, false≢true}
@@ -16,7 +17,8 @@ use Rattle.queues.specs.Jobs.{freshQueues, areSound, queueOf, turnOf}
 use Rattle.queues.proofs.WaitingLaws.{waiting, fresh-waiting}
 use Rattle.dispatcher.specs.declared.dispatcher.Dispatcher.{Dispatcher}
 use Rattle.dispatcher.specs.declared.dispatcher.Dispatched.{Dispatched}
-use Rattle.dispatcher.specs.Dispatcher.{Answer, freshDispatcher, isWhole, queueRefusal, queueCall, handTurn, handCall, passedAnswer}
+use Rattle.dispatcher.specs.Dispatcher.{Answer, freshDispatcher, isWhole, queueRefusal, queueCall, handTurn}
+use Rattle.dispatcher.specs.Dispatcher.{handCall, passedAnswer}
 use Rattle.controller.specs.Controller.{isIdle}
 use Rattle.dispatcher.specs.Lists.{Call, step}
 use Rattle.dispatcher.specs.Lists.Call.{queue, hand, passed}
@@ -31,7 +33,8 @@ Excludes d call Wrong = (answer : Answer) → Allows d call answer → Wrong ans
 
 -- since that of the step is not
 excluded : (d : Dispatcher) (call : Call) (Wrong : Answer → Type 0) → (Wrong (step d call) → ⊥) → Excludes d call Wrong
-excluded d call Wrong never answer allowed = subst (λ (a : Answer). Wrong a → ⊥) (sym (answers-are-steps d call answer allowed)) never
+excluded d call Wrong never answer allowed =
+    subst (λ (a : Answer). Wrong a → ⊥) (sym (answers-are-steps d call answer allowed)) never
 
 -- ---- queue
 
@@ -42,7 +45,8 @@ unfolding step queueCall
 queue-takes-a-ninth-store d job store full =
     excluded _ _ _
     (pick-by (λ (r : Dispatched). r .refusal ≡ 0 → ⊥) (eqb (queueRefusal d job store) 0)
-    (λ good done. let room = queue-room d job store (eqb-true _ 0 good) in omega arith) (λ bad done. eqb-false _ 0 bad done))
+    (λ good done. let room = queue-room d job store (eqb-true _ 0 good) in omega arith)
+    (λ bad done. eqb-false _ 0 bad done))
 
 -- queueing moves the controller
 pub queue-moves-the-controller : (d : Dispatcher) (job : ℕ) (store : Store)
@@ -51,7 +55,8 @@ unfolding step queueCall
 queue-moves-the-controller d job store =
     excluded _ _ _
     (λ wrong. wrong
-    (pick-by (λ (r : Dispatched). r .dispatcher .controller ≡ d .controller) (eqb (queueRefusal d job store) 0) (λ good. refl) (λ bad. refl)))
+    (pick-by (λ (r : Dispatched). r .dispatcher .controller ≡ d .controller) (eqb (queueRefusal d job store) 0)
+    (λ good. refl) (λ bad. refl)))
 
 -- ---- hand
 
@@ -61,11 +66,13 @@ unfolding step handCall
 hand-while-busy d busy =
     excluded _ _ _
     (pick-by (λ (r : Dispatched). r .refusal ≡ 0 → ⊥) (isWhole d)
-    (λ whole. pick-by (λ (r : Dispatched). r .refusal ≡ 0 → ⊥) (isIdle (d .controller)) (λ idle. absurd (false≢true (sym busy ∙ idle))) (λ no done. omega arith))
+    (λ whole. pick-by (λ (r : Dispatched). r .refusal ≡ 0 → ⊥) (isIdle (d .controller))
+    (λ idle. absurd (false≢true (sym busy ∙ idle))) (λ no done. omega arith))
     (λ hurt done. omega arith))
 
 -- with nothing queued something is done
-pub hand-with-nothing-queued : (d : Dispatcher) → turnOf (d .queues) ≡ Nobody → Excludes d hand (λ a. a .reply .dispatcher ≡ d → ⊥)
+pub hand-with-nothing-queued : (d : Dispatcher) → turnOf (d .queues) ≡ Nobody
+    → Excludes d hand (λ a. a .reply .dispatcher ≡ d → ⊥)
 unfolding step handCall handTurn
 hand-with-nothing-queued d nobody =
     excluded _ _ _
@@ -78,7 +85,8 @@ hand-with-nothing-queued d nobody =
 -- ---- the eight that are passed on
 
 -- one of them changes the queues
-pub passed-call-changes-the-queues : (d : Dispatcher) (call : machine.Call) → Excludes d (passed call) (λ a. a .reply .dispatcher .queues ≡ d .queues → ⊥)
+pub passed-call-changes-the-queues : (d : Dispatcher) (call : machine.Call)
+    → Excludes d (passed call) (λ a. a .reply .dispatcher .queues ≡ d .queues → ⊥)
 passed-call-changes-the-queues d call = excluded _ _ _ (λ wrong. wrong (passed-queues d call))
 
 -- it is carried out though a queue, or the last job served, is out of range
@@ -87,14 +95,17 @@ pub passed-call-with-queues-out-of-range : (d : Dispatcher) (call : machine.Call
 unfolding step passedAnswer
 passed-call-with-queues-out-of-range d call hurt =
     excluded _ _ _
-    (λ done. let right : step d (passed call) .reply .refusal ≡ 1 = ap (λ (a : Answer). a .reply .refusal) (pick-no _ _ hurt) in omega arith)
+    (λ done. let right : step d (passed call) .reply .refusal
+    ≡ 1 = ap (λ (a : Answer). a .reply .refusal) (pick-no _ _ hurt) in omega arith)
 
 -- ---- fresh_dispatcher
 
 -- something is queued
-pub fresh-with-a-store-queued : (d : Dispatcher) → fresh-reads.Post tt tt d tt → (job : ℕ) → job ≤ 3 → (waiting (d .queues) job ≡ [] → ⊥) → ⊥
+pub fresh-with-a-store-queued : (d : Dispatcher) → fresh-reads.Post tt tt d tt → (job : ℕ) → job ≤ 3
+    → (waiting (d .queues) job ≡ [] → ⊥) → ⊥
 unfolding freshDispatcher
-fresh-with-a-store-queued d allowed job low wrong = wrong (ap (λ (x : Dispatcher). waiting (x .queues) job) allowed ∙ fresh-waiting job low)
+fresh-with-a-store-queued d allowed job low wrong =
+    wrong (ap (λ (x : Dispatcher). waiting (x .queues) job) allowed ∙ fresh-waiting job low)
 
 -- another job than 0 comes first
 pub fresh-serves-another-job-first : (d : Dispatcher) → fresh-reads.Post tt tt d tt → (d .queues .last ≡ 3 → ⊥) → ⊥

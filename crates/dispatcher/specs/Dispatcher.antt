@@ -1,5 +1,5 @@
--- The dispatcher (document 02, Wish 8): "A dispatcher hands over the next store whenever the last has completed, taking jobs in turn from the one after the
--- last served and passing over empty queues". Its calls, over the machine's.
+-- The dispatcher (document 02, request 8): "A dispatcher hands over the next store whenever the last has completed,
+-- taking jobs in turn from the one after the last served and passing over empty queues". Its calls, over the machine's.
 -- Assumes nothing.
 use Prim.Native.Nat.{ℕ}
 use mathlib.Core.Bool.{Bool, not, _&&_, _||_}
@@ -36,12 +36,12 @@ freshDispatcher = record { controller = fresh; queues = freshQueues }
 -- ---- what a call leaves
 
 -- all as it is: refused, or nothing is done
-abbrev pub leave : ℕ → Dispatcher → Dispatched
-leave refusal d = record { dispatcher = d; action = Nothing; refusal = refusal; handed = NoneHanded }
+abbrev pub unchanged : ℕ → Dispatcher → Dispatched
+unchanged refusal d = record { dispatcher = d; action = Nothing; refusal = refusal; handed = NoneHanded }
 
 -- the controller's reply, beside these queues
-abbrev pub beside : Queues → Reply → Dispatched
-beside queues reply =
+abbrev pub withQueues : Queues → Reply → Dispatched
+withQueues queues reply =
     record {
       dispatcher = record { controller = reply .controller; queues = queues };
       action = reply .action;
@@ -49,7 +49,8 @@ beside queues reply =
       handed = reply .handed;
     }
 
--- a call's answer: its reply, how many bytes of the lent space it gives, and what it leaves in that space and in the check store
+-- a call's answer: its reply, how many bytes of the lent space it gives, and what it leaves in that space and in the
+-- check store
 pub record Answer : Type 0 where
   pub reply : Dispatched
   pub bytes : ℕ
@@ -57,18 +58,19 @@ pub record Answer : Type 0 where
   pub check : List ℕ
 
 -- of the calls that are lent space
-abbrev pub leaveTransfer : ℕ → Dispatcher → DispatchedTransfer
-leaveTransfer refusal d = record { reply = leave refusal d; bytes = 0 }
+abbrev pub unchangedTransfer : ℕ → Dispatcher → DispatchedTransfer
+unchangedTransfer refusal d = record { reply = unchanged refusal d; bytes = 0 }
 
-abbrev pub besideTransfer : Queues → Transfer → DispatchedTransfer
-besideTransfer queues transfer = record { reply = beside queues (transfer .reply); bytes = transfer .bytes }
+abbrev pub transferWithQueues : Queues → Transfer → DispatchedTransfer
+transferWithQueues queues transfer = record { reply = withQueues queues (transfer .reply); bytes = transfer .bytes }
 
 abbrev pub answered : DispatchedTransfer → List ℕ → List ℕ → Answer
 answered t space check = record { reply = t .reply; bytes = t .bytes; space = space; check = check }
 
 -- the controller's answer, beside these queues
-abbrev pub besideAnswer : Queues → records.Answer → Answer
-besideAnswer queues a = record { reply = beside queues (a .reply); bytes = a .bytes; space = a .space; check = a .check }
+abbrev pub answerWithQueues : Queues → records.Answer → Answer
+answerWithQueues queues a =
+    record { reply = withQueues queues (a .reply); bytes = a .bytes; space = a .space; check = a .check }
 
 -- ---- queueing and handing
 
@@ -80,7 +82,8 @@ isWhole d = areSound (d .queues) && not (machine.isDamaged (d .controller))
 unfoldable pub isResetStore : Store → Bool
 isResetStore store = asksReset (askedFor store)
 
--- "Refused: 16 a job above 3, a store naming no drive or a reset store; 17 that job's queue holds eight; in this order, after 15."
+-- "Refused: 16 a job above 3, a store naming no drive or a reset store; 17 that job's queue holds eight; in this order,
+-- after 15."
 unfoldable pub queueRefusal : Dispatcher → ℕ → Store → ℕ
 queueRefusal d job store =
     pick (not (isWhole d)) stateDamaged
@@ -90,50 +93,55 @@ queueRefusal d job store =
 -- a job queues a store
 unfoldable pub queueCall : Dispatcher → ℕ → Store → Dispatched
 queueCall d job store =
-    pick (eqb (queueRefusal d job store) done) (leave done (record { controller = d .controller; queues = queued (d .queues) job store }))
-    (leave (queueRefusal d job store) d)
+    pick (eqb (queueRefusal d job store) done)
+    (unchanged done (record { controller = d .controller; queues = queued (d .queues) job store }))
+    (unchanged (queueRefusal d job store) d)
 
--- "A store handed over is carried out as if its ACK had just been taken."; "A handed-over store's place is free for its job."
+-- "A store handed over is carried out as if its ACK had just been taken."; "A handed-over store's place is free for its
+-- job."
 unfoldable pub handOver : Dispatcher → ℕ → Dispatched
-handOver d job = beside (served (d .queues) job) (machine.handCall (d .controller) (nextStore (d .queues) job))
+handOver d job = withQueues (served (d .queues) job) (machine.handCall (d .controller) (nextStore (d .queues) job))
 
 -- by whose turn it is; "with nothing queued it does nothing"
 unfoldable pub handTurn : Dispatcher → Turn → Dispatched
-handTurn d Nobody = leave done d
+handTurn d Nobody = unchanged done d
 handTurn d (Job job) = handOver d job
 
 -- "A handing when not idle is refused as 4"
 unfoldable pub handCall : Dispatcher → Dispatched
-handCall d = pick (isWhole d) (pick (isIdle (d .controller)) (handTurn d (turnOf (d .queues))) (leave notIdle d)) (leave stateDamaged d)
+handCall d =
+    pick (isWhole d) (pick (isIdle (d .controller)) (handTurn d (turnOf (d .queues))) (unchanged notIdle d))
+    (unchanged stateDamaged d)
 
 -- ---- the eight calls, passed on: "A reset keeps the queues and the last job served."
 
 -- a call that is lent nothing
-unfoldable pub passed : Dispatcher → Reply → Dispatched
-passed d reply = pick (areSound (d .queues)) (beside (d .queues) reply) (leave stateDamaged d)
+unfoldable pub passOn : Dispatcher → Reply → Dispatched
+passOn d reply = pick (areSound (d .queues)) (withQueues (d .queues) reply) (unchanged stateDamaged d)
 
 abbrev pub byteCall : Dispatcher → ℕ → Dispatched
-byteCall d byte = passed d (machine.byteCall (d .controller) byte)
+byteCall d byte = passOn d (machine.byteCall (d .controller) byte)
 
 abbrev pub takenCall : Dispatcher → Dispatched
-takenCall d = passed d (machine.takenCall (d .controller))
+takenCall d = passOn d (machine.takenCall (d .controller))
 
 abbrev pub brokenCall : Dispatcher → Dispatched
-brokenCall d = passed d (machine.brokenCall (d .controller))
+brokenCall d = passOn d (machine.brokenCall (d .controller))
 
 abbrev pub reportCall : Dispatcher → ℕ → ℕ → Dispatched
-reportCall d drive report = passed d (machine.reportCall (d .controller) drive report)
+reportCall d drive report = passOn d (machine.reportCall (d .controller) drive report)
 
 abbrev pub tickCall : Dispatcher → Dispatched
-tickCall d = passed d (machine.tickCall (d .controller))
+tickCall d = passOn d (machine.tickCall (d .controller))
 
 abbrev pub resetCall : Dispatcher → Dispatched
-resetCall d = passed d (machine.resetCall (d .controller))
+resetCall d = passOn d (machine.resetCall (d .controller))
 
 -- and one that is
 unfoldable pub passedAnswer : Dispatcher → records.Answer → List ℕ → List ℕ → Answer
 passedAnswer d a space check =
-    pick (areSound (d .queues)) (besideAnswer (d .queues) a) (answered (leaveTransfer stateDamaged d) space check)
+    pick (areSound (d .queues)) (answerWithQueues (d .queues) a)
+    (answered (unchangedTransfer stateDamaged d) space check)
 
 abbrev pub dataCall : Dispatcher → Host → List ℕ → List ℕ → Answer
 dataCall d host space check = passedAnswer d (machine.dataCall (d .controller) host space check) space check

@@ -1,5 +1,6 @@
--- Fairness: "A store with j of its own job's before it is handed over within 4 times (j+1) handings that are not refused, whatever the other jobs queue."
--- (document 02, Wish 8). Of every state that a list of calls from a fresh dispatcher leaves, and of whatever is called after it.
+-- Fairness: "A store with j of its own job's before it is handed over within 4 times (j+1) handings that are not
+-- refused, whatever the other jobs queue." (document 02, request 8). Of every state that a list of calls from a fresh
+-- dispatcher leaves, and of whatever is called after it.
 -- Assumes nothing.
 use mathlib.Core.Path.{_≡_}
 use mathlib.Core.List.{List, [], _∷_, _++_}
@@ -24,7 +25,8 @@ unfoldable pub handings : List Exchange → ℕ
 handings [] = 0
 handings (x ∷ xs) = pick (notRefused x) (isHanding (x .call)) 0 + handings xs
 
--- where a store waits behind others of its job, and so many handings are not refused, what is handed over of the job begins with those others and then it
+-- where a store waits behind others of its job, and so many handings are not refused, what is handed over of the job
+-- begins with those others and then it
 abbrev pub Fair : Dispatcher → List Exchange → Type 0
 Fair d xs =
     (job : ℕ) (before behind : List Store) (store : Store)

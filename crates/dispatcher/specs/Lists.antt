@@ -77,4 +77,5 @@ queuedIn job (x ∷ xs) = pick (notRefused x) (queuedBy job (x .call)) [] ++ que
 
 unfoldable pub handedIn : ℕ → Dispatcher → List Exchange → List Store
 handedIn job d [] = []
-handedIn job d (x ∷ xs) = pick (notRefused x) (handedBy job (d .queues) (x .call)) [] ++ handedIn job (x .answer .reply .dispatcher) xs
+handedIn job d (x ∷ xs) =
+    pick (notRefused x) (handedBy job (d .queues) (x .call)) [] ++ handedIn job (x .answer .reply .dispatcher) xs

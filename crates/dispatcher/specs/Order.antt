@@ -1,5 +1,5 @@
--- Order: the stores of one job are handed over in the order in which they were queued, each once, and none is lost, also across resets. Over every list
--- of calls from a fresh dispatcher.
+-- Order: the stores of one job are handed over in the order in which they were queued, each once, and none is lost,
+-- also across resets. Over every list of calls from a fresh dispatcher.
 -- Assumes nothing.
 use mathlib.Core.Path.{_≡_}
 use mathlib.Core.List.{List, _++_}
@@ -12,4 +12,6 @@ use Rattle.dispatcher.specs.Lists.{Exchange, after, queuedIn, handedIn}
 -- what a job queued is what was handed over of it, and then what still waits
 abbrev pub InOrder : List Exchange → Type 0
 InOrder xs =
-    (job : ℕ) → job ≤ 3 → queuedIn job xs ≡ handedIn job freshDispatcher xs ++ waitingIn (queueOf (after freshDispatcher xs .queues) job)
+    (job : ℕ)
+    → job ≤ 3
+    → queuedIn job xs ≡ handedIn job freshDispatcher xs ++ waitingIn (queueOf (after freshDispatcher xs .queues) job)

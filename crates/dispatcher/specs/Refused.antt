@@ -1,4 +1,5 @@
--- A refused call changes nothing: "state and buffers unchanged, no action" (document 01), of the dispatcher's calls, the queues included.
+-- A refused call changes nothing: "state and buffers unchanged, no action" (document 01), of the dispatcher's calls,
+-- the queues included.
 -- Assumes nothing.
 use mathlib.Core.Path.{_≡_}
 use mathlib.Core.List.{List, []}

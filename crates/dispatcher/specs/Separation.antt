@@ -1,5 +1,6 @@
--- Separation of the drives, for anything that the dispatcher sends: "the separation of drives holds for anything that the dispatcher sends while nothing resets
--- the controller and every store from the link names its drive; the queueing and the handing calls then stand in its lists too." (document 02, Wish 8)
+-- Separation of the drives, for anything that the dispatcher sends: "the separation of drives holds for anything that
+-- the dispatcher sends while nothing resets the controller and every store from the link names its drive; the queueing
+-- and the handing calls then stand in its lists too." (document 02, request 8)
 -- Assumes nothing.
 use mathlib.Core.Path.{_≡_}
 use mathlib.Core.Bool.{Bool, true, _&&_}
@@ -45,7 +46,8 @@ unfoldable pub sentAt : Queues → Answer → Turn → List machine.Exchange
 sentAt queues a Nobody = []
 sentAt queues a (Job job) = ownExchange (machine.hand (nextStore queues job)) a ∷ []
 
--- a call comes to none of the controller's calls, or to one with its answer: a handing not refused to the store that it hands over
+-- a call comes to none of the controller's calls, or to one with its answer: a handing not refused to the store that it
+-- hands over
 unfoldable pub sentBy : Queues → Bool → Answer → Call → List machine.Exchange
 sentBy queues accepted a (queue job store) = []
 sentBy queues accepted a hand = pick accepted (sentAt queues a (turnOf queues)) []
@@ -54,7 +56,8 @@ sentBy queues accepted a (passed call) = pick (areSound queues) (ownExchange cal
 -- in a list, in order
 unfoldable pub sentFrom : Dispatcher → List Exchange → List machine.Exchange
 sentFrom d [] = []
-sentFrom d (x ∷ xs) = sentBy (d .queues) (notRefused x) (x .answer) (x .call) ++ sentFrom (x .answer .reply .dispatcher) xs
+sentFrom d (x ∷ xs) =
+    sentBy (d .queues) (notRefused x) (x .answer) (x .call) ++ sentFrom (x .answer .reply .dispatcher) xs
 
 -- the controller's list in a list of the dispatcher's
 abbrev pub sent : List Exchange → List machine.Exchange
@@ -62,7 +65,8 @@ sent = sentFrom freshDispatcher
 
 -- ---- the condition on a list
 
--- what is passed on resets nothing, and its stores name their drives; of what the dispatcher hands over nothing is asked
+-- what is passed on resets nothing, and its stores name their drives; of what the dispatcher hands over nothing is
+-- asked
 unfoldable pub admitsOwn : Controller → Answer → Call → Bool
 admitsOwn c a (passed call) = admits c (ownExchange call a)
 admitsOwn c a (queue job store) = true
@@ -70,14 +74,21 @@ admitsOwn c a hand = true
 
 unfoldable pub admittedFrom : Dispatcher → List Exchange → Bool
 admittedFrom d [] = true
-admittedFrom d (x ∷ xs) = admitsOwn (d .controller) (x .answer) (x .call) && admittedFrom (x .answer .reply .dispatcher) xs
+admittedFrom d (x ∷ xs) =
+    admitsOwn (d .controller) (x .answer) (x .call) && admittedFrom (x .answer .reply .dispatcher) xs
 
 abbrev pub admitted : List Exchange → Bool
 admitted = admittedFrom freshDispatcher
 
 -- ---- the claim
 
--- a drive with the same history in both lists, its stores carried out having come by the link or by hand, ends alike and was given alike
+-- a drive with the same history in both lists, its stores carried out having come by the link or by hand, ends alike
+-- and was given alike
 abbrev pub Separate : List Exchange → List Exchange → Type 0
 Separate xs ys =
-    (drive : ℕ) → drive ≤ 3 → admitted xs ≡ true → admitted ys ≡ true → history drive (sent xs) ≡ history drive (sent ys) → Agree drive (sent xs) (sent ys)
+    (drive : ℕ)
+    → drive ≤ 3
+    → admitted xs ≡ true
+    → admitted ys ≡ true
+    → history drive (sent xs) ≡ history drive (sent ys)
+    → Agree drive (sent xs) (sent ys)

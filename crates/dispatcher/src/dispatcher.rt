@@ -8,14 +8,16 @@ use link::state::Handed;
 use queues::jobs::Queues;
 use queues::jobs::fresh_queues;
 ghost use mathlib.Core.Path.{_≡_};
-ghost use Rattle.dispatcher.specs.Dispatcher.{freshDispatcher, leave, beside, leaveTransfer, besideTransfer};
+ghost use Rattle.dispatcher.specs.Dispatcher.{freshDispatcher, unchanged, withQueues, unchangedTransfer};
+ghost use Rattle.dispatcher.specs.Dispatcher.{transferWithQueues};
 
 pub struct Dispatcher {
     pub controller: Controller,
     pub queues: Queues,
 }
 
-// What a call hands back: the next state, what is to be done, the refusal or 0, and the record of a store whose code the call settled.
+// What a call hands back: the next state, what is to be done, the refusal or 0, and the record of a store whose code
+// the call settled.
 pub struct Dispatched {
     pub dispatcher: Dispatcher,
     pub action: Action,
@@ -39,8 +41,8 @@ pub fn fresh_dispatcher() -> Dispatcher
 }
 
 // A call that leaves all as it is: refused, or with nothing to do.
-pub fn leave(refusal: u32, d: Dispatcher) -> Dispatched
-    ensures { λ r. ⌜ r ≡ leave refusal d ⌝ }
+pub fn unchanged(refusal: u32, d: Dispatcher) -> Dispatched
+    ensures { λ r. ⌜ r ≡ unchanged refusal d ⌝ }
 {
     Dispatched {
         dispatcher: d,
@@ -51,8 +53,8 @@ pub fn leave(refusal: u32, d: Dispatcher) -> Dispatched
 }
 
 // The controller's reply, beside these queues.
-pub fn beside(queues: Queues, reply: Reply) -> Dispatched
-    ensures { λ r. ⌜ r ≡ beside queues reply ⌝ }
+pub fn with_queues(queues: Queues, reply: Reply) -> Dispatched
+    ensures { λ r. ⌜ r ≡ withQueues queues reply ⌝ }
 {
     let controller = reply.controller;
     let action = reply.action;
@@ -66,17 +68,17 @@ pub fn beside(queues: Queues, reply: Reply) -> Dispatched
 }
 
 // The same of the calls that are lent space.
-pub fn leave_transfer(refusal: u32, d: Dispatcher) -> DispatchedTransfer
-    ensures { λ r. ⌜ r ≡ leaveTransfer refusal d ⌝ }
+pub fn unchanged_transfer(refusal: u32, d: Dispatcher) -> DispatchedTransfer
+    ensures { λ r. ⌜ r ≡ unchangedTransfer refusal d ⌝ }
 {
-    let reply = leave(refusal, d);
+    let reply = unchanged(refusal, d);
     DispatchedTransfer { reply, bytes: 0 }
 }
 
-pub fn beside_transfer(queues: Queues, transfer: Transfer) -> DispatchedTransfer
-    ensures { λ r. ⌜ r ≡ besideTransfer queues transfer ⌝ }
+pub fn transfer_with_queues(queues: Queues, transfer: Transfer) -> DispatchedTransfer
+    ensures { λ r. ⌜ r ≡ transferWithQueues queues transfer ⌝ }
 {
-    let reply = beside(queues, transfer.reply);
+    let reply = with_queues(queues, transfer.reply);
     DispatchedTransfer {
         reply,
         bytes: transfer.bytes,

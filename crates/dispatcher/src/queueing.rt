@@ -1,16 +1,15 @@
 // The dispatcher's own calls: a job queues a store, and the store whose turn it is is handed over.
 use crate::dispatcher::Dispatched;
 use crate::dispatcher::Dispatcher;
-use crate::dispatcher::beside;
-use crate::dispatcher::leave;
+use crate::dispatcher::unchanged;
+use crate::dispatcher::with_queues;
 use common::refusals::DONE;
 use common::refusals::NOT_IDLE;
 use common::refusals::QUEUE_FULL;
 use common::refusals::STATE_DAMAGED;
 use common::refusals::STORE_NOT_TAKEN;
-use controller::controller::Controller;
+use controller::controller::is_idle;
 use controller::link_calls::is_damaged;
-use link::state::Phase;
 use operations::decode::Decoded;
 use operations::store::Store;
 use operations::store::asked_for;
@@ -29,24 +28,12 @@ ghost use mathlib.Core.Path.{_≡_};
 ghost use Prim.Native.Nat.{_<_};
 ghost use Rattle.queues.specs.Jobs.{waits};
 ghost use Rattle.dispatcher.specs.Dispatcher.{isWhole, isResetStore, queueRefusal, queueCall, handOver, handCall};
-ghost use Rattle.controller.specs.Controller.{isIdle};
 
 // Whether every field is in range, those of the controller and those of the queues.
-pub fn is_whole(d: Dispatcher) -> bool
+fn is_whole(d: Dispatcher) -> bool
     ensures { λ r. ⌜ r ≡ isWhole d ⌝ }
 {
     are_sound(d.queues) & !is_damaged(d.controller)
-}
-
-// Whether nothing is collected and nothing awaited.
-fn is_idle(c: Controller) -> bool
-    ensures { λ r. ⌜ r ≡ isIdle c ⌝ }
-{
-    let phase = c.phase;
-    let Phase::Collecting(string) = phase else {
-        return false;
-    };
-    string.length == 0
 }
 
 // Whether a store is one of operation 0.
@@ -84,7 +71,7 @@ fn hand_over(d: Dispatcher, job: u8) -> Dispatched
     let store = next_store(d.queues, job);
     let shorter = served(d.queues, job);
     let controller = d.controller;
-    beside(shorter, controller.hand(store))
+    with_queues(shorter, controller.hand(store))
 }
 
 impl Dispatcher {
@@ -94,11 +81,11 @@ impl Dispatcher {
     {
         let refusal = queue_refusal(self, job, store);
         if refusal != DONE {
-            return leave(refusal, self);
+            return unchanged(refusal, self);
         }
         let queues = queued(self.queues, job, store);
         let controller = self.controller;
-        leave(DONE, Dispatcher { controller, queues })
+        unchanged(DONE, Dispatcher { controller, queues })
     }
 
     // The next store is handed over; where nothing is queued, nothing is done.
@@ -106,14 +93,14 @@ impl Dispatcher {
         ensures { λ r. ⌜ r ≡ handCall self ⌝ }
     {
         if !is_whole(self) {
-            return leave(STATE_DAMAGED, self);
+            return unchanged(STATE_DAMAGED, self);
         }
         if !is_idle(self.controller) {
-            return leave(NOT_IDLE, self);
+            return unchanged(NOT_IDLE, self);
         }
         let turn = turn_of(self.queues);
         match turn {
-            Turn::Nobody => leave(DONE, self),
+            Turn::Nobody => unchanged(DONE, self),
             Turn::Job(job) => hand_over(self, job),
         }
     }

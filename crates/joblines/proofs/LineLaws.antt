@@ -8,13 +8,13 @@ use mathlib.Core.List.{List}
 use lib.Dec.{leb, eqb}
 use lib.ListN.{length}
 use borrow.Author.Tests.{leb-true, eqb-true}
-use Rattle.common.specs.Given.{given}
-use Rattle.common.proofs.GivenLaws.{given-all}
+use Rattle.common.specs.Space.{overwrite}
+use Rattle.common.proofs.SpaceLaws.{overwritten-all}
 use Rattle.common.proofs.PickLaws.{both-hold}
-use Rattle.lines.specs.Digits.{bytesOf}
-use Rattle.lines.specs.Line.{fieldOf, after, afterField, afterFields}
-use Rattle.lines.proofs.DigitLaws.{bytes-length}
-use Rattle.lines.proofs.FieldLaws.{after-is}
+use Rattle.text.specs.Digits.{bytesOf}
+use Rattle.text.specs.Fields.{fieldOf, after, afterField, afterFields}
+use Rattle.text.proofs.DigitLaws.{bytes-length}
+use Rattle.text.proofs.FieldLaws.{after-is}
 use Rattle.joblines.specs.Limits.{operandLength}
 use Rattle.joblines.specs.Line.{isOperand, isQueue, storeLine, queueLine}
 
@@ -23,10 +23,10 @@ unfolding isOperand
 operand-length s e = eqb-true _ _ (both-hold (eqb (length s) operandLength) _ e .0)
 
 -- its bytes fill the space for them
-pub operand-bytes : (s space : List ℕ) → isOperand s ≡ true → length space ≡ 4 → given (bytesOf s) space ≡ bytesOf s
+pub operand-bytes : (s space : List ℕ) → isOperand s ≡ true → length space ≡ 4 → overwrite (bytesOf s) space ≡ bytesOf s
 operand-bytes s space e four =
     let all : length space ≤ length (bytesOf s) = omega (arith, operand-length s e, bytes-length s) in
-    given-all (bytesOf s) space all
+    overwritten-all (bytesOf s) space all
 
 -- the fields behind the first comma
 pub store-cut : (s job rest address operand : List ℕ)

@@ -2,35 +2,45 @@
 -- Assumes nothing.
 use mathlib.Core.Path.{_≡_, refl, ap}
 use Prim.Native.Nat.{ℕ, min}
+use native.Mathlib.Omega.{arith}
+use mathlib.Core.Bool.{Bool, true, false}
 use mathlib.Core.List.{List, _++_}
-use lib.ListN.{length, take, drop}
+use lib.ListN.{length, take, drop, take-append-drop}
+use Rattle.common.specs.Pick.{pick}
+use Rattle.common.specs.Refusals.{stateDamaged}
 use Rattle.transfers.specs.Results.{resultOf}
+use Rattle.controller.specs.Records as records
+use Rattle.controller.specs.Machine.{resultCall}
+use Rattle.queues.specs.declared.jobs.Queues.{Queues}
+use Rattle.queues.specs.Jobs.{areSound}
 use Rattle.dispatcher.specs.declared.dispatcher.Dispatcher.{Dispatcher}
 use Rattle.dispatcher.specs.declared.dispatcher.DispatchedTransfer.{DispatchedTransfer}
-use Rattle.dispatcher.specs.Dispatcher.{Answer, answered, resultCall}
+use Rattle.dispatcher.specs.Dispatcher.{answered, answerWithQueues, unchangedTransfer, passedAnswer}
 use Rattle.lines.specs.Line.{plainLine, callRead}
-use Rattle.lines.specs.declared.line.ResultFields.{ResultFields}
+use Rattle.lines.specs.Play.{plainReply, fieldsAnswer, lentAnswer, inWholeSpace as wholeSpace}
 use Rattle.lines.specs.declared.line.PlainCall.{PlainCall}
 use Rattle.lines.specs.declared.line.PlainCall.the-variants.{Byte, Taken, Broken, Report, Tick, Reset}
-use Rattle.lines.specs.declared.line.Call.{Call}
-use Rattle.lines.specs.declared.line.Call.the-variants.{Plain, HostData, Result}
-use Rattle.lines.proofs.PlayLaws.{take-least, drop-least}
+use Rattle.lines.specs.declared.play.LentCall.{LentCall}
+use Rattle.lines.specs.declared.play.LentCall.the-variants.{HostData, Result}
+use Rattle.lines.proofs.PlayLaws.{take-min, callOf}
 use Rattle.joblines.specs.Print.{jobAnswerText}
-use Rattle.joblines.specs.Play.{jobLeft, dispatchedLeft, replyLeft, sessionLeft, withoutBytes, inWholeSpace, plainDispatched, fieldsDispatched, callDispatched}
+use Rattle.joblines.specs.Play.{jobLeft, dispatchedLeft, lentLeft, replyLeft, sessionLeft, inWholeSpace}
+use Rattle.joblines.specs.Play.{plainDispatched, lentDispatched}
 
 -- a call's answer, with the bytes that it gives printed
 pub dispatched-left : (t : DispatchedTransfer) (space check out : List ℕ) (k count : ℕ)
     → k ≡ min (t .bytes) (length space)
     → take count out ≡ jobAnswerText (t .reply .refusal) (t .reply .action) (take k space) (t .reply .handed)
-    → jobLeft (record { dispatcher = t .reply .dispatcher; count = count }) space check out ≡ dispatchedLeft (answered t space check)
+    → jobLeft (record { dispatcher = t .reply .dispatcher; count = count }) space check out
+    ≡ dispatchedLeft (answered t space check)
 unfolding dispatchedLeft
-dispatched-left t space check out k count e p = rw (p, take-least space (t .bytes) k e)
+dispatched-left t space check out k count e p = rw (p, take-min space (t .bytes) k e)
 
 -- ---- what a call answers is what is left of its line
 
-plain-left : (d : Dispatcher) (call : PlainCall) (space check : List ℕ)
-    → dispatchedLeft (withoutBytes (plainDispatched d call) space check) ≡ sessionLeft d (plainLine call) space check
-unfolding plainDispatched plainLine sessionLeft replyLeft
+pub plain-left : (d : Dispatcher) (call : PlainCall) (space check : List ℕ)
+    → replyLeft (plainDispatched d call) space check ≡ sessionLeft d (plainLine call) space check
+unfolding plainDispatched plainReply plainLine sessionLeft
 plain-left d (Byte b) space check = refl
 plain-left d Taken space check = refl
 plain-left d Broken space check = refl
@@ -38,34 +48,29 @@ plain-left d (Report drive b) space check = refl
 plain-left d Tick space check = refl
 plain-left d Reset space check = refl
 
-pub call-left : (d : Dispatcher) (call : Call) (bytes marks space check : List ℕ)
-    → dispatchedLeft (callDispatched d call bytes marks space check) ≡ sessionLeft d (callRead call bytes marks) space check
-unfolding callDispatched fieldsDispatched callRead sessionLeft
-call-left d (Plain call) bytes marks space check = plain-left d call space check
-call-left d (HostData count) bytes marks space check = refl
-call-left d (Result f) bytes marks space check = refl
+none-given : (n : ℕ) → 0 ≡ min 0 n
+none-given n = omega arith
 
--- what was answered in the start of a space, with no more given than was lent
-pub in-whole : (t : DispatchedTransfer) (part rest check : List ℕ) (k : ℕ) {a : Answer}
-    → k ≡ min (t .bytes) (length part)
-    → answered t part check ≡ a
-    → answered (record { reply = t .reply; bytes = k }) (part ++ rest) check ≡ inWholeSpace a rest
-in-whole t part rest check k e h = rw e (ap (λ (x : Answer). inWholeSpace x rest) h)
+-- an answer in the start of a space is told of the whole space before it is passed on, or after
+whole-passed : (sound : Bool) (queues : Queues) (a : records.Answer) (kept : DispatchedTransfer)
+    (part rest space check : List ℕ)
+    → kept .bytes ≡ 0
+    → part ++ rest ≡ space
+    → pick sound (answerWithQueues queues (wholeSpace a rest)) (answered kept space check)
+    ≡ inWholeSpace (pick sound (answerWithQueues queues a) (answered kept part check)) rest
+unfolding pick
+whole-passed true queues a kept part rest space check none joined = refl
+whole-passed false queues a kept part rest space check none joined = rw (none, ← none-given (length part), joined)
 
--- a result, of which the buffers and the space are cut where they end
-pub fields-cut : (d : Dispatcher) (f : ResultFields) (bytes marks space check : List ℕ) (image-end marks-end end : ℕ)
-    → image-end ≡ min (f .image) (length bytes)
-    → marks-end ≡ min (f .marks) (length marks)
-    → end ≡ min (f .space) (length space)
-    → inWholeSpace
-    (resultCall d (resultOf (f .code) (f .mark) (f .late) (take image-end bytes) (take marks-end marks)) (take end space) check)
-    (drop end space)
-    ≡ fieldsDispatched d f bytes marks space check
-unfolding fieldsDispatched
-fields-cut d f bytes marks space check image-end marks-end end e1 e2 e3 =
-    simp (
-      take-least bytes (f .image) image-end e1,
-      take-least marks (f .marks) marks-end e2,
-      take-least space (f .space) end e3,
-      drop-least space (f .space) end e3,
-    )
+pub lent-left : (d : Dispatcher) (call : LentCall) (bytes marks space check : List ℕ)
+    → lentLeft d call bytes marks space check ≡ sessionLeft d (callRead (callOf call) bytes marks) space check
+unfolding lentDispatched lentAnswer fieldsAnswer passedAnswer callRead sessionLeft
+lent-left d (HostData count) bytes marks space check = refl
+lent-left d (Result f) bytes marks space check =
+    let image = take (f .image) bytes in
+    let result = resultOf (f .code) (f .mark) (f .late) image (take (f .marks) marks) in
+    let part = take (f .space) space in
+    ap dispatchedLeft
+    (whole-passed (areSound (d .queues)) (d .queues) (resultCall (d .controller) result part check)
+    (unchangedTransfer stateDamaged d)
+    part (drop (f .space) space) space check refl (take-append-drop (f .space) space))

@@ -1,6 +1,8 @@
--- The limits of a job line and of the text that is printed for it (document 02, Wish 8), beyond those of the session program.
+-- The limits of a job line and of the text that is printed for it (document 02, request 8), beyond those of the session
+-- program.
 -- Assumes nothing.
 use Prim.Native.Nat.{ℕ, _+_, _*_}
+use Rattle.text.specs.Limits.{recordMost}
 use Rattle.lines.specs.Limits.{imageLimit, replyMost}
 
 -- "operand eight hexadecimal digits"
@@ -8,14 +10,6 @@ abbrev pub operandLength : ℕ
 operandLength = 8
 
 -- ---- the longest texts, which bound what an answer needs of the space
-
--- ten digits hold each number of 32 bits
-abbrev pub decimalMost : ℕ
-decimalMost = 10
-
--- "CC:M:N"
-abbrev pub recordMost : ℕ
-recordMost = 2 + 1 + decimalMost + 1 + decimalMost
 
 -- an answer of the session program that gives no bytes, and the fifth field with its comma
 abbrev pub jobReplyMost : ℕ

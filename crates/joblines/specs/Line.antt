@@ -1,5 +1,6 @@
--- What a line of the jobs program says (document 02, Wish 8): "the session program's lines with the same limits and spaces, and two more,
--- Q,job,address,operand (job decimal 0-255, address two and operand eight hexadecimal digits, letters capital) and H". A line is given without its #0A.
+-- What a line of the jobs program says (document 02, request 8): "the session program's lines with the same limits and
+-- spaces, and two more, Q,job,address,operand (job decimal 0-255, address two and operand eight hexadecimal digits,
+-- letters capital) and H". A line is given without its #0A.
 -- Assumes nothing.
 use Prim.Native.Nat.{ℕ}
 use mathlib.Core.Path.{_≡_}
@@ -9,10 +10,11 @@ use lib.Dec.{leb, eqb}
 use lib.ListN.{length, drop, getD}
 use Rattle.common.specs.Pick.{pick}
 use Rattle.operations.specs.declared.store.Store.{Store}
-use Rattle.lines.specs.Limits.{byteLimit}
-use Rattle.lines.specs.Characters.{comma}
-use Rattle.lines.specs.Digits.{allDigits, isByte, byteOf, bytesOf, isDecimal, decimalOf}
-use Rattle.lines.specs.Line.{Line, unreadable, lineOf, lineRead, fieldOf, afterFields}
+use Rattle.text.specs.Limits.{byteLimit}
+use Rattle.text.specs.Characters.{comma}
+use Rattle.text.specs.Digits.{allDigits, isByte, byteOf, bytesOf, isDecimal, decimalOf}
+use Rattle.text.specs.Fields.{fieldOf, afterFields}
+use Rattle.lines.specs.Line.{Line, unreadable, lineOf, lineRead}
 use Rattle.joblines.specs.Limits.{operandLength}
 use Rattle.joblines.specs.declared.line.JobReading.{JobReading}
 use Rattle.joblines.specs.declared.line.JobReading.the-variants.{Queueing, Handing, SessionLine}
@@ -53,7 +55,9 @@ storeOf address operand =
 -- "job decimal 0-255, address two and operand eight hexadecimal digits"
 unfoldable pub storeLine : List ℕ → List ℕ → List ℕ → JobLine
 storeLine job address operand =
-    pick (isDecimal byteLimit job && (isByte address && isOperand operand)) (queueing (decimalOf job) (storeOf address operand)) (sessionLine unreadable)
+    pick (isDecimal byteLimit job && (isByte address && isOperand operand))
+    (queueing (decimalOf job) (storeOf address operand))
+    (sessionLine unreadable)
 
 -- "Q,job,address,operand", behind its first comma
 unfoldable pub queueLine : List ℕ → JobLine

@@ -1,4 +1,5 @@
--- What the jobs program does with a line: the dispatcher's call that it makes, and the text that it prints (document 02, Wish 8).
+-- What the jobs program does with a line: the dispatcher's call that it makes, and the text that it prints (document
+-- 02, request 8).
 -- Assumes nothing.
 use Prim.Native.Nat.{ℕ, min}
 use mathlib.Core.List.{List, _++_}
@@ -8,13 +9,13 @@ use Rattle.transfers.specs.Data.{hostOf}
 use Rattle.transfers.specs.Results.{resultOf}
 use Rattle.dispatcher.specs.declared.dispatcher.Dispatcher.{Dispatcher}
 use Rattle.dispatcher.specs.declared.dispatcher.Dispatched.{Dispatched}
-use Rattle.dispatcher.specs.Dispatcher.{Answer, byteCall, takenCall, brokenCall, reportCall, dataCall, resultCall, tickCall, resetCall, queueCall, handCall}
+use Rattle.dispatcher.specs.Dispatcher.{Answer, passOn, passedAnswer}
+use Rattle.dispatcher.specs.Dispatcher.{byteCall, takenCall, brokenCall, reportCall, tickCall, resetCall}
+use Rattle.dispatcher.specs.Dispatcher.{dataCall, resultCall, queueCall, handCall}
 use Rattle.lines.specs.Line.{Line, unreadable, byte, taken, broken, report, hostData, result, tick, reset}
-use Rattle.lines.specs.declared.line.Call.{Call}
-use Rattle.lines.specs.declared.line.Call.the-variants.{Plain, HostData, Result}
-use Rattle.lines.specs.declared.line.ResultFields.{ResultFields}
+use Rattle.lines.specs.Play.{plainReply, lentAnswer}
 use Rattle.lines.specs.declared.line.PlainCall.{PlainCall}
-use Rattle.lines.specs.declared.line.PlainCall.the-variants.{Byte, Taken, Broken, Report, Tick, Reset}
+use Rattle.lines.specs.declared.play.LentCall.{LentCall}
 use Rattle.joblines.specs.Line.{JobLine, queueing, handing, sessionLine}
 use Rattle.joblines.specs.Print.{jobAnswerText, jobUnreadableText}
 use Rattle.joblines.specs.declared.play.JobAnswered.{JobAnswered}
@@ -48,10 +49,15 @@ replyLeft reply space check = dispatchedLeft (withoutBytes reply space check)
 
 -- an answer in the start of a space, told of the whole space: what it gives lies in that start
 abbrev pub inWholeSpace : Answer → List ℕ → Answer
-inWholeSpace a rest = record { reply = a .reply; bytes = min (a .bytes) (length (a .space)); space = a .space ++ rest; check = a .check }
+inWholeSpace a rest = record {
+  reply = a .reply;
+  bytes = min (a .bytes) (length (a .space));
+  space = a .space ++ rest;
+  check = a .check;
+}
 
--- the answer to one of "the session program's lines with the same limits and spaces": an unreadable one changes nothing, a data call is lent the whole
--- space and no place of a bad host byte, a result as much as it says
+-- the answer to one of "the session program's lines with the same limits and spaces": an unreadable one changes
+-- nothing, a data call is lent the whole space and no place of a bad host byte, a result as much as it says
 unfoldable pub sessionLeft : Dispatcher → Line → List ℕ → List ℕ → JobLeft
 sessionLeft d unreadable space check = record { dispatcher = d; space = space; check = check; text = jobUnreadableText }
 sessionLeft d (byte b) space check = replyLeft (byteCall d b) space check
@@ -60,7 +66,8 @@ sessionLeft d broken space check = replyLeft (brokenCall d) space check
 sessionLeft d (report drive b) space check = replyLeft (reportCall d drive b) space check
 sessionLeft d (hostData host) space check = dispatchedLeft (dataCall d (hostOf host noPlace) space check)
 sessionLeft d (result code mark late image marks lent) space check =
-    dispatchedLeft (inWholeSpace (resultCall d (resultOf code mark late image marks) (take lent space) check) (drop lent space))
+    dispatchedLeft
+    (inWholeSpace (resultCall d (resultOf code mark late image marks) (take lent space) check) (drop lent space))
 sessionLeft d tick space check = replyLeft (tickCall d) space check
 sessionLeft d reset space check = replyLeft (resetCall d) space check
 
@@ -72,28 +79,24 @@ jobLineLeft d (sessionLine line) space check = sessionLeft d line space check
 
 -- what the code leaves
 abbrev pub jobLeft : JobAnswered → List ℕ → List ℕ → List ℕ → JobLeft
-jobLeft r space check out = record { dispatcher = r .dispatcher; space = space; check = check; text = take (r .count) out }
+jobLeft r space check out = record {
+  dispatcher = r .dispatcher;
+  space = space;
+  check = check;
+  text = take (r .count) out;
+}
 
--- ---- what the code does with a line of the session program's: a call that was read is made, and then its answer is printed
+-- ---- what the code does with a line of the session program's: the call that the session program makes, passed on
 
 -- the reply to a call that is lent nothing
 unfoldable pub plainDispatched : Dispatcher → PlainCall → Dispatched
-plainDispatched d (Byte b) = byteCall d b
-plainDispatched d Taken = takenCall d
-plainDispatched d Broken = brokenCall d
-plainDispatched d (Report drive b) = reportCall d drive b
-plainDispatched d Tick = tickCall d
-plainDispatched d Reset = resetCall d
+plainDispatched d call = passOn d (plainReply (d .controller) call)
 
--- the answer to a result
-unfoldable pub fieldsDispatched : Dispatcher → ResultFields → List ℕ → List ℕ → List ℕ → List ℕ → Answer
-fieldsDispatched d f bytes marks space check =
-    inWholeSpace
-    (resultCall d (resultOf (f .code) (f .mark) (f .late) (take (f .image) bytes) (take (f .marks) marks)) (take (f .space) space) check)
-    (drop (f .space) space)
+-- the answer to a call that is lent space
+unfoldable pub lentDispatched : Dispatcher → LentCall → List ℕ → List ℕ → List ℕ → List ℕ → Answer
+lentDispatched d call bytes marks space check =
+    passedAnswer d (lentAnswer (d .controller) call bytes marks space check) space check
 
--- the answer to a call
-unfoldable pub callDispatched : Dispatcher → Call → List ℕ → List ℕ → List ℕ → List ℕ → Answer
-callDispatched d (Plain call) bytes marks space check = withoutBytes (plainDispatched d call) space check
-callDispatched d (HostData count) bytes marks space check = dataCall d (hostOf (take count bytes) noPlace) space check
-callDispatched d (Result fields) bytes marks space check = fieldsDispatched d fields bytes marks space check
+-- and what is left of it
+abbrev pub lentLeft : Dispatcher → LentCall → List ℕ → List ℕ → List ℕ → List ℕ → JobLeft
+lentLeft d call bytes marks space check = dispatchedLeft (lentDispatched d call bytes marks space check)

@@ -1,26 +1,28 @@
 // What a line says.
 use crate::limits::OPERAND_BYTES;
 use crate::limits::OPERAND_LENGTH;
-use lines::digits::all_digits;
-use lines::digits::byte_of;
-use lines::digits::decimal_of;
-use lines::digits::is_byte;
-use lines::digits::is_decimal;
-use lines::digits::put_bytes_of;
-use lines::limits::BYTE_LIMIT;
 use lines::limits::IMAGE_LIMIT;
 use lines::limits::MARKS_LIMIT;
 use lines::line::Reading;
-use lines::line::after;
-use lines::line::field_of;
 use lines::line::read_line;
 use operations::store::Store;
+use text::digits::all_digits;
+use text::digits::byte_of;
+use text::digits::decimal_of;
+use text::digits::is_byte;
+use text::digits::is_decimal;
+use text::digits::put_bytes_of;
+use text::fields::after;
+use text::fields::field_of;
+use text::limits::BYTE_LIMIT;
 ghost use mathlib.Core.Path.{_≡_};
 ghost use mathlib.Core.Bool.{true};
-ghost use Rattle.lines.specs.Digits.{isByte};
-ghost use Rattle.joblines.specs.Line.{isOperand, storeOf, storeLine, queueLine, isHand, isQueue, jobLineOf, jobLineRead, JobReadAs};
+ghost use Rattle.text.specs.Digits.{isByte};
+ghost use Rattle.joblines.specs.Line.{isOperand, storeOf, storeLine, queueLine, isHand, isQueue};
+ghost use Rattle.joblines.specs.Line.{jobLineOf, jobLineRead, JobReadAs};
 
-// A line that was read: a job queues a store, the next store is handed over, or it is one of the session program's lines, readable or not.
+// A line that was read: a job queues a store, the next store is handed over, or it is one of the session program's
+// lines, readable or not.
 pub enum JobReading {
     Queueing(u8, Store),
     Handing,

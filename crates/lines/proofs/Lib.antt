@@ -1,5 +1,4 @@
-pub mod DigitLaws
-pub mod FieldLaws
+pub mod LineLaws
 pub mod TextLaws
 pub mod PlayLaws
 pub mod WrongAnswers

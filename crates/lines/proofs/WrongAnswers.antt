@@ -1,5 +1,5 @@
--- For the function that reads a line and for the one that answers it, two wrong answers that its contract does not allow. The contract is
--- `Post`, as the toolchain reads it.
+-- For the function that reads a line and for the one that answers it, two wrong answers that its contract does not
+-- allow. The contract is `Post`, as the toolchain reads it.
 -- Assumes nothing.
 use mathlib.Core.Path.{_≡_, refl, sym, ap, ap₂, _∙_}
 use mathlib.Core.Bool.{Bool, true, false, false≢true}
@@ -19,11 +19,15 @@ use Rattle.link.specs.Damaged.{soundDrive, soundDrives, soundBody, soundPart, s
 use Rattle.controller.specs.declared.controller.Controller.{Controller}
 use Rattle.controller.specs.Controller.{fresh}
 use Rattle.controller.specs.Machine.{byteIn, byteCall}
-use Rattle.lines.specs.Characters.{comma, byteLetter, reportLetter, noneSign, byteSign}
-use Rattle.lines.specs.Digits.{digitValue, isDigit, allDigits, byteValue, isByte, byteOf, decimalFrom, decimalOf, isDecimal}
+use Rattle.text.specs.Characters.{comma, noneSign}
+use Rattle.lines.specs.Characters.{byteLetter, reportLetter, byteSign}
+use Rattle.text.specs.Digits.{digitValue, isDigit, allDigits, byteValue, isByte, byteOf, decimalFrom, decimalOf}
+use Rattle.text.specs.Digits.{isDecimal}
 use Rattle.lines.specs.Line.{Line, unreadable, byte, taken, broken, report, hostData, result, tick, reset}
-use Rattle.lines.specs.Line.{partOf, afterField, byteLine, reportLine, callLine, lineOf, plainLine, callRead, lineRead}
-use Rattle.lines.specs.Print.{digitOf, refusalText, actionLetter, headText, answerText}
+use Rattle.text.specs.Fields.{partOf, afterField}
+use Rattle.lines.specs.Line.{byteLine, reportLine, callLine, lineOf, plainLine, callRead, lineRead}
+use Rattle.text.specs.Print.{digitOf, decimalText}
+use Rattle.lines.specs.Print.{actionLetter, headText, answerText}
 use Rattle.lines.specs.Play.{Left, replyLeft, lineLeft}
 use Rattle.lines.specs.declared.line.Reading.{Reading}
 use Rattle.lines.specs.declared.line.Reading.the-variants.{Readable}
@@ -51,9 +55,11 @@ module _
     (line bytes marks : RefT (List ℕ))
     (r : Reading)
     (bytes′ marks′ : List ℕ)
-    (allowed : read-reads.Post κs (line, (bytes, (marks, tt))) r (line, (at-last bytes bytes′, (at-last marks marks′, tt)))) where
+    (allowed : read-reads.Post κs (line, (bytes, (marks, tt))) r
+    (line, (at-last bytes bytes′, (at-last marks marks′, tt)))) where
   -- small letters are read: B,6a
-  pub read-line-reads-small-letters : now line ≡ byteLetter ∷ comma ∷ 54 ∷ 97 ∷ [] → (b : ℕ) → r ≡ Readable (Plain (Byte b)) → ⊥
+  pub read-line-reads-small-letters : now line ≡ byteLetter ∷ comma ∷ 54 ∷ 97 ∷ [] → (b : ℕ)
+      → r ≡ Readable (Plain (Byte b)) → ⊥
   unfolding lineRead callRead plainLine lineOf callLine byteLine isByte allDigits isDigit digitValue pick
   read-line-reads-small-letters says b e =
       false≢true (ap isUnreadable (sym (ap (λ (x : Reading). lineRead x bytes′ marks′) e) ∙ allowed ∙ ap lineOf says))
@@ -63,7 +69,8 @@ module _
       → (drive value : ℕ)
       → r ≡ Readable (Plain (Report drive value))
       → ⊥
-  unfolding lineRead callRead plainLine lineOf callLine reportLine partOf afterField isDecimal decimalOf decimalFrom isByte allDigits isDigit digitValue pick
+  unfolding lineRead callRead plainLine lineOf callLine reportLine partOf afterField isDecimal decimalOf decimalFrom
+      isByte allDigits isDigit digitValue pick
   read-line-reads-drive-256 says drive value e =
       false≢true (ap isUnreadable (sym (ap (λ (x : Reading). lineRead x bytes′ marks′) e) ∙ allowed ∙ ap lineOf says))
 
@@ -76,13 +83,22 @@ module _
     (r : Answered)
     (bytes′ marks′ space′ check′ out′ : List ℕ)
     (allowed : answer-reads.Post κs (c, (line, (bytes, (marks, (space, (check, (out, tt)))))))
-    r
-    (c, (line, (at-last bytes bytes′, (at-last marks marks′, (at-last space space′, (at-last check check′, (at-last out out′, tt)))))))) where
+    r (
+      c,
+      (
+        line,
+        (
+          at-last bytes bytes′,
+          (at-last marks marks′, (at-last space space′, (at-last check check′, (at-last out out′, tt)))),
+        ),
+      ),
+    )) where
   -- an unreadable line changes the state
   pub answer-line-unreadable-changes-the-state : lineOf (now line) ≡ unreadable → (r .controller ≡ c → ⊥) → ⊥
   unfolding lineLeft
   answer-line-unreadable-changes-the-state says wrong =
-      wrong (ap (λ (l : Left). l .controller) (allowed .1) ∙ ap (λ (l : Line). lineLeft c l (now space) (now check) .controller) says)
+      wrong (ap (λ (l : Left). l .controller) (allowed .1)
+      ∙ ap (λ (l : Line). lineLeft c l (now space) (now check) .controller) says)
 
   -- the first byte of a load, B,62, is answered by NACK: 0,A,15,
   pub answer-line-nack-to-a-load : c ≡ fresh
@@ -92,9 +108,10 @@ module _
   unfolding lineLeft replyLeft lineOf callLine byteLine byteOf byteValue isByte allDigits isDigit digitValue
       fresh startBody freshDrives isSound soundBody soundDrives soundDrive noOutcome soundPhase soundPart
       byteCall byteIn collectByte firstByte
-      answerText headText refusalText digitOf actionLetter pick
+      answerText headText decimalText digitOf actionLetter pick
   answer-line-nack-to-a-load begins says wrong =
       let right : take (r .count) out′ ≡ answerText 0 Nothing [] =
-      ap (λ (l : Left). l .text) (allowed .1) ∙ ap₂ (λ (x : Controller) (l : List ℕ). lineLeft x (lineOf l) (now space) (now check) .text) begins says
+      ap (λ (l : Left). l .text) (allowed .1)
+      ∙ ap₂ (λ (x : Controller) (l : List ℕ). lineLeft x (lineOf l) (now space) (now check) .text) begins says
       in
       eqb-false noneSign byteSign refl (ap (λ (l : List ℕ). getD l 2 0) (sym right ∙ wrong))

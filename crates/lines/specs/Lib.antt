@@ -1,6 +1,5 @@
 pub mod Limits
 pub mod Characters
-pub mod Digits
 pub mod Line
 pub mod Print
 pub mod Play

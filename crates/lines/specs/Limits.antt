@@ -1,6 +1,6 @@
--- The limits of a line and of the text that is printed for it (document 01, Loads, restorer, session): "Host bytes and space go to 16,384, an
--- image to 16,898 bytes, marks to 66; beyond that a line is unreadable." They are the session program's own, and do not follow the most
--- bytes of a record.
+-- The limits of a line and of the text that is printed for it (document 01, Loads, restorer, session): "Host bytes and
+-- space go to 16,384, an image to 16,898 bytes, marks to 66; beyond that a line is unreadable." They are the session
+-- program's own, and do not follow the most bytes of a record.
 -- Assumes nothing.
 use Prim.Native.Nat.{ℕ, _+_, _*_}
 
@@ -16,17 +16,9 @@ imageLimit = 16898
 abbrev pub marksLimit : ℕ
 marksLimit = 66
 
--- "Drive, late (both 0-255)"
-abbrev pub byteLimit : ℕ
-byteLimit = 255
-
 -- "mark (0 or 1)"
 abbrev pub flagLimit : ℕ
 flagLimit = 1
-
--- Above every limit of a field: where the code stops counting.
-abbrev pub fieldCap : ℕ
-fieldCap = 4294967296
 
 -- ---- the longest texts, which bound what an answer needs of the space
 

@@ -1,16 +1,20 @@
--- What a line of the session says (document 01, Loads, restorer, session): "The session program reads lines B,byte; T; X (broken);
--- S,drive,byte; D,host; R,code,mark,late,image,marks,space; K; Z (reset)". A line is given without its #0A.
+-- What a line of the session says (document 01, Loads, restorer, session): "The session program reads lines B,byte; T;
+-- X (broken); S,drive,byte; D,host; R,code,mark,late,image,marks,space; K; Z (reset)". A line is given without its #0A.
 -- Assumes nothing.
-use Prim.Native.Nat.{ℕ, zero, suc, _+_}
+use Prim.Native.Nat.{ℕ}
 use mathlib.Core.Path.{_≡_}
 use mathlib.Core.Bool.{Bool, _&&_}
-use mathlib.Core.List.{List, [], _∷_}
+use mathlib.Core.List.{List}
 use lib.Dec.{ltb, eqb}
 use lib.ListN.{length, take, drop, getD}
 use Rattle.common.specs.Pick.{pick}
-use Rattle.lines.specs.Limits.{hostLimit, imageLimit, marksLimit, byteLimit, flagLimit}
-use Rattle.lines.specs.Characters.{comma, byteLetter, takenLetter, brokenLetter, reportLetter, dataLetter, resultLetter, tickLetter, resetLetter}
-use Rattle.lines.specs.Digits.{isByte, byteOf, isBytes, bytesOf, isDecimal, decimalOf}
+use Rattle.text.specs.Limits.{byteLimit}
+use Rattle.text.specs.Characters.{comma}
+use Rattle.text.specs.Digits.{isByte, byteOf, isBytes, bytesOf, isDecimal, decimalOf}
+use Rattle.text.specs.Fields.{fieldOf, afterField, afterFields}
+use Rattle.lines.specs.Limits.{hostLimit, imageLimit, marksLimit, flagLimit}
+use Rattle.lines.specs.Characters.{byteLetter, takenLetter, brokenLetter, reportLetter}
+use Rattle.lines.specs.Characters.{dataLetter, resultLetter, tickLetter, resetLetter}
 use Rattle.lines.specs.declared.line.Reading.{Reading}
 use Rattle.lines.specs.declared.line.Reading.the-variants.{Unreadable, Readable}
 use Rattle.lines.specs.declared.line.Call.{Call}
@@ -30,45 +34,14 @@ pub data Line : Type 0 where
   tick : Line
   reset : Line
 
--- ---- fields, with a comma between
-
--- what stands before the first sign of a kind, or all
-unfoldable pub partOf : ℕ → List ℕ → List ℕ
-partOf sign [] = []
-partOf sign (b ∷ s) = pick (eqb b sign) [] (b ∷ partOf sign s)
-
--- the place of that sign, or the end
-abbrev pub partEnd : ℕ → List ℕ → ℕ
-partEnd sign s = length (partOf sign s)
-
--- the first field
-abbrev pub fieldOf : List ℕ → List ℕ
-fieldOf s = partOf comma s
-
--- the place of its comma, or the end
-abbrev pub fieldEnd : List ℕ → ℕ
-fieldEnd s = length (fieldOf s)
-
--- what comes after so many bytes and a comma
-abbrev pub after : List ℕ → ℕ → List ℕ
-after s count = drop (count + 1) s
-
--- what comes after a field and its comma
-unfoldable pub afterField : List ℕ → List ℕ
-afterField s = after s (fieldEnd s)
-
--- what comes after so many fields
-unfoldable pub afterFields : ℕ → List ℕ → List ℕ
-afterFields zero s = s
-afterFields (suc k) s = afterField (afterFields k s)
-
 -- ---- the lines
 
 -- "T; X (broken); .. K; Z (reset)"
 unfoldable pub bareLine : ℕ → Line
 bareLine letter =
     pick (eqb letter takenLetter) taken
-    (pick (eqb letter brokenLetter) broken (pick (eqb letter tickLetter) tick (pick (eqb letter resetLetter) reset unreadable)))
+    (pick (eqb letter brokenLetter) broken
+    (pick (eqb letter tickLetter) tick (pick (eqb letter resetLetter) reset unreadable)))
 
 -- "B,byte"
 unfoldable pub byteLine : List ℕ → Line
@@ -77,26 +50,31 @@ byteLine s = pick (isByte s) (byte (byteOf s)) unreadable
 -- "S,drive,byte": "Drive .. 0-255"
 unfoldable pub reportLine : List ℕ → Line
 reportLine s =
-    pick (isDecimal byteLimit (fieldOf s) && isByte (afterField s)) (report (decimalOf (fieldOf s)) (byteOf (afterField s))) unreadable
+    pick (isDecimal byteLimit (fieldOf s) && isByte (afterField s))
+    (report (decimalOf (fieldOf s)) (byteOf (afterField s)))
+    unreadable
 
 -- "D,host": "Host bytes and space go to 16,384"
 unfoldable pub dataLine : List ℕ → Line
 dataLine s = pick (isBytes hostLimit s) (hostData (bytesOf s)) unreadable
 
--- "Drive, late (both 0-255), mark (0 or 1) and space are decimal. Host bytes and space go to 16,384, an image to 16,898 bytes, marks to 66"
+-- "Drive, late (both 0-255), mark (0 or 1) and space are decimal. Host bytes and space go to 16,384, an image to 16,898
+-- bytes, marks to 66"
 unfoldable pub fieldsLine : List ℕ → List ℕ → List ℕ → List ℕ → List ℕ → List ℕ → Line
 fieldsLine code mark late image marks space =
     pick
     (isByte code
     && (isDecimal flagLimit mark
-    && (isDecimal byteLimit late && (isBytes imageLimit image && (isBytes marksLimit marks && isDecimal hostLimit space)))))
+    && (isDecimal byteLimit late
+    && (isBytes imageLimit image && (isBytes marksLimit marks && isDecimal hostLimit space)))))
     (result (byteOf code) (eqb (decimalOf mark) 1) (decimalOf late) (bytesOf image) (bytesOf marks) (decimalOf space))
     unreadable
 
 -- "R,code,mark,late,image,marks,space"
 unfoldable pub resultLine : List ℕ → Line
 resultLine s =
-    fieldsLine (fieldOf s) (fieldOf (afterFields 1 s)) (fieldOf (afterFields 2 s)) (fieldOf (afterFields 3 s)) (fieldOf (afterFields 4 s)) (afterFields 5 s)
+    fieldsLine (fieldOf s) (fieldOf (afterFields 1 s)) (fieldOf (afterFields 2 s))
+    (fieldOf (afterFields 3 s)) (fieldOf (afterFields 4 s)) (afterFields 5 s)
 
 -- a letter and a comma, and what comes after them
 unfoldable pub callLine : ℕ → List ℕ → Line

@@ -1,4 +1,5 @@
--- What the session does with a line: the call that it makes, and the text that it prints (document 01, Loads, restorer, session).
+-- What the session does with a line: the call that it makes, and the text that it prints (document 01, Loads, restorer,
+-- session).
 -- Assumes nothing.
 use Prim.Native.Nat.{ℕ, min}
 use mathlib.Core.List.{List, [], _++_}
@@ -9,14 +10,15 @@ use Rattle.controller.specs.declared.controller.Reply.{Reply}
 use Rattle.controller.specs.Records.{Answer}
 use Rattle.records.specs.Place.{noPlace}
 use Rattle.transfers.specs.Data.{hostOf}
-use Rattle.controller.specs.Machine.{byteCall, takenCall, brokenCall, reportCall, dataCall, resultCall, tickCall, resetCall}
+use Rattle.controller.specs.Machine.{byteCall, takenCall, brokenCall, reportCall, tickCall, resetCall}
+use Rattle.controller.specs.Machine.{dataCall, resultCall}
 use Rattle.lines.specs.Line.{Line, unreadable, byte, taken, broken, report, hostData, result, tick, reset}
-use Rattle.lines.specs.Print.{answerText, unreadableText}
-use Rattle.lines.specs.declared.line.Call.{Call}
-use Rattle.lines.specs.declared.line.Call.the-variants.{Plain, HostData, Result}
+use Rattle.lines.specs.Print.{replyText, answerText, unreadableText}
 use Rattle.lines.specs.declared.line.ResultFields.{ResultFields}
 use Rattle.lines.specs.declared.line.PlainCall.{PlainCall}
 use Rattle.lines.specs.declared.line.PlainCall.the-variants.{Byte, Taken, Broken, Report, Tick, Reset}
+use Rattle.lines.specs.declared.play.LentCall.{LentCall}
+use Rattle.lines.specs.declared.play.LentCall.the-variants.{HostData, Result}
 use Rattle.lines.specs.declared.play.Answered.{Answered}
 
 -- ---- what is left of a line
@@ -30,7 +32,12 @@ pub record Left : Type 0 where
 
 -- a call that gives no bytes
 unfoldable pub replyLeft : Reply → List ℕ → List ℕ → Left
-replyLeft r space check = record { controller = r .controller; space = space; check = check; text = answerText (r .refusal) (r .action) [] }
+replyLeft r space check = record {
+  controller = r .controller;
+  space = space;
+  check = check;
+  text = replyText (r .refusal) (r .action);
+}
 
 -- a data call or a result: "bytes delivered or image"
 unfoldable pub transferLeft : Answer → Left
@@ -45,8 +52,8 @@ transferLeft a = record {
 unfoldable pub withRest : Left → List ℕ → Left
 withRest l rest = record { controller = l .controller; space = l .space ++ rest; check = l .check; text = l .text }
 
--- a line's answer. "An unreadable line prints ?,-,, and changes nothing." A data call is lent the whole space, a result as much as it says. Of a place
--- for a bad host byte: "The session program hands in none." (document 02, Wish 6)
+-- a line's answer. "An unreadable line prints ?,-,, and changes nothing." A data call is lent the whole space, a result
+-- as much as it says. Of a place for a bad host byte: "The session program hands in none." (document 02, request 6)
 unfoldable pub lineLeft : Controller → Line → List ℕ → List ℕ → Left
 lineLeft c unreadable space check = record { controller = c; space = space; check = check; text = unreadableText }
 lineLeft c (byte b) space check = replyLeft (byteCall c b) space check
@@ -55,7 +62,9 @@ lineLeft c broken space check = replyLeft (brokenCall c) space check
 lineLeft c (report drive b) space check = replyLeft (reportCall c drive b) space check
 lineLeft c (hostData host) space check = transferLeft (dataCall c (hostOf host noPlace) space check)
 lineLeft c (result code mark late image marks lent) space check =
-    withRest (transferLeft (resultCall c (resultOf code mark late image marks) (take lent space) check)) (drop lent space)
+    withRest
+    (transferLeft (resultCall c (resultOf code mark late image marks) (take lent space) check))
+    (drop lent space)
 lineLeft c tick space check = replyLeft (tickCall c) space check
 lineLeft c reset space check = replyLeft (resetCall c) space check
 
@@ -76,17 +85,29 @@ plainReply c Reset = resetCall c
 
 -- an answer in the start of a space, told of the whole space: what it gives lies in that start
 abbrev pub inWholeSpace : Answer → List ℕ → Answer
-inWholeSpace a rest = record { reply = a .reply; bytes = min (a .bytes) (length (a .space)); space = a .space ++ rest; check = a .check }
+inWholeSpace a rest = record {
+  reply = a .reply;
+  bytes = min (a .bytes) (length (a .space));
+  space = a .space ++ rest;
+  check = a .check;
+}
 
 -- the answer to a result
 unfoldable pub fieldsAnswer : Controller → ResultFields → List ℕ → List ℕ → List ℕ → List ℕ → Answer
 fieldsAnswer c f bytes marks space check =
     inWholeSpace
-    (resultCall c (resultOf (f .code) (f .mark) (f .late) (take (f .image) bytes) (take (f .marks) marks)) (take (f .space) space) check)
+    (resultCall c (resultOf (f .code) (f .mark) (f .late) (take (f .image) bytes) (take (f .marks) marks))
+    (take (f .space) space) check)
     (drop (f .space) space)
 
--- the answer to a call
-unfoldable pub callAnswer : Controller → Call → List ℕ → List ℕ → List ℕ → List ℕ → Answer
-callAnswer c (Plain call) bytes marks space check = record { reply = plainReply c call; bytes = 0; space = space; check = check }
-callAnswer c (HostData count) bytes marks space check = dataCall c (hostOf (take count bytes) noPlace) space check
-callAnswer c (Result fields) bytes marks space check = fieldsAnswer c fields bytes marks space check
+-- the answer to a call that is lent space
+unfoldable pub lentAnswer : Controller → LentCall → List ℕ → List ℕ → List ℕ → List ℕ → Answer
+lentAnswer c (HostData count) bytes marks space check = dataCall c (hostOf (take count bytes) noPlace) space check
+lentAnswer c (Result fields) bytes marks space check = fieldsAnswer c fields bytes marks space check
+
+-- and what is left of either
+abbrev pub plainLeft : Controller → PlainCall → List ℕ → List ℕ → Left
+plainLeft c call space check = replyLeft (plainReply c call) space check
+
+abbrev pub lentLeft : Controller → LentCall → List ℕ → List ℕ → List ℕ → List ℕ → Left
+lentLeft c call bytes marks space check = transferLeft (lentAnswer c call bytes marks space check)

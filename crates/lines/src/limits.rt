@@ -1,6 +1,6 @@
-// The limits of a line and of the text that is printed for it. Document 01: "Host bytes and space go to 16,384, an image to 16,898 bytes,
-// marks to 66; beyond that a line is unreadable. The program's image space is 16,898 bytes". They are the session program's own, and do
-// not follow the most bytes of a record.
+// The limits of a line and of the text that is printed for it. Document 01: "Host bytes and space go to 16,384, an
+// image to 16,898 bytes, marks to 66; beyond that a line is unreadable. The program's image space is 16,898 bytes".
+// They are the session program's own, and do not follow the most bytes of a record.
 
 // The most host bytes of a data line, and the most space that a result is lent.
 pub const HOST_LIMIT: usize = 16384;
@@ -17,14 +17,8 @@ pub const IMAGE_LIMIT: usize = 2 + HOST_LIMIT + CHECK_STORE;
 // A mark for each blockette of such an image.
 pub const MARKS_LIMIT: usize = HOST_LIMIT / BLOCKETTE + 2;
 
-// A drive and late flags are one byte each: "Drive, late (both 0-255)".
-pub const BYTE_LIMIT: usize = 255;
-
 // "mark (0 or 1)"
 pub const FLAG_LIMIT: usize = 1;
-
-// Above every limit of a field, so that a number which is longer can stay here, and small enough that ten times as much does not wrap.
-pub const FIELD_CAP: usize = 4294967296;
 
 // The longest text of an action's bytes: six bytes of two digits.
 const ACTION_MOST: usize = 2 * 6;

@@ -1,21 +1,20 @@
 // What a line says.
-use crate::digits::byte_of;
-use crate::digits::decimal_of;
-use crate::digits::is_byte;
-use crate::digits::is_bytes;
-use crate::digits::is_decimal;
-use crate::digits::put_bytes_of;
-use crate::limits::BYTE_LIMIT;
 use crate::limits::FLAG_LIMIT;
 use crate::limits::HOST_LIMIT;
 use crate::limits::IMAGE_LIMIT;
 use crate::limits::MARKS_LIMIT;
+use text::digits::byte_of;
+use text::digits::decimal_of;
+use text::digits::is_byte;
+use text::digits::is_bytes;
+use text::digits::is_decimal;
+use text::digits::put_bytes_of;
+use text::fields::after;
+use text::fields::field_of;
+use text::limits::BYTE_LIMIT;
 ghost use mathlib.Core.Path.{_≡_};
-ghost use Prim.Native.Nat.{_≤_};
-ghost use lib.ListN.{length};
-ghost use Rattle.lines.specs.Line.{partOf, partEnd, fieldOf, after};
-ghost use Rattle.lines.specs.Line.{bareLine, byteLine, reportLine, dataLine, fieldsLine, resultLine, callLine, lineOf};
-ghost use Rattle.lines.specs.Line.{lineRead, ReadAs, ReadWith};
+ghost use Rattle.lines.specs.Line.{bareLine, byteLine, reportLine, dataLine, fieldsLine, resultLine, callLine};
+ghost use Rattle.lines.specs.Line.{lineOf, lineRead, ReadAs, ReadWith};
 
 // A call that is lent nothing.
 pub enum PlainCall {
@@ -48,48 +47,6 @@ pub enum Call {
 pub enum Reading {
     Unreadable,
     Readable(Call),
-}
-
-// The place of the first sign of a kind, or the end.
-fn part_end(sign: u8, s: &[u8]) -> usize
-    ensures { λ r. ⌜ r ≡ partEnd sign (now (s .entry)) ⌝ }
-{
-    let end = s.len();
-    let mut at = 0;
-    while at < end {
-        if s[at] == sign {
-            return at;
-        }
-        at += 1;
-    }
-    end
-}
-
-// What stands before it.
-pub fn part_of(sign: u8, s: &[u8]) -> &[u8]
-    ensures { λ r. ⌜ now r ≡ partOf sign (now (s .entry)) ⌝ }
-{
-    let end = part_end(sign, s);
-    &s[..end]
-}
-
-// The first field.
-pub fn field_of(s: &[u8]) -> &[u8]
-    ensures { λ r. ⌜ now r ≡ fieldOf (now (s .entry)) ⌝ }
-{
-    part_of(b',', s)
-}
-
-// What comes after a field of so many bytes and its comma.
-pub fn after(s: &[u8], count: usize) -> &[u8]
-    requires { ⌜ count ≤ length (now s) ⌝ }
-    ensures { λ r. ⌜ now r ≡ after (now (s .entry)) count ⌝ }
-{
-    if count == s.len() {
-        return &s[count..];
-    }
-    let start = count + 1;
-    &s[start..]
 }
 
 // A line of one letter.
@@ -155,7 +112,8 @@ fn read_fields(
     marks: &mut [u8; MARKS_LIMIT],
 ) -> Reading
     ensures { λ r. ⌜ lineRead r (now (bytes .exit)) (now (marks .exit))
-        ≡ fieldsLine (now (code .entry)) (now (mark .entry)) (now (late .entry)) (now (image .entry)) (now (errors .entry)) (now (space .entry)) ⌝ }
+        ≡ fieldsLine (now (code .entry)) (now (mark .entry)) (now (late .entry))
+        (now (image .entry)) (now (errors .entry)) (now (space .entry)) ⌝ }
 {
     let is_code = is_byte(code);
     let is_mark = is_decimal(FLAG_LIMIT, mark);

@@ -1,1 +1,3 @@
+pub mod FrameLaws
 pub mod SoundLaws
+pub mod PhaseLaws

@@ -1,22 +1,26 @@
--- A damaged state (document 01, Turned back): "1 a field out of range (track, gap, selected drive, motion 0-3; density 0-1; code 0-31; noes so
--- far 0-4; secondary 0-65,535; a held count 0-16,384; a held operation one of the eleven; a string's lead #62 or #64, its bytes fewer than
--- its length, or all once ACK is offered; all else may have any value)". Document 02, Wish 1: "a held operation is one of the twelve", by its type;
--- and so is a held count 0-65,535 (document 02, Wishes 3 and 10), the two operand bytes of a store.
+-- A damaged state (document 01, Turned back): "1 a field out of range (track, gap, selected drive, motion 0-3; density
+-- 0-1; code 0-31; noes so far 0-4; secondary 0-65,535; a held count 0-16,384; a held operation one of the eleven; a
+-- string's lead #62 or #64, its bytes fewer than its length, or all once ACK is offered; all else may have any value)".
+-- Document 02, request 1: "a held operation is one of the twelve", by its type; and so is a held count 0-65,535
+-- (document 02, requests 3 and 10), the two operand bytes of a store.
 -- Assumes nothing.
 use mathlib.Core.Bool.{Bool, true, _&&_, _||_}
 use lib.Dec.{leb, ltb, eqb}
 use Rattle.status.specs.declared.drives.Drive.{Drive}
 use Rattle.status.specs.declared.drives.Drives.{Drives}
+use Rattle.status.specs.Drives.{lastDrive, lastTrack, gapLost, gcr}
+use Rattle.status.specs.Words.{lastMotion, lastCode, countLimit}
 use Rattle.link.specs.declared.state.Collected.{Collected}
 use Rattle.link.specs.declared.state.Phase.{Phase}
-use Rattle.link.specs.declared.state.Phase.the-variants.{Collecting, AckOffered, Sending, GoOffered, DataAwaited, ResultAwaited, EndOffered}
+use Rattle.link.specs.declared.state.Phase.the-variants.{Collecting, AckOffered, Sending, GoOffered, DataAwaited}
+use Rattle.link.specs.declared.state.Phase.the-variants.{ResultAwaited, EndOffered}
 use Rattle.link.specs.declared.state.Body.{Body}
 use Rattle.link.specs.Bytes.{loadLead, storeLead, mostNoes}
 use Rattle.link.specs.Link.{wholeLength}
 
 -- "track, gap .. 0-3; density 0-1"
 unfoldable pub soundDrive : Drive → Bool
-soundDrive d = leb (d .track) 3 && (leb (d .gap) 3 && leb (d .density) 1)
+soundDrive d = leb (d .track) lastTrack && (leb (d .gap) gapLost && leb (d .density) gcr)
 
 -- of all four
 unfoldable pub soundDrives : Drives → Bool
@@ -25,7 +29,10 @@ soundDrives d = soundDrive (d .d0) && (soundDrive (d .d1) && (soundDrive (d .d2)
 -- "selected drive, motion 0-3; .. code 0-31; .. secondary 0-65,535"
 unfoldable pub soundBody : Body → Bool
 soundBody b =
-    soundDrives (b .drives) && (leb (b .selected) 3 && (leb (b .outcome .result .motion) 3 && (leb (b .outcome .result .code) 31 && leb (b .outcome .result .count) 65535)))
+    let result = b .outcome .result in
+    soundDrives (b .drives)
+    && (leb (b .selected) lastDrive
+    && (leb (result .motion) lastMotion && (leb (result .code) lastCode && leb (result .count) countLimit)))
 
 -- "a string's lead #62 or #64"
 unfoldable pub soundLead : Collected → Bool

@@ -1,4 +1,5 @@
 pub mod Bytes
+pub mod Frames
 pub mod State
 pub mod Completion
 pub mod Link

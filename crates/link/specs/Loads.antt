@@ -8,7 +8,7 @@ use Rattle.status.specs.Words.{secondaryWord, reportsWord}
 use Rattle.link.specs.declared.state.Kind.the-variants.{Load}
 use Rattle.link.specs.declared.state.Body.{Body}
 use Rattle.link.specs.declared.state.Action.the-variants.{Nothing}
-use Rattle.link.specs.declared.state.Turn.{Turn}
+use Rattle.link.specs.declared.state.Transition.{Transition}
 use Rattle.link.specs.Bytes.{loadReply, deviceId}
 use Rattle.link.specs.State.{idle}
 use Rattle.link.specs.Completion.{primaryNow, sendWord}
@@ -22,7 +22,8 @@ loadWord b operation =
     (pick (eqb operation 3) (b .tertiary) (pick (eqb operation 4) (reportsWord (b .drives)) (b .quintary)))))
 
 -- "6, 7 no reply, review. After a reply, review.", which comes when the reply's send ends
-unfoldable pub carryOutLoad : Body → ℕ → Turn
+unfoldable pub carryOutLoad : Body → ℕ → Transition
 carryOutLoad b address =
     let operation = address / 16 % 8 in
-    pick (eqb operation 6) (idle b Nothing) (pick (eqb operation 7) (idle b Nothing) (sendWord b Load loadReply (loadWord b operation)))
+    pick (eqb operation 6) (idle b Nothing)
+    (pick (eqb operation 7) (idle b Nothing) (sendWord b Load loadReply (loadWord b operation)))

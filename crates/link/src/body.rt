@@ -4,7 +4,7 @@ use crate::state::Body;
 use crate::state::Collected;
 use crate::state::Handed;
 use crate::state::Phase;
-use crate::state::Turn;
+use crate::state::Transition;
 use crate::state::nothing_collected;
 use status::drives::Drive;
 use status::drives::Drives;
@@ -17,7 +17,8 @@ use status::drives::with_report;
 use status::words::no_outcome;
 use status::words::zero_word;
 ghost use mathlib.Core.Path.{_≡_};
-ghost use Rattle.link.specs.State.{withFlags, withCurrentDrive, noteReport, review, startBody, resetState, keepCollecting, idle};
+ghost use Rattle.link.specs.State.{withFlags, withCurrentDrive, noteReport, review, startBody, resetState};
+ghost use Rattle.link.specs.State.{keepPhase, keepCollecting, idle};
 
 // Another record for the selected drive.
 pub fn with_current_drive(mut b: Body, drive: Drive) -> Body
@@ -79,13 +80,13 @@ pub fn start_body(drives: Drives) -> Body
 }
 
 // Reset, then collecting.
-pub fn reset_state(b: Body) -> Turn
+pub fn reset_state(b: Body) -> Transition
     ensures { λ r. ⌜ r ≡ resetState b ⌝ }
 {
     let drives = b.drives;
     let body = start_body(reset_drives(drives));
     let string = nothing_collected();
-    Turn {
+    Transition {
         body,
         phase: Phase::Collecting(string),
         action: Action::Nothing,
@@ -93,25 +94,32 @@ pub fn reset_state(b: Body) -> Turn
     }
 }
 
-// Collecting, with this much of a string, and no action.
-pub fn keep_collecting(b: Body, s: Collected) -> Turn
-    ensures { λ r. ⌜ r ≡ keepCollecting b s ⌝ }
+// The phase stays, and there is no action.
+pub fn keep_phase(b: Body, phase: Phase) -> Transition
+    ensures { λ r. ⌜ r ≡ keepPhase b phase ⌝ }
 {
-    Turn {
+    Transition {
         body: b,
-        phase: Phase::Collecting(s),
+        phase,
         action: Action::Nothing,
         handed: Handed::NoneHanded,
     }
 }
 
+// Collecting, with this much of a string, and no action.
+pub fn keep_collecting(b: Body, s: Collected) -> Transition
+    ensures { λ r. ⌜ r ≡ keepCollecting b s ⌝ }
+{
+    keep_phase(b, Phase::Collecting(s))
+}
+
 // Review, then collecting, with nothing collected.
-pub fn idle(b: Body, action: Action) -> Turn
+pub fn idle(b: Body, action: Action) -> Transition
     ensures { λ r. ⌜ r ≡ idle b action ⌝ }
 {
     let reviewed = review(b);
     let string = nothing_collected();
-    Turn {
+    Transition {
         body: reviewed,
         phase: Phase::Collecting(string),
         action,

@@ -1,6 +1,7 @@
 // Collecting: the bytes of a string from the host, and a tick while nothing is collected.
 use crate::body::idle;
 use crate::body::keep_collecting;
+use crate::body::keep_phase;
 use crate::body::review;
 use crate::bytes::ACK;
 use crate::bytes::INTERRUPT;
@@ -17,12 +18,13 @@ use crate::state::Collected;
 use crate::state::Handed;
 use crate::state::Kind;
 use crate::state::Phase;
-use crate::state::Turn;
+use crate::state::Transition;
 use crate::state::nothing_collected;
 ghost use mathlib.Core.Path.{_≡_};
 ghost use Prim.Native.Nat.{_<_};
 ghost use Rattle.link.specs.Bytes.{storeLength};
-ghost use Rattle.link.specs.Link.{wholeLength, appendByte, loadXor, isGoodString, firstByte, lastByte, nextByte, collectByte, tickAfterReview, idleTick};
+ghost use Rattle.link.specs.Link.{wholeLength, appendByte, loadXor, isGoodString, firstByte, lastByte, nextByte};
+ghost use Rattle.link.specs.Link.{collectByte, tickAfterReview, idleTick};
 
 // How many bytes a string with this lead has.
 pub fn whole_length(lead: u8) -> u8
@@ -72,7 +74,7 @@ fn is_good_string(s: Collected) -> bool
 }
 
 // The first byte of a string, or one that begins none.
-fn first_byte(b: Body, s: Collected, byte: u8) -> Turn
+fn first_byte(b: Body, s: Collected, byte: u8) -> Transition
     ensures { λ r. ⌜ r ≡ firstByte b s byte ⌝ }
 {
     let starts = (byte == LOAD_LEAD) | (byte == STORE_LEAD);
@@ -87,12 +89,12 @@ fn first_byte(b: Body, s: Collected, byte: u8) -> Turn
 }
 
 // A whole string: ACK is offered, or NACK answers.
-fn last_byte(b: Body, s: Collected) -> Turn
+fn last_byte(b: Body, s: Collected) -> Transition
     ensures { λ r. ⌜ r ≡ lastByte b s ⌝ }
 {
     let good = is_good_string(s);
     if good {
-        return Turn {
+        return Transition {
             body: b,
             phase: Phase::AckOffered(s),
             action: Action::Byte(ACK),
@@ -103,7 +105,7 @@ fn last_byte(b: Body, s: Collected) -> Turn
 }
 
 // A further byte of a string.
-fn next_byte(b: Body, s: Collected, byte: u8) -> Turn
+fn next_byte(b: Body, s: Collected, byte: u8) -> Transition
     requires { ⌜ s .length < storeLength ⌝ }
     ensures { λ r. ⌜ r ≡ nextByte b s byte ⌝ }
 {
@@ -117,7 +119,7 @@ fn next_byte(b: Body, s: Collected, byte: u8) -> Turn
 }
 
 // A byte while collecting: the first of a string, or a further one.
-pub fn collect_byte(b: Body, s: Collected, byte: u8) -> Turn
+pub fn collect_byte(b: Body, s: Collected, byte: u8) -> Transition
     requires { ⌜ s .length < storeLength ⌝ }
     ensures { λ r. ⌜ r ≡ collectByte b s byte ⌝ }
 {
@@ -129,21 +131,22 @@ pub fn collect_byte(b: Body, s: Collected, byte: u8) -> Turn
 }
 
 // A tick while nothing is collected, after the review.
-fn tick_after_review(b: Body, s: Collected) -> Turn
-    ensures { λ r. ⌜ r ≡ tickAfterReview b s ⌝ }
+fn tick_after_review(b: Body, phase: Phase) -> Transition
+    ensures { λ r. ⌜ r ≡ tickAfterReview b phase ⌝ }
 {
     let asked = b.changed & b.enable;
     if asked {
-        let word = primary_now(b);
+        let held = b;
+        let word = primary_now(held);
         return send_word(b, Kind::Change, INTERRUPT, word);
     }
-    keep_collecting(b, s)
+    keep_phase(b, phase)
 }
 
 // A tick while nothing is collected.
-pub fn idle_tick(b: Body, s: Collected) -> Turn
-    ensures { λ r. ⌜ r ≡ idleTick b s ⌝ }
+pub fn idle_tick(b: Body, phase: Phase) -> Transition
+    ensures { λ r. ⌜ r ≡ idleTick b phase ⌝ }
 {
     let reviewed = review(b);
-    tick_after_review(reviewed, s)
+    tick_after_review(reviewed, phase)
 }

@@ -4,15 +4,15 @@ use crate::body::review;
 use crate::body::with_flags;
 use crate::bytes::INTERRUPT;
 use crate::bytes::SECONDARY_UPDATE;
+use crate::frames::string_of;
 use crate::state::Action;
 use crate::state::Body;
 use crate::state::Handed;
 use crate::state::Kind;
 use crate::state::Phase;
 use crate::state::Send;
-use crate::state::Turn;
+use crate::state::Transition;
 use status::drives::drive_of;
-use status::strings::string_of;
 use status::words::Word;
 use status::words::primary_of;
 use status::words::secondary_word;
@@ -29,7 +29,7 @@ pub fn primary_now(b: Body) -> Word
 }
 
 // A status word is sent.
-pub fn send_word(b: Body, kind: Kind, lead: u8, word: Word) -> Turn
+pub fn send_word(b: Body, kind: Kind, lead: u8, word: Word) -> Transition
     ensures { λ r. ⌜ r ≡ sendWord b kind lead word ⌝ }
 {
     let bytes = string_of(lead, word);
@@ -38,7 +38,7 @@ pub fn send_word(b: Body, kind: Kind, lead: u8, word: Word) -> Turn
         bytes,
         noes: 0,
     };
-    Turn {
+    Transition {
         body: b,
         phase: Phase::Sending(send),
         action: Action::Text(bytes),
@@ -47,7 +47,7 @@ pub fn send_word(b: Body, kind: Kind, lead: u8, word: Word) -> Turn
 }
 
 // The interrupt that ends a store: secondary goes first where it is valid, else primary at once.
-fn send_interrupt(b: Body) -> Turn
+fn send_interrupt(b: Body) -> Transition
     ensures { λ r. ⌜ r ≡ sendInterrupt b ⌝ }
 {
     let counted = b.outcome.counted;
@@ -60,7 +60,7 @@ fn send_interrupt(b: Body) -> Turn
 }
 
 // The end of a store.
-pub fn complete(b: Body, asked: bool) -> Turn
+pub fn complete(b: Body, asked: bool) -> Transition
     ensures { λ r. ⌜ r ≡ complete b asked ⌝ }
 {
     if asked {

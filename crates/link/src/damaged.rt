@@ -8,13 +8,21 @@ use crate::state::Collected;
 use crate::state::Phase;
 use status::drives::Drive;
 use status::drives::Drives;
+use status::drives::GAP_LOST;
+use status::drives::GCR;
+use status::drives::LAST_DRIVE;
+use status::drives::LAST_TRACK;
+use status::words::COUNT_LIMIT;
+use status::words::LAST_CODE;
+use status::words::LAST_MOTION;
 ghost use mathlib.Core.Path.{_≡_};
-ghost use Rattle.link.specs.Damaged.{soundDrive, soundDrives, soundBody, soundLead, soundPart, soundString, soundPhase, isSound};
+ghost use Rattle.link.specs.Damaged.{soundDrive, soundDrives, soundBody, soundLead, soundPart, soundString};
+ghost use Rattle.link.specs.Damaged.{soundPhase, isSound};
 
 fn sound_drive(d: Drive) -> bool
     ensures { λ r. ⌜ r ≡ soundDrive d ⌝ }
 {
-    (d.track <= 3) & ((d.gap <= 3) & (d.density <= 1))
+    (d.track <= LAST_TRACK) & ((d.gap <= GAP_LOST) & (d.density <= GCR))
 }
 
 fn sound_drives(d: Drives) -> bool
@@ -27,9 +35,9 @@ fn sound_body(b: Body) -> bool
     ensures { λ r. ⌜ r ≡ soundBody b ⌝ }
 {
     sound_drives(b.drives)
-        & ((b.selected <= 3)
-            & ((b.outcome.result.motion <= 3)
-                & ((b.outcome.result.code <= 31) & (b.outcome.result.count <= 65535))))
+        & ((b.selected <= LAST_DRIVE)
+            & ((b.outcome.result.motion <= LAST_MOTION)
+                & ((b.outcome.result.code <= LAST_CODE) & (b.outcome.result.count <= COUNT_LIMIT))))
 }
 
 // A string begins with the lead of a load or of a store.

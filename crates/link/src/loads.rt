@@ -7,7 +7,7 @@ use crate::completion::send_word;
 use crate::state::Action;
 use crate::state::Body;
 use crate::state::Kind;
-use crate::state::Turn;
+use crate::state::Transition;
 use status::words::Word;
 use status::words::reports_word;
 use status::words::secondary_word;
@@ -20,7 +20,10 @@ fn load_word(b: Body, operation: u8) -> Word
 {
     match operation {
         0 => DEVICE_ID,
-        1 => primary_now(b),
+        1 => {
+            let held = b;
+            primary_now(held)
+        }
         2 => secondary_word(b.outcome.result.count),
         3 => b.tertiary,
         4 => reports_word(b.drives),
@@ -29,7 +32,7 @@ fn load_word(b: Body, operation: u8) -> Word
 }
 
 // A load is carried out: its word is sent, or there is no reply.
-pub fn carry_out_load(b: Body, address: u8) -> Turn
+pub fn carry_out_load(b: Body, address: u8) -> Transition
     ensures { λ r. ⌜ r ≡ carryOutLoad b address ⌝ }
 {
     let operation = address / 16 % 8;

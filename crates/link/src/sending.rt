@@ -12,26 +12,29 @@ use crate::state::Handed;
 use crate::state::Kind;
 use crate::state::Phase;
 use crate::state::Send;
-use crate::state::Turn;
+use crate::state::Transition;
 ghost use mathlib.Core.Path.{_≡_};
 ghost use Prim.Native.Nat.{_≤_};
 ghost use Rattle.link.specs.Bytes.{mostNoes};
 ghost use Rattle.link.specs.Link.{yesToSend, giveUp, noToSend, answerToSend};
 
 // A sent string is accepted.
-fn yes_to_send(b: Body, kind: Kind) -> Turn
+fn yes_to_send(b: Body, kind: Kind) -> Transition
     ensures { λ r. ⌜ r ≡ yesToSend b kind ⌝ }
 {
     match kind {
         Kind::Load => idle(b, Action::Nothing),
-        Kind::Secondary => send_word(b, Kind::Completion, INTERRUPT, primary_now(b)),
+        Kind::Secondary => {
+            let held = b;
+            send_word(b, Kind::Completion, INTERRUPT, primary_now(held))
+        }
         Kind::Completion => idle(with_flags(b, false, b.enable), Action::Nothing),
         Kind::Change => idle(with_flags(b, false, false), Action::Nothing),
     }
 }
 
 // A send is given up: changed stays, and the interrupt of a change clears enable.
-pub fn give_up(b: Body, kind: Kind) -> Turn
+pub fn give_up(b: Body, kind: Kind) -> Transition
     ensures { λ r. ⌜ r ≡ giveUp b kind ⌝ }
 {
     match kind {
@@ -43,7 +46,7 @@ pub fn give_up(b: Body, kind: Kind) -> Turn
 }
 
 // A sent string is answered by a no: the same bytes go again, or the send is given up after the fifth.
-fn no_to_send(b: Body, send: Send) -> Turn
+fn no_to_send(b: Body, send: Send) -> Transition
     requires { ⌜ send .noes ≤ mostNoes ⌝ }
     ensures { λ r. ⌜ r ≡ noToSend b send ⌝ }
 {
@@ -58,7 +61,7 @@ fn no_to_send(b: Body, send: Send) -> Turn
         bytes,
         noes: send.noes + 1,
     };
-    Turn {
+    Transition {
         body: b,
         phase: Phase::Sending(again),
         action: Action::Text(bytes),
@@ -67,7 +70,7 @@ fn no_to_send(b: Body, send: Send) -> Turn
 }
 
 // A byte that answers a sent string.
-pub fn answer_to_send(b: Body, byte: u8, send: Send) -> Turn
+pub fn answer_to_send(b: Body, byte: u8, send: Send) -> Transition
     requires { ⌜ send .noes ≤ mostNoes ⌝ }
     ensures { λ r. ⌜ r ≡ answerToSend b byte send ⌝ }
 {

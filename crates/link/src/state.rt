@@ -1,8 +1,8 @@
 // The parts of the state, and what a step leaves.
+use crate::frames::Frame;
 use operations::operation::Operation;
 use operations::store::Store;
 use status::drives::Drives;
-use status::strings::Six;
 use status::words::Outcome;
 use status::words::ResultRecord;
 use status::words::Word;
@@ -52,8 +52,8 @@ pub fn store_of(s: Collected) -> Store
     }
 }
 
-// What is sent: a load's reply, the secondary update before an interrupt, the interrupt that ends a store, or the interrupt of a
-// drive that changed.
+// What is sent: a load's reply, the secondary update before an interrupt, the interrupt that ends a store, or the
+// interrupt of a drive that changed.
 pub enum Kind {
     Load,
     Secondary,
@@ -64,7 +64,7 @@ pub enum Kind {
 // A string on its way to the host. The bytes are kept, since they go again after a no.
 pub struct Send {
     pub kind: Kind,
-    pub bytes: Six,
+    pub bytes: Frame,
     pub noes: u8,
 }
 
@@ -101,8 +101,8 @@ pub struct Body {
 pub enum Action {
     Nothing,
     Byte(u8),
-    Text(Six),
-    Order(Six),
+    Text(Frame),
+    Order(Frame),
 }
 
 // What a step hands back of a store: nothing, or the record of one whose code it settled.
@@ -111,8 +111,9 @@ pub enum Handed {
     OneHanded(ResultRecord),
 }
 
-// What a step that is carried out leaves: the body, the phase, what it has the controller do, and what it hands back of a store.
-pub struct Turn {
+// What a step that is carried out leaves: the body, the phase, what it has the controller do, and what it hands back of
+// a store.
+pub struct Transition {
     pub body: Body,
     pub phase: Phase,
     pub action: Action,

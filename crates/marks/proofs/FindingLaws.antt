@@ -1,4 +1,5 @@
--- What the scan tells of an error says by its kind whether there is one: the kind is 0 exactly where the place is the end.
+-- What the scan tells of an error says by its kind whether there is one: the kind is 0 exactly where the place is the
+-- end.
 -- Assumes nothing.
 use mathlib.Core.Path.{_≡_, refl}
 use Prim.Native.Nat.{ℕ, _-_}
@@ -17,7 +18,8 @@ unfolding kindOf
 kind-there after = pick-by (λ (kind : ℕ). not (eqb kind 0) ≡ true) (leb 2 after) (λ of-data. refl) (λ of-check. refl)
 
 -- one of two defects, of which the first is there and the second is none
-told-by : (test : Bool) (some none : Defect) → isFound some ≡ true → isFound none ≡ false → isFound (pick test some none) ≡ test
+told-by : (test : Bool) (some none : Defect) → isFound some ≡ true → isFound none ≡ false
+    → isFound (pick test some none) ≡ test
 unfolding pick
 told-by true some none there absent = there
 told-by false some none there absent = absent

@@ -1,5 +1,5 @@
--- What the scan finds: in marks with at most one error of each parity it reaches the end and finds each error, by induction over
--- the marks that are left with what is known of the places found so far.
+-- What the scan finds: in marks with at most one error of each parity it reaches the end and finds each error, by
+-- induction over the marks that are left with what is known of the places found so far.
 -- Assumes nothing.
 use Prim.Native.Nat.{ℕ, zero, suc, _≤_, _<_, _-_, _%_}
 use native.Mathlib.Decide.{ℕ-discrete}
@@ -50,7 +50,8 @@ module _ (marks : List ℕ) (parity : ℕ) where
 
   module _ (at place : ℕ) (f : Found marks parity at place) where
     -- what is no error of the parity changes nothing
-    found-still : (isError (getD marks at 0) ≡ true → (length marks - 1 - at) % 2 ≡ parity → ⊥) → Found marks parity (suc at) place
+    found-still : (isError (getD marks at 0) ≡ true → (length marks - 1 - at) % 2 ≡ parity → ⊥)
+        → Found marks parity (suc at) place
     found-still none =
         record {
           before = λ h. omega (arith, f .before h);
@@ -59,7 +60,8 @@ module _ (marks : List ℕ) (parity : ℕ) where
           only = λ j h. below-more (IsOnly marks parity place) at (f .only) (λ e p. absurd (none e p)) j (omega arith);
         }
 
-    module _ (below : at < length marks) (e : isError (getD marks at 0) ≡ true) (p : (length marks - 1 - at) % 2 ≡ parity) where
+    module _ (below : at < length marks) (e : isError (getD marks at 0) ≡ true)
+        (p : (length marks - 1 - at) % 2 ≡ parity) where
       -- the first error of the parity is found
       found-here : length marks ≤ place → Found marks parity (suc at) at
       found-here none =
@@ -69,12 +71,14 @@ module _ (marks : List ℕ) (parity : ℕ) where
             of-parity = λ h. p;
             only =
                 λ j h.
-                below-more (IsOnly marks parity at) at (λ k l ek pk. absurd (omega (arith, f .only k l ek pk))) (λ ek pk. refl) j (omega arith);
+                below-more (IsOnly marks parity at) at (λ k l ek pk. absurd (omega (arith, f .only k l ek pk)))
+                (λ ek pk. refl) j (omega arith);
           }
 
       -- there is no second
       found-twice : Once marks → place < length marks → ⊥
-      found-twice once one = omega (arith, f .before one, once place at one below (f .error one) e (f .of-parity one ∙ sym p))
+      found-twice once one =
+          omega (arith, f .before one, once place at one below (f .error one) e (f .of-parity one ∙ sym p))
 
     -- at the end
     found-end : length marks ≤ at → Found marks parity (length marks) place
@@ -87,7 +91,9 @@ Done marks r = (r .stop ≡ length marks) × Found marks 1 (length marks) (r .od
 
 -- a scan of the marks that are left, from what is found before the place `at`, comes to such an end
 abbrev Ends : List ℕ → List ℕ → ℕ → Type 0
-Ends marks rest at = (odd even : ℕ) → Found marks 1 at odd → Found marks 0 at even → Done marks (scanFrom rest at (length marks) odd even)
+Ends marks rest at =
+    (odd even : ℕ) → Found marks 1 at odd → Found marks 0 at even
+    → Done marks (scanFrom rest at (length marks) odd even)
 
 module _ (marks : List ℕ) (at mark : ℕ) (rest : List ℕ) (left : drop at marks ≡ mark ∷ rest) where
   -- the first of the marks that are left
@@ -116,27 +122,37 @@ module _ (marks : List ℕ) (at mark : ℕ) (rest : List ℕ) (left : drop at ma
   next-even h = omega (arith, next-after, eqb-false (length rest % 2) 1 h)
 
   -- what the scan does at it
-  module _ (once : Once marks) (go : Ends marks rest (suc at)) (odd even : ℕ) (o : Found marks 1 at odd) (e : Found marks 0 at even) where
+  module _ (once : Once marks) (go : Ends marks rest (suc at)) (odd even : ℕ) (o : Found marks 1 at odd)
+      (e : Found marks 0 at even) where
     turn-good : isError mark ≡ false → Done marks (scanFrom rest (suc at) (length marks) odd even)
     turn-good good =
         let none = next-good good in
-        go odd even (found-still marks 1 at odd o (λ bad _. none bad)) (found-still marks 0 at even e (λ bad _. none bad))
+        go odd even (found-still marks 1 at odd o (λ bad _. none bad))
+        (found-still marks 0 at even e (λ bad _. none bad))
 
-    turn-odd : isError mark ≡ true → eqb (length rest % 2) 1 ≡ true → Done marks (pick (ltb odd (length marks)) (record { odd = odd; even = even; stop = at }) (scanFrom rest (suc at) (length marks) at even))
+    turn-odd : isError mark ≡ true → eqb (length rest % 2) 1 ≡ true
+        → Done marks
+        (pick (ltb odd (length marks)) (record { odd = odd; even = even; stop = at })
+        (scanFrom rest (suc at) (length marks) at even))
     turn-odd bad is-odd =
         let b = next-error bad in
         let p = next-odd is-odd in
         pick-by (Done marks) (ltb odd (length marks))
         (λ h. absurd (found-twice marks 1 at odd o next-below b p once (ltb-true odd (length marks) h)))
-        (λ h. go at even (found-here marks 1 at odd o next-below b p (ltb-false odd (length marks) h)) (found-still marks 0 at even e (λ _ q. omega arith)))
+        (λ h. go at even (found-here marks 1 at odd o next-below b p (ltb-false odd (length marks) h))
+        (found-still marks 0 at even e (λ _ q. omega arith)))
 
-    turn-even : isError mark ≡ true → eqb (length rest % 2) 1 ≡ false → Done marks (pick (ltb even (length marks)) (record { odd = odd; even = even; stop = at }) (scanFrom rest (suc at) (length marks) odd at))
+    turn-even : isError mark ≡ true → eqb (length rest % 2) 1 ≡ false
+        → Done marks
+        (pick (ltb even (length marks)) (record { odd = odd; even = even; stop = at })
+        (scanFrom rest (suc at) (length marks) odd at))
     turn-even bad is-even =
         let b = next-error bad in
         let p = next-even is-even in
         pick-by (Done marks) (ltb even (length marks))
         (λ h. absurd (found-twice marks 0 at even e next-below b p once (ltb-true even (length marks) h)))
-        (λ h. go odd at (found-still marks 1 at odd o (λ _ q. omega arith)) (found-here marks 0 at even e next-below b p (ltb-false even (length marks) h)))
+        (λ h. go odd at (found-still marks 1 at odd o (λ _ q. omega arith))
+        (found-here marks 0 at even e next-below b p (ltb-false even (length marks) h)))
 
 ends : (marks : List ℕ) → Once marks → (rest : List ℕ) (at : ℕ) → drop at marks ≡ rest → Ends marks rest at
 unfolding scanFrom
@@ -146,7 +162,8 @@ ends marks once [] at left odd even o e =
 ends marks once (mark ∷ rest) at left odd even o e =
     let go = ends marks once rest (suc at) (next-rest marks at mark rest left) in
     pick-by (Done marks) (isError mark)
-    (λ bad. pick-by (Done marks) (eqb (length rest % 2) 1) (turn-odd marks at mark rest left once go odd even o e bad) (turn-even marks at mark rest left once go odd even o e bad))
+    (λ bad. pick-by (Done marks) (eqb (length rest % 2) 1) (turn-odd marks at mark rest left once go odd even o e bad)
+    (turn-even marks at mark rest left once go odd even o e bad))
     (turn-good marks at mark rest left once go odd even o e)
 
 pub scanned-once : (marks : List ℕ) → Once marks → ScannedOnce marks
@@ -164,19 +181,22 @@ unfolding isError
 good-mark mark none = elim (ℕ-discrete mark 15) [ yes e ↦ e | no other ↦ absurd (none (ap not (ne-eqb mark 15 other))) ]
 
 -- so is a place of the parity of an error that is found, if it is another
-pub beside-good : (marks : List ℕ) (parity place : ℕ) → Found marks parity (length marks) place → place < length marks → (j : ℕ) → j < length marks
+pub beside-good : (marks : List ℕ) (parity place : ℕ) → Found marks parity (length marks) place → place < length marks
+    → (j : ℕ) → j < length marks
     → (length marks - 1 - j) % 2 ≡ (length marks - 1 - place) % 2 → (j ≡ place → ⊥) → getD marks j 0 ≡ 15
 beside-good marks parity place found some j below same other =
     good-mark (getD marks j 0) (λ error. other (sym (found .only j below error (same ∙ found .of-parity some))))
 
 -- and one that the scan has not found
-pub not-found-good : (marks : List ℕ) → ScannedOnce marks → (j : ℕ) → j < length marks → (j ≡ scanMarks marks .odd → ⊥) → (j ≡ scanMarks marks .even → ⊥)
+pub not-found-good : (marks : List ℕ) → ScannedOnce marks → (j : ℕ) → j < length marks → (j ≡ scanMarks marks .odd → ⊥)
+    → (j ≡ scanMarks marks .even → ⊥)
     → getD marks j 0 ≡ 15
 not-found-good marks once j below not-odd not-even =
     good-mark (getD marks j 0)
     (λ error. elim (ℕ-discrete ((length marks - 1 - j) % 2) 1) [
       | yes odd ↦ not-odd (sym (once .odd .only j below error odd))
-      | no other ↦ let even : (length marks - 1 - j) % 2 ≡ 0 = omega arith in not-even (sym (once .even .only j below error even))
+      | no other ↦ let even : (length marks - 1 - j) % 2
+          ≡ 0 = omega arith in not-even (sym (once .even .only j below error even))
     ])
 
 -- marks that are all good are legal

@@ -24,18 +24,20 @@ legalMarks (mark ∷ marks) = legalMark mark && legalMarks marks
 unfoldable pub isError : ℕ → Bool
 isError mark = not (eqb mark good)
 
--- "at most one odd and one even": two errors of one parity are the same. A number has the parity of how many blockettes follow.
+-- "at most one odd and one even": two errors of one parity are the same. A number has the parity of how many blockettes
+-- follow.
 abbrev pub Once : List ℕ → Type 0
 Once marks =
-    (i j : ℕ) → i < length marks → j < length marks → isError (getD marks i 0) ≡ true → isError (getD marks j 0) ≡ true →
+    (i j : ℕ) → i < length marks → j < length marks →
+    isError (getD marks i 0) ≡ true → isError (getD marks j 0) ≡ true →
     (length marks - 1 - i) % 2 ≡ (length marks - 1 - j) % 2 → i ≡ j
 
 -- ".. mark 0", which no blockette comes with
 abbrev pub torn : ℕ
 torn = 0
 
--- the marks where the first blockette is torn: "The first blockette counts as a data error with mark 0, whichever legal mark came for it"
--- (document 02, Wish 1)
+-- the marks where the first blockette is torn: "The first blockette counts as a data error with mark 0, whichever legal
+-- mark came for it" (document 02, request 1)
 unfoldable pub tornMarks : List ℕ → List ℕ
 tornMarks [] = []
 tornMarks (mark ∷ marks) = torn ∷ marks

@@ -1,6 +1,7 @@
--- The scan of the marks (document 01, Records). A place counts in tape order from 0; the end is the number of marks and stands
--- for "none". Behind a place stand `after` others: data blockettes are numbered n-1 down to 0 and the check blockettes 1 and 0
--- follow them, so `after` has the parity of the number, is the number of a check blockette, and is 2 above that of data.
+-- The scan of the marks (document 01, Records). A place counts in tape order from 0; the end is the number of marks and
+-- stands for "none". Behind a place stand `after` others: data blockettes are numbered n-1 down to 0 and the check
+-- blockettes 1 and 0 follow them, so `after` has the parity of the number, is the number of a check blockette, and is 2
+-- above that of data.
 -- Assumes nothing.
 use Prim.Native.Nat.{ℕ, suc, _-_, _%_}
 use mathlib.Core.Bool.{Bool, not, _&&_}
@@ -13,9 +14,9 @@ use Rattle.marks.specs.declared.Scan.{Scan}
 use Rattle.marks.specs.declared.Defect.{Defect}
 use Rattle.marks.specs.declared.Findings.{Findings}
 
--- "the scan stops at the first blockette that is the second bad one of its parity"; "an error's parity is its number's, check
--- blockettes included". The marks that are left, the place of the first of them, the end, and the first odd and the first even
--- error so far.
+-- "the scan stops at the first blockette that is the second bad one of its parity"; "an error's parity is its number's,
+-- check blockettes included". The marks that are left, the place of the first of them, the end, and the first odd and
+-- the first even error so far.
 unfoldable pub scanFrom : List ℕ → ℕ → ℕ → ℕ → ℕ → Scan
 scanFrom [] at end odd even = record { odd = odd; even = even; stop = end }
 scanFrom (mark ∷ marks) at end odd even =
@@ -48,15 +49,19 @@ numberOf after = pick (leb 2 after) ((after - 2) % 256) after
 unfoldable pub defectAt : List ℕ → ℕ → Defect
 defectAt marks place =
     pick (ltb place (length marks))
-    (record { mark = getD marks place 0; kind = kindOf (length marks - 1 - place); number = numberOf (length marks - 1 - place) })
+    (record {
+      mark = getD marks place 0;
+      kind = kindOf (length marks - 1 - place);
+      number = numberOf (length marks - 1 - place);
+    })
     (record { mark = 0; kind = 0; number = 0 })
 
 -- an error that is there has a kind: "zero where none"
 unfoldable pub isFound : Defect → Bool
 isFound defect = not (eqb (defect .kind) 0)
 
--- what is told of the marks: "first odd error's mark and kind .., its number, then the same for even; .. of the stopping one", and how many
--- blockettes are "before the stop"
+-- what is told of the marks: "first odd error's mark and kind .., its number, then the same for even; .. of the
+-- stopping one", and how many blockettes are "before the stop"
 unfoldable pub findingsOf : List ℕ → Findings
 findingsOf marks =
     record {
@@ -70,6 +75,6 @@ findingsOf marks =
 abbrev pub findingsTorn : List ℕ → Findings
 findingsTorn marks = findingsOf (tornMarks marks)
 
--- "only check blockettes are bad" (document 02, Wish 2): no error that the scan found is a data blockette's
+-- "only check blockettes are bad" (document 02, request 2): no error that the scan found is a data blockette's
 unfoldable pub checksAlone : Findings → Bool
 checksAlone found = not (eqb (found .odd .kind) dataKind) && not (eqb (found .even .kind) dataKind)

@@ -1,5 +1,5 @@
 // The marks of a GCR record: their test, the scan for errors, and what is told of an error.
-use common::give;
+use common::overwrite;
 ghost use mathlib.Core.Path.{_≡_};
 ghost use Prim.Native.Nat.{_≤_};
 ghost use lib.ListN.{length};
@@ -18,24 +18,26 @@ const CHECK_KIND: u8 = 2;
 const TORN: u8 = 0;
 
 // The most marks: a blockette's number is one byte, and two check blockettes follow the others.
-pub const MOST_MARKS: usize = 258;
+const MOST_MARKS: usize = 258;
 
-// The places of the first odd error, of the first even one, and where the scan stopped; the number of marks where there is none.
+// The places of the first odd error, of the first even one, and where the scan stopped; the number of marks where there
+// is none.
 pub struct Scan {
     pub odd: usize,
     pub even: usize,
     pub stop: usize,
 }
 
-// What is told of an error: its mark, its kind (1 data, 2 check) and its blockette's number. All are 0 where there is none.
+// What is told of an error: its mark, its kind (1 data, 2 check) and its blockette's number. All are 0 where there is
+// none.
 pub struct Defect {
     pub mark: u8,
     pub kind: u8,
     pub number: u8,
 }
 
-// What the scan finds: what is told of the first odd error, of the first even one and of the one where it stopped; and the place where
-// it stopped, the number of marks where it did not.
+// What the scan finds: what is told of the first odd error, of the first even one and of the one where it stopped; and
+// the place where it stopped, the number of marks where it did not.
 pub struct Findings {
     pub odd: Defect,
     pub even: Defect,
@@ -57,19 +59,18 @@ pub fn is_error(mark: u8) -> bool
     mark != GOOD
 }
 
-// Whether every mark is.
+// Whether every mark is. All are looked at, since a loop without a way out takes many in a step.
 pub fn legal_marks(marks: &[u8]) -> bool
     ensures { λ r. ⌜ r ≡ legalMarks (now (marks .entry)) ⌝ }
 {
     let end = marks.len();
+    let mut legal = true;
     let mut at = 0;
     while at < end {
-        if !legal_mark(marks[at]) {
-            return false;
-        }
+        legal = legal & legal_mark(marks[at]);
         at += 1;
     }
-    true
+    legal
 }
 
 // Goes over the marks in tape order, to the second error of one parity or to the end.
@@ -104,7 +105,7 @@ pub fn scan_marks(marks: &[u8]) -> Scan
 }
 
 // What is told of the blockette at a place.
-pub fn defect_at(marks: &[u8], place: usize) -> Defect
+fn defect_at(marks: &[u8], place: usize) -> Defect
     ensures { λ r. ⌜ r ≡ defectAt (now (marks .entry)) place ⌝ }
 {
     let end = marks.len();
@@ -161,7 +162,7 @@ fn put_torn_marks(marks: &[u8], space: &mut [u8])
     requires { ⌜ length (now space) ≡ length (now marks) ⌝ }
     ensures { λ _. ⌜ now (space .exit) ≡ tornMarks (now (marks .entry)) ⌝ }
 {
-    give(marks, space);
+    overwrite(marks, space);
     if 0 < marks.len() {
         space[0] = TORN;
     }

@@ -8,7 +8,8 @@ use Rattle.common.proofs.PickLaws.{pick-by}
 use Rattle.status.specs.Drives.{mfm}
 use Rattle.operations.specs.declared.operation.Operation.{Operation}
 use Rattle.operations.specs.declared.decode.Decoded.{Decoded}
-use Rattle.operations.specs.declared.decode.Decoded.the-variants.{Reset, Code, Track, Enable, Guard, Density, Operate}
+use Rattle.operations.specs.declared.decode.Decoded.the-variants.{Reset, Code, Track, Enable, Guard, Density}
+use Rattle.operations.specs.declared.decode.Decoded.the-variants.{Operate}
 use Rattle.operations.specs.Codes.{illegalStore}
 use Rattle.operations.specs.Operation.{suppliesCount}
 use Rattle.operations.specs.Decode.{inDensity}
@@ -40,7 +41,8 @@ operates (Density chosen) = false
 
 -- an operation that is left was asked for
 pub asked-operation :
-    (density : ℕ) (asked : Decoded) (operation : Operation) → inDensity density asked ≡ Operate operation → asked ≡ Operate operation
+    (density : ℕ) (asked : Decoded) (operation : Operation) → inDensity density asked ≡ Operate operation
+    → asked ≡ Operate operation
 asked-operation density asked operation =
     by-density (λ (x : Decoded). x ≡ Operate operation → asked ≡ Operate operation) density asked (λ same. same)
     (λ other is ends. absurd (false≢true (ap operates ends)))

@@ -1,6 +1,7 @@
--- The codes that a result may report (document 01, Records): "The .. answers, .. operations by 32 codes, stand in one table: 0 never, 1
--- reported and no retry, 2 reported with retry. Code 0 is 1; others in the list are 2." Document 02, Wish 1: "The table grows to 384 answers"; Wish 2: "The table's entries
--- follow, and it stays the single place for reported codes."
+-- The codes that a result may report (document 01, Records): "The .. answers, .. operations by 32 codes, stand in one
+-- table: 0 never, 1 reported and no retry, 2 reported with retry. Code 0 is 1; others in the list are 2." Document 02,
+-- request 1: "The table grows to 384 answers"; request 2: "The table's entries follow, and it stays the single place
+-- for reported codes."
 -- Assumes nothing.
 use Prim.Native.Nat.{ℕ}
 use mathlib.Core.Bool.{Bool, false, _||_}
@@ -8,7 +9,10 @@ use mathlib.Core.List.{List, [], _∷_}
 use lib.Dec.{eqb}
 use Rattle.common.specs.Pick.{pick}
 use Rattle.operations.specs.declared.operation.Operation.{Operation}
-use Rattle.operations.specs.declared.operation.Operation.the-variants.{Read, CheckBytes, SuppliedCount, Write, Erase, Rewind, FastForward, SkipForward, SkipReverse, SearchForward, SearchReverse, WriteMark}
+use Rattle.operations.specs.declared.operation.Operation.the-variants.{Read, CheckBytes, SuppliedCount, Write}
+use Rattle.operations.specs.declared.operation.Operation.the-variants.{Erase, Rewind, FastForward, SkipForward}
+use Rattle.operations.specs.declared.operation.Operation.the-variants.{SkipReverse, SearchForward, SearchReverse}
+use Rattle.operations.specs.declared.operation.Operation.the-variants.{WriteMark}
 
 -- "read, skip and search forward 7 8 9 A C D E F 10 11 12 13 17"
 unfoldable pub forwardCodes : List ℕ

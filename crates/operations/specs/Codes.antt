@@ -1,5 +1,5 @@
--- The codes that the controller itself gives (document 01, Stores; Records); the others come with a result. Their names are those of source
--- document 001.
+-- The codes that the controller itself gives (document 01, Stores; Records); the others come with a result. Their names
+-- are those of source document 001.
 -- Assumes nothing.
 use Prim.Native.Nat.{ℕ}
 
@@ -27,7 +27,7 @@ noGo = 0x05
 abbrev pub offline : ℕ
 offline = 0x07
 
--- "A supplied count of 0 .. ends as 13" (document 02, Wish 1)
+-- "A supplied count of 0 .. ends as 13" (document 02, request 1)
 abbrev pub blocketteNumberWrong : ℕ
 blocketteNumberWrong = 0x13
 

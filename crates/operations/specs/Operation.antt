@@ -1,20 +1,26 @@
--- The operations (document 01, Stores; document 02, Wish 1).
+-- The operations (document 01, Stores; document 02, request 1).
 -- Assumes nothing.
 use Prim.Native.Nat.{ℕ}
 use mathlib.Core.Bool.{Bool, true, false, _||_}
 use lib.Dec.{eqb}
 use Rattle.operations.specs.declared.operation.Operation.{Operation}
-use Rattle.operations.specs.declared.operation.Operation.the-variants.{Read, CheckBytes, SuppliedCount, Write, Erase, Rewind, FastForward, SkipForward, SkipReverse, SearchForward, SearchReverse, WriteMark}
+use Rattle.operations.specs.declared.operation.Operation.the-variants.{Read, CheckBytes, SuppliedCount, Write}
+use Rattle.operations.specs.declared.operation.Operation.the-variants.{Erase, Rewind, FastForward, SkipForward}
+use Rattle.operations.specs.declared.operation.Operation.the-variants.{SkipReverse, SearchForward, SearchReverse}
+use Rattle.operations.specs.declared.operation.Operation.the-variants.{WriteMark}
 use Rattle.operations.specs.declared.operation.Row.{Row}
-use Rattle.operations.specs.declared.operation.Move.{Move}
-use Rattle.operations.specs.declared.operation.Move.the-variants.{Still, Forward, Reverse, Rewinding, Winding, Writing, Erasing}
+use Rattle.operations.specs.declared.operation.Motion.{Motion}
+use Rattle.operations.specs.declared.operation.Motion.the-variants.{Still, Forward, Reverse, Rewinding, Winding}
+use Rattle.operations.specs.declared.operation.Motion.the-variants.{Writing, Erasing}
 
 -- ---- a row for each operation
 
--- Its number, which is its row in the table of answers, operations by 32 codes, in the order of document 02, Wish 9; the first byte of its
--- motion order, "operation (40, 50, 60 or the control value)", and of a supplied count, "The order's first byte is 80", 0 where there is none; how it moves tape, "Forward moves are read, skip forward and search forward; reverse
--- moves are skip reverse and search reverse. Every operation but check bytes moves tape"; whether "Past the test, read, skip and write
--- set secondary to 0"; and whether it is of "Read, write and check bytes", which "offer EOR". A supplied count: "in all else the store goes as a read".
+-- Its number, which is its row in the table of answers, operations by 32 codes, in the order of document 02, request 9;
+-- the first byte of its motion order, "operation (40, 50, 60 or the control value)", and of a supplied count, "The
+-- order's first byte is 80", 0 where there is none; how it moves tape, "Forward moves are read, skip forward and search
+-- forward; reverse moves are skip reverse and search reverse. Every operation but check bytes moves tape"; whether
+-- "Past the test, read, skip and write set secondary to 0"; and whether it is of "Read, write and check bytes", which
+-- "offer EOR". A supplied count: "in all else the store goes as a read".
 abbrev pub rowOf : Operation → Row
 rowOf Read = (0, 0x40, Forward, true, true)
 rowOf CheckBytes = (1, 0x00, Still, false, true)
@@ -42,7 +48,7 @@ abbrev pub orderByte : Operation → ℕ
 orderByte operation = rowOf operation .1
 
 -- how it moves tape
-abbrev pub moveOf : Operation → Move
+abbrev pub moveOf : Operation → Motion
 moveOf operation = rowOf operation .2
 
 -- "read, skip and write set secondary to 0"
@@ -56,7 +62,7 @@ offersEnd operation = rowOf operation .4
 -- ---- kinds of operations
 
 -- "Every operation but check bytes moves tape"
-unfoldable pub movesTape : Move → Bool
+unfoldable pub movesTape : Motion → Bool
 movesTape Still = false
 movesTape Forward = true
 movesTape Reverse = true
@@ -65,7 +71,7 @@ movesTape Winding = true
 movesTape Writing = true
 movesTape Erasing = true
 
--- "Reading with a supplied count" (document 02, Wish 1)
+-- "Reading with a supplied count" (document 02, request 1)
 abbrev pub suppliesCount : Operation → Bool
 suppliesCount operation = sameOperation operation SuppliedCount
 

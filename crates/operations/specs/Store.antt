@@ -1,5 +1,5 @@
--- A store: its address and its operand (document 01, Stores). "Address: bit 0 asks an interrupt, 1-3 are the operation, bit 4 names a drive,
--- 5-7 its number."
+-- A store: its address and its operand (document 01, Stores). "Address: bit 0 asks an interrupt, 1-3 are the operation,
+-- bit 4 names a drive, 5-7 its number."
 -- Assumes nothing.
 use Prim.Native.Nat.{ℕ, _+_, _*_, _/_, _%_}
 use mathlib.Core.Bool.{Bool, _&&_}
@@ -47,6 +47,7 @@ thrownAway store = store .second
 unfoldable pub heldCount : Store → ℕ
 heldCount store = store .third * 256 + store .fourth
 
--- the count that is supplied for an operation, and 0 where none is: what a supplied 0 counts as too, "exactly if that is nonzero"
+-- the count that is supplied for an operation, and 0 where none is: what a supplied 0 counts as too, "exactly if that
+-- is nonzero"
 unfoldable pub suppliedCount : Operation → Store → ℕ
 suppliedCount operation store = pick (suppliesCount operation) (heldCount store) 0

@@ -3,9 +3,11 @@
 use Prim.Native.Nat.{ℕ}
 use mathlib.Core.Bool.{Bool, true, not, _&&_, _||_}
 use lib.Dec.{eqb}
-use Rattle.status.specs.Drives.{eot, installed, botWarning, protected, positionUnknown, selectable, bot, gapProper, reports}
-use Rattle.operations.specs.declared.operation.Move.{Move}
-use Rattle.operations.specs.declared.operation.Move.the-variants.{Still, Forward, Reverse, Rewinding, Winding, Writing, Erasing}
+use Rattle.status.specs.Drives.{eot, installed, botWarning, protected, positionUnknown, selectable, bot, gapProper}
+use Rattle.status.specs.Drives.{reports}
+use Rattle.operations.specs.declared.operation.Motion.{Motion}
+use Rattle.operations.specs.declared.operation.Motion.the-variants.{Still, Forward, Reverse, Rewinding, Winding}
+use Rattle.operations.specs.declared.operation.Motion.the-variants.{Writing, Erasing}
 
 -- "all that move tape need installed and selectable"
 abbrev pub isReady : ℕ → Bool
@@ -23,7 +25,8 @@ isAheadFree report = isPlaced report && not (reports report eot)
 abbrev pub isBehindFree : ℕ → Bool
 isBehindFree report = isPlaced report && not (reports report bot)
 
--- "While set, write, write mark and erase give code 04 unless the gap is 0 or BOT warning is reported." (document 02, Wish 7)
+-- "While set, write, write mark and erase give code 04 unless the gap is 0 or BOT warning is reported." (document 02,
+-- request 7)
 abbrev pub isGuarded : Bool → ℕ → ℕ → Bool
 isGuarded guard gap report = guard && not (eqb gap gapProper || reports report botWarning)
 
@@ -32,7 +35,7 @@ abbrev pub isWritable : ℕ → Bool → ℕ → Bool
 isWritable report guard gap = (isAheadFree report && not (reports report protected)) && not (isGuarded guard gap report)
 
 -- by the drive's report, its guard and its gap; "check bytes have no test"
-unfoldable pub mayMove : Move → ℕ → Bool → ℕ → Bool
+unfoldable pub mayMove : Motion → ℕ → Bool → ℕ → Bool
 mayMove Still report guard gap = true
 mayMove Forward report guard gap = isAheadFree report
 mayMove Reverse report guard gap = isBehindFree report

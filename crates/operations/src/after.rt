@@ -3,7 +3,7 @@ use crate::answers::ASKS_RETRY;
 use crate::answers::NEVER_REPORTED;
 use crate::answers::answer_of;
 use crate::codes::RECOVERABLE;
-use crate::operation::Move;
+use crate::operation::Motion;
 use crate::operation::Operation;
 use status::drives::GAP_IMPROPER;
 use status::drives::GAP_LOST;
@@ -12,7 +12,8 @@ use status::drives::GAP_UNFINISHED;
 use status::words::Outcome;
 use status::words::ResultRecord;
 ghost use mathlib.Core.Path.{_≡_};
-ghost use Rattle.operations.specs.After.{losesTape, usualMotion, motionOf, gapOf, gapAfter, ownRetry, codeRetry, retryOf, withCode};
+ghost use Rattle.operations.specs.After.{losesTape, usualMotion, motionOf, gapOf, gapAfter, ownRetry, codeRetry};
+ghost use Rattle.operations.specs.After.{retryOf, withCode};
 
 // The motion after which nobody knows where the tape is.
 const LOST: u8 = 3;
@@ -26,22 +27,22 @@ fn loses_tape(code: u8) -> bool
 }
 
 // The motion of an operation that loses nothing.
-fn usual_motion(movement: Move) -> u8
+fn usual_motion(movement: Motion) -> u8
     ensures { λ r. ⌜ r ≡ usualMotion movement ⌝ }
 {
     match movement {
-        Move::Still => 0,
-        Move::Forward => 1,
-        Move::Reverse => 2,
-        Move::Rewinding => 2,
-        Move::Winding => 1,
-        Move::Writing => 1,
-        Move::Erasing => 0,
+        Motion::Still => 0,
+        Motion::Forward => 1,
+        Motion::Reverse => 2,
+        Motion::Rewinding => 2,
+        Motion::Winding => 1,
+        Motion::Writing => 1,
+        Motion::Erasing => 0,
     }
 }
 
 // The motion by the final code.
-pub fn motion_of(movement: Move, code: u8) -> u8
+pub fn motion_of(movement: Motion, code: u8) -> u8
     ensures { λ r. ⌜ r ≡ motionOf movement code ⌝ }
 {
     let lost = loses_tape(code);
@@ -52,23 +53,23 @@ pub fn motion_of(movement: Move, code: u8) -> u8
 }
 
 // The gap after a move that was made and lost nothing.
-fn gap_of(movement: Move, code: u8) -> u8
+fn gap_of(movement: Motion, code: u8) -> u8
     ensures { λ r. ⌜ r ≡ gapOf movement code ⌝ }
 {
     let good = code == 0;
     match movement {
-        Move::Still => if good { GAP_PROPER } else { GAP_IMPROPER },
-        Move::Forward => if good { GAP_PROPER } else { GAP_IMPROPER },
-        Move::Reverse => GAP_PROPER,
-        Move::Rewinding => GAP_PROPER,
-        Move::Winding => GAP_LOST,
-        Move::Writing => if good { GAP_PROPER } else { GAP_UNFINISHED },
-        Move::Erasing => if good { GAP_PROPER } else { GAP_IMPROPER },
+        Motion::Still => if good { GAP_PROPER } else { GAP_IMPROPER },
+        Motion::Forward => if good { GAP_PROPER } else { GAP_IMPROPER },
+        Motion::Reverse => GAP_PROPER,
+        Motion::Rewinding => GAP_PROPER,
+        Motion::Winding => GAP_LOST,
+        Motion::Writing => if good { GAP_PROPER } else { GAP_UNFINISHED },
+        Motion::Erasing => if good { GAP_PROPER } else { GAP_IMPROPER },
     }
 }
 
 // The gap by the final code, from the gap before.
-pub fn gap_after(movement: Move, code: u8, gap: u8) -> u8
+pub fn gap_after(movement: Motion, code: u8, gap: u8) -> u8
     ensures { λ r. ⌜ r ≡ gapAfter movement code gap ⌝ }
 {
     let moved = motion_of(movement, code);

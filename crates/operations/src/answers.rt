@@ -1,4 +1,5 @@
-// The codes that a result may report: 0 never, 1 reported and no retry, 2 reported with retry. The single place for reported codes.
+// The codes that a result may report: 0 never, 1 reported and no retry, 2 reported with retry. The single place for
+// reported codes.
 use crate::operation::Operation;
 use crate::operation::number_of;
 ghost use mathlib.Core.Path.{_≡_};

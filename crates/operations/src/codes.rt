@@ -1,4 +1,5 @@
-// The codes that the controller itself gives; the others come with a result. Their names are those of source document 001.
+// The codes that the controller itself gives; the others come with a result. Their names are those of source
+// document 001.
 
 // a named drive above 3
 pub const ILLEGAL_DRIVE: u8 = 0x01;

@@ -1,4 +1,5 @@
-// A store's course: what it comes to for the drive that it is for, by what it asks for, decided before anything of the state is touched.
+// A store's course: what it comes to for the drive that it is for, by what it asks for, decided before anything of the
+// state is touched.
 use crate::codes::ILLEGAL_MOTION;
 use crate::decode::Decoded;
 use crate::operation::Operation;
@@ -11,7 +12,8 @@ use status::drives::with_track;
 ghost use mathlib.Core.Path.{_≡_};
 ghost use Rattle.operations.specs.Course.{testOf, courseOf};
 
-// The controller is reset, a code ends the store, enable is cleared or set, the drive has another record, or an operation begins.
+// The controller is reset, a code ends the store, enable is cleared or set, the drive has another record, or an
+// operation begins.
 pub enum Course {
     Reset,
     End(u8),

@@ -1,6 +1,8 @@
 // An operation, and what of it counts in more than one rule.
 ghost use mathlib.Core.Path.{_≡_};
-ghost use Rattle.operations.specs.Operation.{rowOf, numberOf, sameOperation, moveOf, orderByte, countsBytes, offersEnd, movesTape, suppliesCount, isRead, bringsRecord, isSkip, isSearch, takesMark};
+ghost use Rattle.operations.specs.Operation.{rowOf, numberOf, sameOperation, moveOf, orderByte, countsBytes};
+ghost use Rattle.operations.specs.Operation.{offersEnd, movesTape, suppliesCount, isRead, bringsRecord, isSkip};
+ghost use Rattle.operations.specs.Operation.{isSearch, takesMark};
 
 pub enum Operation {
     Read,
@@ -18,7 +20,7 @@ pub enum Operation {
 }
 
 // How an operation moves tape.
-pub enum Move {
+pub enum Motion {
     Still,
     Forward,
     Reverse,
@@ -28,27 +30,27 @@ pub enum Move {
     Erasing,
 }
 
-// What counts of an operation in more than one rule: its number, the first byte of its motion order, how it moves tape, whether
-// secondary is set to 0 past the test, and whether EOR is offered at its end.
-pub struct Row(pub usize, pub u8, pub Move, pub bool, pub bool);
+// What counts of an operation in more than one rule: its number, the first byte of its motion order, how it moves tape,
+// whether secondary is set to 0 past the test, and whether EOR is offered at its end.
+pub struct Row(pub usize, pub u8, pub Motion, pub bool, pub bool);
 
 // A row for each operation. Check bytes give no order, and 0 stands there.
 pub fn row_of(operation: Operation) -> Row
     ensures { λ r. ⌜ r ≡ rowOf operation ⌝ }
 {
     match operation {
-        Operation::Read => Row(0, 0x40, Move::Forward, true, true),
-        Operation::CheckBytes => Row(1, 0x00, Move::Still, false, true),
-        Operation::SuppliedCount => Row(2, 0x80, Move::Forward, true, true),
-        Operation::Write => Row(3, 0x50, Move::Writing, true, true),
-        Operation::Erase => Row(4, 0x60, Move::Erasing, false, false),
-        Operation::Rewind => Row(5, 0x10, Move::Rewinding, false, false),
-        Operation::FastForward => Row(6, 0x11, Move::Winding, false, false),
-        Operation::SkipForward => Row(7, 0x20, Move::Forward, true, false),
-        Operation::SkipReverse => Row(8, 0x21, Move::Reverse, true, false),
-        Operation::SearchForward => Row(9, 0x22, Move::Forward, false, false),
-        Operation::SearchReverse => Row(10, 0x23, Move::Reverse, false, false),
-        Operation::WriteMark => Row(11, 0x24, Move::Writing, false, false),
+        Operation::Read => Row(0, 0x40, Motion::Forward, true, true),
+        Operation::CheckBytes => Row(1, 0x00, Motion::Still, false, true),
+        Operation::SuppliedCount => Row(2, 0x80, Motion::Forward, true, true),
+        Operation::Write => Row(3, 0x50, Motion::Writing, true, true),
+        Operation::Erase => Row(4, 0x60, Motion::Erasing, false, false),
+        Operation::Rewind => Row(5, 0x10, Motion::Rewinding, false, false),
+        Operation::FastForward => Row(6, 0x11, Motion::Winding, false, false),
+        Operation::SkipForward => Row(7, 0x20, Motion::Forward, true, false),
+        Operation::SkipReverse => Row(8, 0x21, Motion::Reverse, true, false),
+        Operation::SearchForward => Row(9, 0x22, Motion::Forward, false, false),
+        Operation::SearchReverse => Row(10, 0x23, Motion::Reverse, false, false),
+        Operation::WriteMark => Row(11, 0x24, Motion::Writing, false, false),
     }
 }
 
@@ -74,7 +76,7 @@ pub fn order_byte(operation: Operation) -> u8
 }
 
 // How it moves tape.
-pub fn move_of(operation: Operation) -> Move
+pub fn move_of(operation: Operation) -> Motion
     ensures { λ r. ⌜ r ≡ moveOf operation ⌝ }
 {
     row_of(operation).2
@@ -95,11 +97,11 @@ pub fn offers_end(operation: Operation) -> bool
 }
 
 // Whether tape moves at all.
-pub fn moves_tape(movement: Move) -> bool
+pub fn moves_tape(movement: Motion) -> bool
     ensures { λ r. ⌜ r ≡ movesTape movement ⌝ }
 {
     match movement {
-        Move::Still => false,
+        Motion::Still => false,
         _ => true,
     }
 }

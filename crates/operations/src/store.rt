@@ -5,7 +5,8 @@ use crate::decode::in_density;
 use crate::operation::Operation;
 use crate::operation::supplies_count;
 ghost use mathlib.Core.Path.{_≡_};
-ghost use Rattle.operations.specs.Store.{asksInterrupt, namesDrive, namedDrive, namesUnknown, selectedBy, askedFor, askedIn, heldCount, suppliedCount};
+ghost use Rattle.operations.specs.Store.{asksInterrupt, namesDrive, namedDrive, namesUnknown, selectedBy};
+ghost use Rattle.operations.specs.Store.{askedFor, askedIn, heldCount, suppliedCount};
 
 // The number of drives.
 pub const DRIVES: u8 = 4;

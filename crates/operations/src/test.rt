@@ -1,5 +1,5 @@
 // The tape test: whether a drive may carry an operation out.
-use crate::operation::Move;
+use crate::operation::Motion;
 use status::drives::BOT;
 use status::drives::BOT_WARNING;
 use status::drives::Drive;
@@ -11,7 +11,8 @@ use status::drives::PROTECTED;
 use status::drives::SELECTABLE;
 use status::drives::reports;
 ghost use mathlib.Core.Path.{_≡_};
-ghost use Rattle.operations.specs.Test.{isReady, isPlaced, isAheadFree, isBehindFree, isGuarded, isWritable, mayMove};
+ghost use Rattle.operations.specs.Test.{isReady, isPlaced, isAheadFree, isBehindFree, isGuarded, isWritable};
+ghost use Rattle.operations.specs.Test.{mayMove};
 
 // A tape that is there and a drive that can be selected.
 fn is_ready(report: u8) -> bool
@@ -56,16 +57,16 @@ fn is_writable(drive: Drive) -> bool
 }
 
 // Whether the tape of this drive may move so.
-pub fn may_move(movement: Move, drive: Drive) -> bool
+pub fn may_move(movement: Motion, drive: Drive) -> bool
     ensures { λ r. ⌜ r ≡ mayMove movement (drive .report) (drive .guard) (drive .gap) ⌝ }
 {
     match movement {
-        Move::Still => true,
-        Move::Forward => is_ahead_free(drive.report),
-        Move::Reverse => is_behind_free(drive.report),
-        Move::Rewinding => is_ready(drive.report),
-        Move::Winding => is_ready(drive.report),
-        Move::Writing => is_writable(drive),
-        Move::Erasing => is_writable(drive),
+        Motion::Still => true,
+        Motion::Forward => is_ahead_free(drive.report),
+        Motion::Reverse => is_behind_free(drive.report),
+        Motion::Rewinding => is_ready(drive.report),
+        Motion::Winding => is_ready(drive.report),
+        Motion::Writing => is_writable(drive),
+        Motion::Erasing => is_writable(drive),
     }
 }

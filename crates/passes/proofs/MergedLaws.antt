@@ -1,4 +1,5 @@
--- What a merged pass holds at each place, which of its marks are errors, and when no blockette is good in both and unlike.
+-- What a merged pass holds at each place, which of its marks are errors, and when no blockette is good in both and
+-- unlike.
 -- Assumes nothing.
 use mathlib.Core.Path.{_≡_, refl, sym, ap, ap₂, _∙_}
 use Prim.Native.Nat.{ℕ, zero, suc, _+_, _*_, _≤_, _<_}
@@ -16,13 +17,15 @@ use Rattle.common.proofs.PickLaws.{by-test, both-hold, pick-by, pick-yes, pick-
 use Rattle.blockettes.specs.Blockettes.{blocketteAt}
 use Rattle.blockettes.proofs.Checked.{blockette-length}
 use Rattle.marks.specs.Marks.{legalMark, legalMarks, isError}
-use Rattle.passes.specs.Passes.{sameBytes, anyPlace, clashAt, clashes, takesSecond, mergedMark, mergedMarks, joined, mergedAt, mergedBlockettes}
+use Rattle.passes.specs.Passes.{sameBytes, anyPlace, clashAt, clashes, takesSecond, mergedMark, mergedMarks}
+use Rattle.passes.specs.Passes.{joined, mergedAt, mergedBlockettes}
 use Rattle.passes.proofs.PassLaws.{joined-length, merged-length}
 
 -- ---- parts one behind the other
 
 -- each of k elements stands at k times its place
-pub joined-part : (part : ℕ → List ℕ) (k n : ℕ) → ((place : ℕ) → place < n → length (part place) ≡ k) → (place : ℕ) → place < n
+pub joined-part : (part : ℕ → List ℕ) (k n : ℕ) → ((place : ℕ) → place < n → length (part place) ≡ k) → (place : ℕ)
+    → place < n
     → take k (drop (k * place) (joined part n)) ≡ part place
 unfolding joined
 joined-part part k zero each place below = absurd (omega arith)
@@ -49,7 +52,8 @@ joined-part part k (suc n) each place below =
     ]
 
 -- a single element at its place
-pub joined-element : (element : ℕ → ℕ) (n place : ℕ) → place < n → getD (joined (λ p. element p ∷ []) n) place 0 ≡ element place
+pub joined-element : (element : ℕ → ℕ) (n place : ℕ) → place < n
+    → getD (joined (λ p. element p ∷ []) n) place 0 ≡ element place
 joined-element element n place below =
     let all = joined (λ p. element p ∷ []) n in
     let here : 1 * place + 0 ≡ place = omega arith in
@@ -62,40 +66,50 @@ joined-element element n place below =
 
 pub marks-length : (firstMarks secondMarks : List ℕ) → length (mergedMarks firstMarks secondMarks) ≡ length firstMarks
 unfolding mergedMarks
-marks-length firstMarks secondMarks = joined-length _ 1 (length firstMarks) (λ place below. refl) ∙ one-mul (length firstMarks)
+marks-length firstMarks secondMarks =
+    joined-length _ 1 (length firstMarks) (λ place below. refl) ∙ one-mul (length firstMarks)
 
 module _ (firstMarks secondMarks : List ℕ) (place : ℕ) (below : place < length firstMarks) where
-  pub mark-at : getD (mergedMarks firstMarks secondMarks) place 0 ≡ mergedMark (getD firstMarks place 0) (getD secondMarks place 0)
+  pub mark-at : getD (mergedMarks firstMarks secondMarks) place 0
+      ≡ mergedMark (getD firstMarks place 0) (getD secondMarks place 0)
   unfolding mergedMarks
-  mark-at = joined-element (λ p. mergedMark (getD firstMarks p 0) (getD secondMarks p 0)) (length firstMarks) place below
+  mark-at =
+      joined-element (λ p. mergedMark (getD firstMarks p 0) (getD secondMarks p 0)) (length firstMarks) place below
 
 -- "A merged blockette is bad only if both passes had it bad", and good exactly if one had it good
-pub mark-bad : (firstMark secondMark : ℕ) → isError (mergedMark firstMark secondMark) ≡ (isError firstMark && isError secondMark)
+pub mark-bad : (firstMark secondMark : ℕ)
+    → isError (mergedMark firstMark secondMark) ≡ (isError firstMark && isError secondMark)
 unfolding mergedMark takesSecond
 mark-bad firstMark secondMark =
     by-test (isError firstMark)
     (λ bad.
     by-test (isError secondMark)
-    (λ bad-too. ap isError (pick-no secondMark firstMark (ap₂ (λ (a b : Bool). a && not b) bad bad-too)) ∙ bad ∙ sym (ap₂ _&&_ bad bad-too))
-    (λ good. ap isError (pick-yes secondMark firstMark (ap₂ (λ (a b : Bool). a && not b) bad good)) ∙ good ∙ sym (ap₂ _&&_ bad good)))
+    (λ bad-too. ap isError (pick-no secondMark firstMark (ap₂ (λ (a b : Bool). a && not b) bad bad-too)) ∙ bad
+    ∙ sym (ap₂ _&&_ bad bad-too))
+    (λ good. ap isError (pick-yes secondMark firstMark (ap₂ (λ (a b : Bool). a && not b) bad good)) ∙ good
+    ∙ sym (ap₂ _&&_ bad good)))
     (λ good.
     ap isError (pick-no secondMark firstMark (ap (λ (a : Bool). a && not (isError secondMark)) good)) ∙ good
     ∙ sym (ap (λ (a : Bool). a && isError secondMark) good))
 
 -- marks are legal where each is
-each-legal : (marks : List ℕ) → legalMarks marks ≡ true → (place : ℕ) → place < length marks → legalMark (getD marks place 0) ≡ true
+each-legal : (marks : List ℕ) → legalMarks marks ≡ true → (place : ℕ) → place < length marks
+    → legalMark (getD marks place 0) ≡ true
 unfolding legalMarks
 each-legal [] all place below = absurd (omega arith)
 each-legal (mark ∷ marks) all zero below = both-hold (legalMark mark) (legalMarks marks) all .0
-each-legal (mark ∷ marks) all (suc place) below = each-legal marks (both-hold (legalMark mark) (legalMarks marks) all .1) place (omega arith)
+each-legal (mark ∷ marks) all (suc place) below =
+    each-legal marks (both-hold (legalMark mark) (legalMarks marks) all .1) place (omega arith)
 
-all-legal : (marks : List ℕ) → ((place : ℕ) → place < length marks → legalMark (getD marks place 0) ≡ true) → legalMarks marks ≡ true
+all-legal : (marks : List ℕ) → ((place : ℕ) → place < length marks → legalMark (getD marks place 0) ≡ true)
+    → legalMarks marks ≡ true
 unfolding legalMarks
 all-legal [] each = refl
 all-legal (mark ∷ marks) each =
     ap₂ _&&_ (each 0 (omega arith)) (all-legal marks (λ place below. each (suc place) (omega arith)))
 
-pub merged-legal : (firstMarks secondMarks : List ℕ) → length secondMarks ≡ length firstMarks → legalMarks firstMarks ≡ true
+pub merged-legal : (firstMarks secondMarks : List ℕ) → length secondMarks ≡ length firstMarks
+    → legalMarks firstMarks ≡ true
     → legalMarks secondMarks ≡ true → legalMarks (mergedMarks firstMarks secondMarks) ≡ true
 unfolding mergedMark
 merged-legal firstMarks secondMarks as-many one two =
@@ -119,7 +133,8 @@ merged-good first second built firstMark secondMark place fine one two =
     (λ other. pick-yes _ _ other ∙ two (sym (pick-yes secondMark firstMark other) ∙ fine))
     (λ own. pick-no _ _ own ∙ one (sym (pick-no secondMark firstMark own) ∙ fine))
 
-module _ (first firstMarks second secondMarks : List ℕ) (long : length first ≡ 256 * length firstMarks) (as-long : length second ≡ 256 * length firstMarks) where
+module _ (first firstMarks second secondMarks : List ℕ) (long : length first ≡ 256 * length firstMarks)
+    (as-long : length second ≡ 256 * length firstMarks) where
   part-length : (place : ℕ) → place < length firstMarks
       → length (mergedAt first (getD firstMarks place 0) second (getD secondMarks place 0) place) ≡ 256
   part-length place below =
@@ -155,8 +170,10 @@ good-mark mark fine = eqb-true mark 15 (not-false (eqb mark 15) fine)
 
 -- two passes that each hold the built bytes where they are good
 pub none-clash : (first firstMarks second secondMarks built : List ℕ)
-    → ((place : ℕ) → place < length firstMarks → getD firstMarks place 0 ≡ 15 → blocketteAt first place ≡ blocketteAt built place)
-    → ((place : ℕ) → place < length firstMarks → getD secondMarks place 0 ≡ 15 → blocketteAt second place ≡ blocketteAt built place)
+    → ((place : ℕ) → place < length firstMarks → getD firstMarks place 0 ≡ 15
+    → blocketteAt first place ≡ blocketteAt built place)
+    → ((place : ℕ) → place < length firstMarks → getD secondMarks place 0 ≡ 15
+    → blocketteAt second place ≡ blocketteAt built place)
     → clashes first firstMarks second secondMarks ≡ false
 unfolding clashes clashAt
 none-clash first firstMarks second secondMarks built one two =
@@ -165,12 +182,18 @@ none-clash first firstMarks second secondMarks built one two =
     let f = getD firstMarks place 0 in
     let s = getD secondMarks place 0 in
     by-test (isError f)
-    (λ bad. ap (λ (b : Bool). not b && (not (isError s) && not (sameBytes (blocketteAt first place) (blocketteAt second place)))) bad)
+    (λ bad. ap
+    (λ (b : Bool). not b
+    && (not (isError s) && not (sameBytes (blocketteAt first place) (blocketteAt second place)))) bad)
     (λ good.
     by-test (isError s)
-    (λ bad. ap₂ (λ (a b : Bool). not a && (not b && not (sameBytes (blocketteAt first place) (blocketteAt second place)))) good bad)
+    (λ bad. ap₂
+    (λ (a b : Bool). not a && (not b && not (sameBytes (blocketteAt first place) (blocketteAt second place))))
+    good bad)
     (λ good-too.
-    let alike : blocketteAt second place ≡ blocketteAt first place = two place below (good-mark s good-too) ∙ sym (one place below (good-mark f good)) in
-    ap₂ (λ (a b : Bool). not a && (not b && not (sameBytes (blocketteAt first place) (blocketteAt second place)))) good good-too
+    let alike : blocketteAt second place
+    ≡ blocketteAt first place = two place below (good-mark s good-too) ∙ sym (one place below (good-mark f good)) in
+    ap₂ (λ (a b : Bool). not a && (not b && not (sameBytes (blocketteAt first place) (blocketteAt second place))))
+    good good-too
     ∙ ap (λ (l : List ℕ). not (sameBytes (blocketteAt first place) l)) alike
     ∙ ap not (same-itself (blocketteAt first place)))))

@@ -1,14 +1,24 @@
-// One record out of two passes, blockette by blockette: which of them are unlike, and the merged blockettes with their marks.
+// One record out of two passes, blockette by blockette: which of them are unlike, and the merged blockettes with their
+// marks.
 use blockettes::BLOCKETTE_LENGTH;
-use common::give;
+use common::overwrite;
 use marks::is_error;
 ghost use mathlib.Core.Path.{_≡_};
 ghost use Prim.Native.Nat.{_+_, _*_, _≤_, _<_};
 ghost use lib.ListN.{length};
-ghost use Rattle.blockettes.specs.Blockettes.{blocketteLength};
-ghost use Rattle.passes.specs.Passes.{sameBytes, clashAt, clashes, takesSecond, mergedMark, mergedAt, mergedMarks, mergedBlockettes};
+ghost use Rattle.blockettes.specs.Blockettes.{blocketteLength, blocketteAt};
+ghost use Rattle.passes.specs.Passes.{sameBytes, sameBlockettes, clashAt, clashes, takesSecond};
+ghost use Rattle.passes.specs.Passes.{mergedMark, mergedBlockette, mergedMarks, mergedBlockettes};
 
-// Whether two strings of one length have the same bytes. All are looked at, since a loop without a way out takes many in a step.
+// The first bytes of a blockette that are compared by themselves.
+const FRONT: usize = 16;
+
+// Where the others begin: an image's blockettes stand two bytes behind its start, so from here on their vectors are
+// aligned where the image is.
+const ALIGNED: usize = 14;
+
+// Whether two strings of one length have the same bytes. All are looked at, since a loop without a way out takes many
+// in a step.
 fn same_bytes(a: &[u8], b: &[u8]) -> bool
     requires { ⌜ length (now b) ≡ length (now a) ⌝ }
     ensures { λ r. ⌜ r ≡ sameBytes (now (a .entry)) (now (b .entry)) ⌝ }
@@ -21,6 +31,17 @@ fn same_bytes(a: &[u8], b: &[u8]) -> bool
         at += 1;
     }
     same
+}
+
+// Whether two blockettes have. Two bytes are compared twice, so that both parts begin with a whole vector.
+fn same_blockettes(a: &[u8], b: &[u8]) -> bool
+    requires { ⌜ length (now a) ≡ blocketteLength ⌝ }
+    requires { ⌜ length (now b) ≡ blocketteLength ⌝ }
+    ensures { λ r. ⌜ r ≡ sameBlockettes (now (a .entry)) (now (b .entry)) ⌝ }
+{
+    let front = same_bytes(&a[..FRONT], &b[..FRONT]);
+    let others = same_bytes(&a[ALIGNED..], &b[ALIGNED..]);
+    front & others
 }
 
 // Whether a blockette comes from the second pass: it is bad in the first and good in the second.
@@ -52,73 +73,69 @@ fn clash_at(
     requires { ⌜ length (now «second_marks») ≡ length (now «first_marks») ⌝ }
     requires { ⌜ length (now first) ≡ blocketteLength * length (now «first_marks») ⌝ }
     requires { ⌜ length (now second) ≡ blocketteLength * length (now «first_marks») ⌝ }
-    ensures { λ r. ⌜ r ≡ clashAt (now (first .entry)) (now («first_marks» .entry)) (now (second .entry)) (now («second_marks» .entry)) place ⌝ }
+    ensures { λ r. ⌜ r ≡ clashAt (now (first .entry)) (now («first_marks» .entry)) (now (second .entry))
+        (now («second_marks» .entry)) place ⌝ }
 {
     if is_error(first_marks[place]) | is_error(second_marks[place]) {
         return false;
     }
     let start = BLOCKETTE_LENGTH * place;
     let end = start + BLOCKETTE_LENGTH;
-    !same_bytes(&first[start..end], &second[start..end])
+    !same_blockettes(&first[start..end], &second[start..end])
 }
 
-// Whether any is.
+// Whether any is. From the last to the first: those compared last are in the processor's nearest cache when the merged
+// ones are put, from the first on.
 pub fn clashes(first: &[u8], first_marks: &[u8], second: &[u8], second_marks: &[u8]) -> bool
     requires { ⌜ length (now «second_marks») ≡ length (now «first_marks») ⌝ }
     requires { ⌜ length (now first) ≡ blocketteLength * length (now «first_marks») ⌝ }
     requires { ⌜ length (now second) ≡ blocketteLength * length (now «first_marks») ⌝ }
-    ensures { λ r. ⌜ r ≡ clashes (now (first .entry)) (now («first_marks» .entry)) (now (second .entry)) (now («second_marks» .entry)) ⌝ }
+    ensures { λ r. ⌜ r ≡ clashes (now (first .entry)) (now («first_marks» .entry)) (now (second .entry))
+        (now («second_marks» .entry)) ⌝ }
 {
-    let places = first_marks.len();
-    let mut at = 0;
-    while at < places {
-        if clash_at(first, first_marks, second, second_marks, at) {
+    let mut left = first_marks.len();
+    while 0 < left {
+        left -= 1;
+        if clash_at(first, first_marks, second, second_marks, left) {
             return true;
         }
-        at += 1;
     }
     false
 }
 
-// The merged blockette at a place, which fills its part of the image.
-fn put_merged_at(
-    first: &[u8],
+// The merged blockette at a place. Its part of the image has that of the first pass, which stays where it is not the
+// second's.
+fn put_merged_blockette(
     first_mark: u8,
     second: &[u8],
     second_mark: u8,
     place: usize,
     part: &mut [u8],
 )
-    requires { ⌜ length (now second) ≡ length (now first) ⌝ }
-    requires { ⌜ blocketteLength * place + blocketteLength ≤ length (now first) ⌝ }
+    requires { ⌜ blocketteLength * place + blocketteLength ≤ length (now second) ⌝ }
     requires { ⌜ length (now part) ≡ blocketteLength ⌝ }
-    ensures { λ _. ⌜ now (part .exit) ≡ mergedAt (now (first .entry)) «first_mark» (now (second .entry)) «second_mark» place ⌝ }
+    ensures { λ _. ⌜ now (part .exit) ≡ mergedBlockette «first_mark» «second_mark» (now (part .entry))
+        (blocketteAt (now (second .entry)) place) ⌝ }
 {
-    let start = BLOCKETTE_LENGTH * place;
-    let end = start + BLOCKETTE_LENGTH;
     if takes_second(first_mark, second_mark) {
-        give(&second[start..end], part);
-    } else {
-        give(&first[start..end], part);
+        let start = BLOCKETTE_LENGTH * place;
+        let end = start + BLOCKETTE_LENGTH;
+        overwrite(&second[start..end], part);
     }
 }
 
-// The merged blockettes and their marks, in one pass over both; they fill their spaces.
+// The merged blockettes. The image has those of the first pass.
 pub fn put_merged_blockettes(
-    first: &[u8],
     first_marks: &[u8],
     second: &[u8],
     second_marks: &[u8],
     image: &mut [u8],
-    marks: &mut [u8],
 )
     requires { ⌜ length (now «second_marks») ≡ length (now «first_marks») ⌝ }
-    requires { ⌜ length (now first) ≡ blocketteLength * length (now «first_marks») ⌝ }
     requires { ⌜ length (now second) ≡ blocketteLength * length (now «first_marks») ⌝ }
     requires { ⌜ length (now image) ≡ blocketteLength * length (now «first_marks») ⌝ }
-    requires { ⌜ length (now marks) ≡ length (now «first_marks») ⌝ }
-    ensures { λ _. ⌜ now (image .exit) ≡ mergedBlockettes (now (first .entry)) (now («first_marks» .entry)) (now (second .entry)) (now («second_marks» .entry)) ⌝ }
-    ensures { λ _. ⌜ now (marks .exit) ≡ mergedMarks (now («first_marks» .entry)) (now («second_marks» .entry)) ⌝ }
+    ensures { λ _. ⌜ now (image .exit) ≡ mergedBlockettes (now (image .entry)) (now («first_marks» .entry))
+        (now (second .entry)) (now («second_marks» .entry)) ⌝ }
 {
     let n = first_marks.len();
     let mut at = 0;
@@ -127,15 +144,21 @@ pub fn put_merged_blockettes(
         let second_mark = second_marks[at];
         let start = BLOCKETTE_LENGTH * at;
         let end = start + BLOCKETTE_LENGTH;
-        put_merged_at(
-            first,
-            first_mark,
-            second,
-            second_mark,
-            at,
-            &mut image[start..end],
-        );
-        marks[at] = merged_mark(first_mark, second_mark);
+        put_merged_blockette(first_mark, second, second_mark, at, &mut image[start..end]);
+        at += 1;
+    }
+}
+
+// Their marks, which fill their space.
+pub fn put_merged_marks(first_marks: &[u8], second_marks: &[u8], marks: &mut [u8])
+    requires { ⌜ length (now «second_marks») ≡ length (now «first_marks») ⌝ }
+    requires { ⌜ length (now marks) ≡ length (now «first_marks») ⌝ }
+    ensures { λ _. ⌜ now (marks .exit) ≡ mergedMarks (now («first_marks» .entry)) (now («second_marks» .entry)) ⌝ }
+{
+    let n = first_marks.len();
+    let mut at = 0;
+    while at < n {
+        marks[at] = merged_mark(first_marks[at], second_marks[at]);
         at += 1;
     }
 }

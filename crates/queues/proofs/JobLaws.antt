@@ -27,7 +27,13 @@ sound-ranges queues sound =
     let (three, l3) = both-hold _ _ lengths in
     let (two, l2) = both-hold _ _ three in
     let (l0, l1) = both-hold _ _ two in
-    record { q0 = leb-true _ _ l0; q1 = leb-true _ _ l1; q2 = leb-true _ _ l2; q3 = leb-true _ _ l3; last = ltb-true _ _ last }
+    record {
+      q0 = leb-true _ _ l0;
+      q1 = leb-true _ _ l1;
+      q2 = leb-true _ _ l2;
+      q3 = leb-true _ _ l3;
+      last = ltb-true _ _ last;
+    }
 
 -- the job whose turn it is: one of the four, with a store that waits
 pub record Served (queues : Queues) (job : ℕ) : Type 0 where

@@ -24,17 +24,22 @@ closer-1 =
     by-four (λ last. (job : ℕ) → job ≤ 3 → Apart last 1 job → away ((last + 1) % 4) job < away last job)
     (λ job h a. omega arith) (λ job h a. omega arith) (λ job h a. omega arith) (λ job h a. omega arith)
 
-closer-2 : (last : ℕ) → last ≤ 3 → (job : ℕ) → job ≤ 3 → Apart last 1 job → Apart last 2 job → away ((last + 2) % 4) job < away last job
+closer-2 : (last : ℕ) → last ≤ 3 → (job : ℕ) → job ≤ 3 → Apart last 1 job → Apart last 2 job
+    → away ((last + 2) % 4) job < away last job
 closer-2 =
-    by-four (λ last. (job : ℕ) → job ≤ 3 → Apart last 1 job → Apart last 2 job → away ((last + 2) % 4) job < away last job)
+    by-four (λ last. (job : ℕ) → job ≤ 3 → Apart last 1 job → Apart last 2 job
+    → away ((last + 2) % 4) job < away last job)
     (λ job h a b. omega arith) (λ job h a b. omega arith) (λ job h a b. omega arith) (λ job h a b. omega arith)
 
-closer-3 : (last : ℕ) → last ≤ 3 → (job : ℕ) → job ≤ 3 → Apart last 1 job → Apart last 2 job → Apart last 3 job → away ((last + 3) % 4) job < away last job
+closer-3 : (last : ℕ) → last ≤ 3 → (job : ℕ) → job ≤ 3 → Apart last 1 job → Apart last 2 job → Apart last 3 job
+    → away ((last + 3) % 4) job < away last job
 closer-3 =
-    by-four (λ last. (job : ℕ) → job ≤ 3 → Apart last 1 job → Apart last 2 job → Apart last 3 job → away ((last + 3) % 4) job < away last job)
+    by-four (λ last. (job : ℕ) → job ≤ 3 → Apart last 1 job → Apart last 2 job → Apart last 3 job
+    → away ((last + 3) % 4) job < away last job)
     (λ job h a b c. omega arith) (λ job h a b c. omega arith) (λ job h a b c. omega arith) (λ job h a b c. omega arith)
 
-only-last : (last : ℕ) → last ≤ 3 → (job : ℕ) → job ≤ 3 → Apart last 1 job → Apart last 2 job → Apart last 3 job → last ≡ job
+only-last : (last : ℕ) → last ≤ 3 → (job : ℕ) → job ≤ 3 → Apart last 1 job → Apart last 2 job → Apart last 3 job
+    → last ≡ job
 only-last =
     by-four (λ last. (job : ℕ) → job ≤ 3 → Apart last 1 job → Apart last 2 job → Apart last 3 job → last ≡ job)
     (λ job h a b c. omega arith) (λ job h a b c. omega arith) (λ job h a b c. omega arith) (λ job h a b c. omega arith)
@@ -48,10 +53,21 @@ pub nearer : (queues : Queues) (job : ℕ) → queues .last ≤ 3 → job ≤ 3 
 unfolding turnOf pick
 nearer queues job low h some =
     let last = queues .last in
-    let differs : (a : ℕ) → waits queues a ≡ false → a ≡ job → ⊥ = λ a none e. false≢true (sym none ∙ ap (waits queues) e ∙ some) in
-    by-test (waits queues ((last + 1) % 4)) (λ yes. record { next = (last + 1) % 4; is = simp yes; closer = closer-1 last low job h }) (λ no1.
-    by-test (waits queues ((last + 2) % 4)) (λ yes. record { next = (last + 2) % 4; is = simp (no1, yes); closer = closer-2 last low job h (differs _ no1) }) (λ no2.
+    let differs : (a : ℕ) → waits queues a ≡ false → a ≡ job
+    → ⊥ = λ a none e. false≢true (sym none ∙ ap (waits queues) e ∙ some) in
+    by-test (waits queues ((last + 1) % 4))
+    (λ yes. record { next = (last + 1) % 4; is = simp yes; closer = closer-1 last low job h }) (λ no1.
+    by-test (waits queues ((last + 2) % 4))
+    (λ yes. record {
+      next = (last + 2) % 4;
+      is = simp (no1, yes);
+      closer = closer-2 last low job h (differs _ no1);
+    }) (λ no2.
     by-test (waits queues ((last + 3) % 4))
-    (λ yes. record { next = (last + 3) % 4; is = simp (no1, no2, yes); closer = closer-3 last low job h (differs _ no1) (differs _ no2) }) (λ no3.
+    (λ yes. record {
+      next = (last + 3) % 4;
+      is = simp (no1, no2, yes);
+      closer = closer-3 last low job h (differs _ no1) (differs _ no2);
+    }) (λ no3.
     let e : last ≡ job = only-last last low job h (differs _ no1) (differs _ no2) (differs _ no3) in
     record { next = last; is = simp (no1, no2, no3, ap (waits queues) e ∙ some); closer = λ ne. absurd (ne e) })))

@@ -33,17 +33,32 @@ pub record Kept (queue : Queue) : Type 0 where
 
 -- eight elements moved up by one, the last one left standing
 moved-up : {A : Type 0} (xs : List A) (d : A) → length xs ≡ 8
-    → getD xs 1 d ∷ getD xs 2 d ∷ getD xs 3 d ∷ getD xs 4 d ∷ getD xs 5 d ∷ getD xs 6 d ∷ getD xs 7 d ∷ getD xs 7 d ∷ [] ≡ drop 1 xs ++ (getD xs 7 d ∷ [])
+    → getD xs 1 d ∷ getD xs 2 d ∷ getD xs 3 d ∷ getD xs 4 d ∷ getD xs 5 d ∷ getD xs 6 d ∷ getD xs 7 d ∷ getD xs 7 d ∷ []
+    ≡ drop 1 xs ++ (getD xs 7 d ∷ [])
 moved-up xs d eight =
-    rw (drop-cons xs 1 d (omega arith), drop-cons xs 2 d (omega arith), drop-cons xs 3 d (omega arith), drop-cons xs 4 d (omega arith), drop-cons xs 5 d (omega arith), drop-cons xs 6 d (omega arith), drop-cons xs 7 d (omega arith), drop-of-length-le xs {i = 8} (omega arith))
+    rw (
+      drop-cons xs 1 d (omega arith),
+      drop-cons xs 2 d (omega arith),
+      drop-cons xs 3 d (omega arith),
+      drop-cons xs 4 d
+          (omega arith),
+      drop-cons xs 5 d (omega arith),
+      drop-cons xs 6 d (omega arith),
+      drop-cons xs 7 d
+          (omega arith),
+      drop-of-length-le xs {i = 8} (omega arith),
+    )
 
 -- those that are left
-after-first : {A : Type 0} (xs ys : List A) (n : ℕ) → 0 < n → n ≤ length xs → take (n - 1) (drop 1 xs ++ ys) ≡ drop 1 (take n xs)
+after-first : {A : Type 0} (xs ys : List A) (n : ℕ) → 0 < n → n ≤ length xs
+    → take (n - 1) (drop 1 xs ++ ys) ≡ drop 1 (take n xs)
 after-first xs ys zero some inside = absurd (omega arith)
 after-first [] ys (suc m) some inside = absurd (omega arith)
-after-first (x ∷ xs) ys (suc m) some inside = let e : suc m - 1 ≡ m = omega arith in rw e (take-append-le m xs ys (le-of-suc-le-suc inside))
+after-first (x ∷ xs) ys (suc m) some inside =
+    let e : suc m - 1 ≡ m = omega arith in rw e (take-append-le m xs ys (le-of-suc-le-suc inside))
 
-first-of : {A : Type 0} (xs : List A) (n : ℕ) (d : A) → 0 < n → n ≤ length xs → take n xs ≡ getD xs 0 d ∷ drop 1 (take n xs)
+first-of : {A : Type 0} (xs : List A) (n : ℕ) (d : A) → 0 < n → n ≤ length xs
+    → take n xs ≡ getD xs 0 d ∷ drop 1 (take n xs)
 first-of xs zero d some inside = absurd (omega arith)
 first-of [] (suc m) d some inside = absurd (omega arith)
 first-of (x ∷ xs) (suc m) d some inside = refl
@@ -54,20 +69,23 @@ module _ (queue : Queue) (kept : Kept queue) where
   unfolding waitingIn
   waiting-length = simp length-take (omega (arith, kept .eight, kept .few))
 
-  pub one-more : (store : Store) → queue .length < 8 → waitingIn (withStore queue store) ≡ waitingIn queue ++ (store ∷ [])
+  pub one-more : (store : Store) → queue .length < 8
+      → waitingIn (withStore queue store) ≡ waitingIn queue ++ (store ∷ [])
   unfolding waitingIn
   one-more store room =
       let inside : queue .length < length (queue .stores) = omega (arith, kept .eight) in
       rw add-one (take-suc-set (queue .stores) (queue .length) store inside)
 
   pub more-kept : (store : Store) → queue .length < 8 → Kept (withStore queue store)
-  more-kept store room = record { eight = length-set (queue .stores) (queue .length) store ∙ kept .eight; few = omega arith }
+  more-kept store room =
+      record { eight = length-set (queue .stores) (queue .length) store ∙ kept .eight; few = omega arith }
 
   pub one-less : 0 < queue .length → waitingIn (withoutFirst queue) ≡ drop 1 (waitingIn queue)
   unfolding waitingIn
   one-less some =
       ap (λ (l : List Store). take (queue .length - 1) l) (moved-up (queue .stores) noStore (kept .eight))
-      ∙ after-first (queue .stores) (getD (queue .stores) 7 noStore ∷ []) (queue .length) some (omega (arith, kept .eight, kept .few))
+      ∙ after-first (queue .stores) (getD (queue .stores) 7 noStore ∷ []) (queue .length) some
+      (omega (arith, kept .eight, kept .few))
 
   pub less-kept : Kept (withoutFirst queue)
   less-kept = record { eight = refl; few = omega (arith, kept .few) }
@@ -90,18 +108,24 @@ fresh-kept =
     record { each = by-four (λ job. Kept (queueOf freshQueues job)) empty empty empty empty; low = omega arith }
 
 -- another queue for a job, and the queues of the others
-pub queue-same : (queues : Queues) (queue : Queue) (job : ℕ) → job ≤ 3 → queueOf (withQueue queues job queue) job ≡ queue
+pub queue-same : (queues : Queues) (queue : Queue) (job : ℕ) → job ≤ 3
+    → queueOf (withQueue queues job queue) job ≡ queue
 unfolding queueOf withQueue pick
 queue-same queues queue = by-four (λ job. queueOf (withQueue queues job queue) job ≡ queue) refl refl refl refl
 
-pub queue-other : (queues : Queues) (queue : Queue) (job : ℕ) → job ≤ 3 → (k : ℕ) → k ≤ 3 → (job ≡ k → ⊥) → queueOf (withQueue queues job queue) k ≡ queueOf queues k
+pub queue-other : (queues : Queues) (queue : Queue) (job : ℕ) → job ≤ 3 → (k : ℕ) → k ≤ 3 → (job ≡ k → ⊥)
+    → queueOf (withQueue queues job queue) k ≡ queueOf queues k
 unfolding queueOf withQueue pick
 queue-other queues queue =
     by-four (λ job. (k : ℕ) → k ≤ 3 → (job ≡ k → ⊥) → queueOf (withQueue queues job queue) k ≡ queueOf queues k)
-    (by-four (λ k. (0 ≡ k → ⊥) → queueOf (withQueue queues 0 queue) k ≡ queueOf queues k) (λ differ. absurd (differ refl)) (λ differ. refl) (λ differ. refl) (λ differ. refl))
-    (by-four (λ k. (1 ≡ k → ⊥) → queueOf (withQueue queues 1 queue) k ≡ queueOf queues k) (λ differ. refl) (λ differ. absurd (differ refl)) (λ differ. refl) (λ differ. refl))
-    (by-four (λ k. (2 ≡ k → ⊥) → queueOf (withQueue queues 2 queue) k ≡ queueOf queues k) (λ differ. refl) (λ differ. refl) (λ differ. absurd (differ refl)) (λ differ. refl))
-    (by-four (λ k. (3 ≡ k → ⊥) → queueOf (withQueue queues 3 queue) k ≡ queueOf queues k) (λ differ. refl) (λ differ. refl) (λ differ. refl) (λ differ. absurd (differ refl)))
+    (by-four (λ k. (0 ≡ k → ⊥) → queueOf (withQueue queues 0 queue) k ≡ queueOf queues k)
+    (λ differ. absurd (differ refl)) (λ differ. refl) (λ differ. refl) (λ differ. refl))
+    (by-four (λ k. (1 ≡ k → ⊥) → queueOf (withQueue queues 1 queue) k ≡ queueOf queues k) (λ differ. refl)
+    (λ differ. absurd (differ refl)) (λ differ. refl) (λ differ. refl))
+    (by-four (λ k. (2 ≡ k → ⊥) → queueOf (withQueue queues 2 queue) k ≡ queueOf queues k) (λ differ. refl)
+    (λ differ. refl) (λ differ. absurd (differ refl)) (λ differ. refl))
+    (by-four (λ k. (3 ≡ k → ⊥) → queueOf (withQueue queues 3 queue) k ≡ queueOf queues k) (λ differ. refl)
+    (λ differ. refl) (λ differ. refl) (λ differ. absurd (differ refl)))
 
 pub last-same : (queues : Queues) (queue : Queue) (job : ℕ) → job ≤ 3 → withQueue queues job queue .last ≡ queues .last
 unfolding withQueue pick
@@ -117,13 +141,18 @@ module _ (queues : Queues) (kept : AllKept queues) (job : ℕ) (within : job ≤
   with-kept : (queue : Queue) → Kept queue → (k : ℕ) → k ≤ 3 → Kept (queueOf (withQueue queues job queue) k)
   with-kept queue whole k low =
       by-test (eqb job k)
-      (λ same. subst Kept (sym (queue-same queues queue job within) ∙ ap (queueOf (withQueue queues job queue)) (eqb-true job k same)) whole)
-      (λ differ. subst Kept (sym (queue-other queues queue job within k low (eqb-false job k differ))) (kept .each k low))
+      (λ same. subst Kept
+      (sym (queue-same queues queue job within) ∙ ap (queueOf (withQueue queues job queue)) (eqb-true job k same))
+      whole)
+      (λ differ. subst Kept (sym (queue-other queues queue job within k low (eqb-false job k differ)))
+      (kept .each k low))
 
   module _ (store : Store) (room : own .length < 8) where
     pub queued-same : waiting (queued queues job store) job ≡ waiting queues job ++ (store ∷ [])
     unfolding queued
-    queued-same = ap waitingIn (queue-same queues (withStore own store) job within) ∙ one-more own (kept .each job within) store room
+    queued-same =
+        ap waitingIn (queue-same queues (withStore own store) job within)
+        ∙ one-more own (kept .each job within) store room
 
     pub queued-other : (k : ℕ) → k ≤ 3 → (job ≡ k → ⊥) → waiting (queued queues job store) k ≡ waiting queues k
     unfolding queued
@@ -153,7 +182,8 @@ module _ (queues : Queues) (kept : AllKept queues) (job : ℕ) (within : job ≤
 
     pub served-same : waiting (served queues job) job ≡ drop 1 (waiting queues job)
     unfolding served queueOf
-    served-same = ap waitingIn (queue-same queues (withoutFirst own) job within) ∙ one-less own (kept .each job within) some-wait
+    served-same =
+        ap waitingIn (queue-same queues (withoutFirst own) job within) ∙ one-less own (kept .each job within) some-wait
 
     pub served-other : (k : ℕ) → k ≤ 3 → (job ≡ k → ⊥) → waiting (served queues job) k ≡ waiting queues k
     unfolding served queueOf
@@ -161,16 +191,19 @@ module _ (queues : Queues) (kept : AllKept queues) (job : ℕ) (within : job ≤
 
     pub served-kept : AllKept (served queues job)
     unfolding served queueOf
-    served-kept = record { each = with-kept (withoutFirst own) (less-kept own (kept .each job within)); low = omega arith }
+    served-kept =
+        record { each = with-kept (withoutFirst own) (less-kept own (kept .each job within)); low = omega arith }
 
   pub served-last : served queues job .last ≡ job
   unfolding served
   served-last = refl
 
 -- a job waits just where its list is not empty
-pub waits-some : (queues : Queues) → AllKept queues → (job : ℕ) → job ≤ 3 → 0 < length (waiting queues job) → waits queues job ≡ true
+pub waits-some : (queues : Queues) → AllKept queues → (job : ℕ) → job ≤ 3 → 0 < length (waiting queues job)
+    → waits queues job ≡ true
 unfolding waits
-waits-some queues kept job low some = lt-ltb 0 (queueOf queues job .length) (omega (arith, waiting-length (queueOf queues job) (kept .each job low)))
+waits-some queues kept job low some =
+    lt-ltb 0 (queueOf queues job .length) (omega (arith, waiting-length (queueOf queues job) (kept .each job low)))
 
 -- what is kept is in range
 pub kept-sound : (queues : Queues) → AllKept queues → areSound queues ≡ true

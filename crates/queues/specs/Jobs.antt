@@ -1,4 +1,4 @@
--- The queues of the four jobs, and whose turn it is (document 02, Wish 8).
+-- The queues of the four jobs, and whose turn it is (document 02, request 8).
 -- Assumes nothing.
 use Prim.Native.Nat.{ℕ, _+_, _%_}
 use mathlib.Core.Bool.{Bool, _&&_}
@@ -21,7 +21,8 @@ freshQueues = record { q0 = emptyQueue; q1 = emptyQueue; q2 = emptyQueue; q3 = e
 
 -- the queue of a job
 unfoldable pub queueOf : Queues → ℕ → Queue
-queueOf queues job = pick (eqb job 0) (queues .q0) (pick (eqb job 1) (queues .q1) (pick (eqb job 2) (queues .q2) (queues .q3)))
+queueOf queues job =
+    pick (eqb job 0) (queues .q0) (pick (eqb job 1) (queues .q1) (pick (eqb job 2) (queues .q2) (queues .q3)))
 
 -- the queues with another one for a job
 unfoldable pub withQueue : Queues → ℕ → Queue → Queues
@@ -34,7 +35,8 @@ withQueue queues job queue =
 -- "Refusal 1 gains a queue's length, 0-8, and the last job served, 0-3; a queued store's bytes may have any value."
 unfoldable pub areSound : Queues → Bool
 areSound queues =
-    (((leb (queues .q0 .length) queueLimit && leb (queues .q1 .length) queueLimit) && leb (queues .q2 .length) queueLimit)
+    (((leb (queues .q0 .length) queueLimit && leb (queues .q1 .length) queueLimit)
+    && leb (queues .q2 .length) queueLimit)
     && leb (queues .q3 .length) queueLimit)
     && ltb (queues .last) jobs
 

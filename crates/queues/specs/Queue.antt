@@ -1,4 +1,5 @@
--- A job's queue (document 02, Wish 8): "The buyer's four jobs each queue up to eight stores, each given as its address and four operand bytes."
+-- A job's queue (document 02, request 8): "The buyer's four jobs each queue up to eight stores, each given as its
+-- address and four operand bytes."
 -- Assumes nothing.
 use Prim.Native.Nat.{ℕ, _+_, _-_}
 use mathlib.Core.List.{List, [], _∷_}
@@ -16,7 +17,11 @@ noStore = record { address = 0; first = 0; second = 0; third = 0; fourth = 0 }
 
 -- nothing waits
 abbrev pub emptyQueue : Queue
-emptyQueue = record { stores = noStore ∷ noStore ∷ noStore ∷ noStore ∷ noStore ∷ noStore ∷ noStore ∷ noStore ∷ []; length = 0 }
+emptyQueue =
+    record {
+      stores = noStore ∷ noStore ∷ noStore ∷ noStore ∷ noStore ∷ noStore ∷ noStore ∷ noStore ∷ [];
+      length = 0;
+    }
 
 -- the stores that wait, the one that came first in front
 unfoldable pub waitingIn : Queue → List Store
@@ -39,6 +44,7 @@ abbrev pub withoutFirst : Queue → Queue
 withoutFirst queue =
     record {
       stores =
-          placed queue 1 ∷ placed queue 2 ∷ placed queue 3 ∷ placed queue 4 ∷ placed queue 5 ∷ placed queue 6 ∷ placed queue 7 ∷ placed queue 7 ∷ [];
+          placed queue 1 ∷ placed queue 2 ∷ placed queue 3 ∷ placed queue 4
+          ∷ placed queue 5 ∷ placed queue 6 ∷ placed queue 7 ∷ placed queue 7 ∷ [];
       length = queue .length - 1;
     }

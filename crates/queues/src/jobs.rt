@@ -9,7 +9,9 @@ use operations::store::Store;
 ghost use mathlib.Core.Bool.{true};
 ghost use mathlib.Core.Path.{_≡_};
 ghost use Prim.Native.Nat.{_<_, _≤_};
-ghost use Rattle.queues.specs.Jobs.{freshQueues, queueOf, withQueue, areSound, waits, turnOf, queued, nextStore, served};
+ghost use Rattle.queues.specs.Queue.{queueLimit};
+ghost use Rattle.queues.specs.Jobs.{jobs, freshQueues, queueOf, withQueue, areSound, waits, turnOf, queued};
+ghost use Rattle.queues.specs.Jobs.{nextStore, served};
 
 // The number of jobs.
 pub const JOBS: u8 = 4;
@@ -56,7 +58,7 @@ pub fn queue_of(queues: Queues, job: u8) -> Queue
 }
 
 // The queues with another one for a job.
-pub fn with_queue(mut queues: Queues, job: u8, queue: Queue) -> Queues
+fn with_queue(mut queues: Queues, job: u8, queue: Queue) -> Queues
     ensures { λ r. ⌜ r ≡ withQueue queues job queue ⌝ }
 {
     match job {
@@ -88,7 +90,7 @@ fn waits(queues: Queues, job: u8) -> bool
 
 // The first job with a store queued, from the one after the last served.
 pub fn turn_of(queues: Queues) -> Turn
-    requires { ⌜ queues .last < 4 ⌝ }
+    requires { ⌜ queues .last < jobs ⌝ }
     ensures { λ r. ⌜ r ≡ turnOf queues ⌝ }
 {
     let first = (queues.last + 1) % JOBS;
@@ -111,7 +113,7 @@ pub fn turn_of(queues: Queues) -> Turn
 
 // The queues with a store more for a job.
 pub fn queued(queues: Queues, job: u8, store: Store) -> Queues
-    requires { ⌜ queueOf queues job .length < 8 ⌝ }
+    requires { ⌜ queueOf queues job .length < queueLimit ⌝ }
     ensures { λ r. ⌜ r ≡ queued queues job store ⌝ }
 {
     let longer = with_store(queue_of(queues, job), store);

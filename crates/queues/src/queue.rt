@@ -2,19 +2,19 @@
 use operations::store::Store;
 ghost use mathlib.Core.Path.{_≡_};
 ghost use Prim.Native.Nat.{_<_, _≤_};
-ghost use Rattle.queues.specs.Queue.{noStore, emptyQueue, withStore, firstStore, withoutFirst};
+ghost use Rattle.queues.specs.Queue.{queueLimit, noStore, emptyQueue, withStore, firstStore, withoutFirst};
 
 // The most stores that wait in a queue.
 pub const QUEUE_LIMIT: u8 = 8;
 
 // The stores stand in order from place 0; what stands behind the length waits no more.
 pub struct Queue {
-    pub stores: [Store; 8],
+    pub stores: [Store; QUEUE_LIMIT as usize],
     pub length: u8,
 }
 
 // A store of zeros, which names no drive.
-pub fn no_store() -> Store
+fn no_store() -> Store
     ensures { λ r. ⌜ r ≡ noStore ⌝ }
 {
     Store {
@@ -39,7 +39,7 @@ pub fn empty_queue() -> Queue
 
 // A queue with a store more, behind the others.
 pub fn with_store(queue: Queue, store: Store) -> Queue
-    requires { ⌜ queue .length < 8 ⌝ }
+    requires { ⌜ queue .length < queueLimit ⌝ }
     ensures { λ r. ⌜ r ≡ withStore queue store ⌝ }
 {
     let mut next = queue;

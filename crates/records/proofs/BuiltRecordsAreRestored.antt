@@ -1,11 +1,12 @@
--- A GCR record that was built and spoiled is restored to the bytes that it was built from: what the definitions of builder and restorer come to.
+-- A GCR record that was built and spoiled is restored to the bytes that it was built from: what the definitions of
+-- builder and restorer come to.
 -- Assumes nothing.
 use mathlib.Core.Path.{_≡_, ap, sym, _∙_}
 use mathlib.Core.List.{List}
 use Prim.Native.Nat.{ℕ, _≤_}
 use native.Mathlib.Omega.{arith}
 use lib.ListN.{length}
-use Rattle.common.specs.Given.{given}
+use Rattle.common.specs.Space.{overwrite}
 use Rattle.marks.specs.Marks.{Once}
 use Rattle.records.specs.Count.{limit, countBytes, countOf}
 use Rattle.records.specs.Image.{imageOf, imageLength, markCount}
@@ -46,8 +47,12 @@ module _ (bytes image marks : List ℕ) (fits : length bytes ≤ limit) (s : Sho
 
 -- The restorer does not refuse, and gives the bytes at the start of the space.
 pub built-records-are-restored :
-    (bytes image marks space : List ℕ) → length bytes ≤ limit → Spoiled (imageOf bytes 1) image marks → length bytes ≤ length space
-    → (restoreRefusal image marks (length space) ≡ 0) × (restoreInto image marks space ≡ given bytes space)
+    (bytes image marks space : List ℕ) → length bytes ≤ limit → Spoiled (imageOf bytes 1) image marks
+    → length bytes ≤ length space
+    → (restoreRefusal image marks (length space) ≡ 0) × (restoreInto image marks space ≡ overwrite bytes space)
 built-records-are-restored bytes image marks space fits s room =
-    let none = accepted bytes image marks fits (s .shown) (s .once) (length space) room in
-    (none, restorer-gives image marks space none ∙ ap (λ (l : List ℕ). given l space) (restored-are-the-bytes bytes image marks fits (s .shown) (s .once)))
+    let none = accepted bytes image marks fits (s .shown) (s .once) (length space) room in (
+      none,
+      restorer-gives image marks space none
+          ∙ ap (λ (l : List ℕ). overwrite l space) (restored-are-the-bytes bytes image marks fits (s .shown) (s .once)),
+    )

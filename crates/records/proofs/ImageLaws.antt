@@ -10,13 +10,14 @@ use lib.ListN.{length, take, drop, getD, replicate, length-append, List·getD-ap
 use lib.Seq.{getD-take}
 use borrow.Author.Tests.{ne-eqb}
 use Rattle.common.specs.Pick.{pick}
-use Rattle.common.specs.Given.{filled}
-use Rattle.common.proofs.GivenLaws.{filled-length, filled-further}
+use Rattle.common.specs.Space.{filled}
+use Rattle.common.proofs.SpaceLaws.{filled-length, filled-further}
 use Rattle.common.proofs.PickLaws.{pick-yes, pick-by}
 use Rattle.blockettes.specs.Blockettes.{checkOf}
 use Rattle.blockettes.proofs.Checked.{check-length}
 use Rattle.records.specs.Count.{limit, rotated, unrotated, countBytes, countOf}
-use Rattle.records.specs.Image.{blocketteCount, hasBlockettes, blockettesOf, bodyOf, imageOf, imageLength, markCount}
+use Rattle.records.specs.Image.{blocketteCount, hasBlockettes, blockettesOf, bodyOf, imageOf, imageLength}
+use Rattle.records.specs.Image.{markCount}
 
 -- ---- the count
 
@@ -34,8 +35,10 @@ word-said c h = omega arith
 pub count-said : (image : List ℕ) (c : ℕ) → c ≤ 65535 → take 2 image ≡ countBytes c → countOf image ≡ c
 unfolding countBytes countOf
 count-said image c h e =
-    let high : getD image 0 0 ≡ rotated c / 256 = sym (getD-take 2 image 0 0 (omega arith)) ∙ ap (λ (l : List ℕ). getD l 0 0) e in
-    let low : getD image 1 0 ≡ rotated c % 256 = sym (getD-take 2 image 1 0 (omega arith)) ∙ ap (λ (l : List ℕ). getD l 1 0) e in
+    let high : getD image 0 0
+    ≡ rotated c / 256 = sym (getD-take 2 image 0 0 (omega arith)) ∙ ap (λ (l : List ℕ). getD l 0 0) e in
+    let low : getD image 1 0
+    ≡ rotated c % 256 = sym (getD-take 2 image 1 0 (omega arith)) ∙ ap (λ (l : List ℕ). getD l 1 0) e in
     rw (high, low) (word-said c h)
 
 -- ---- the number of blockettes
@@ -50,14 +53,17 @@ pub blockettes-few : (c : ℕ) → c ≤ 65535 → blocketteCount c ≤ 256
 unfolding blocketteCount
 blockettes-few c h = omega arith
 
-pub blockettes-length : (bytes : List ℕ) (n : ℕ) → length bytes ≤ 256 * n → length (blockettesOf bytes n) ≡ 256 * (n + 2)
+pub blockettes-length : (bytes : List ℕ) (n : ℕ) → length bytes ≤ 256 * n
+    → length (blockettesOf bytes n) ≡ 256 * (n + 2)
 unfolding blockettesOf
 blockettes-length bytes n h = simp (length-append, filled-length bytes (256 * n) h, check-length) (omega arith)
 
 -- filled first or not, the blockettes are the same
-pub blockettes-filled : (bytes : List ℕ) (m n : ℕ) → length bytes ≤ m → m ≤ 256 * n → blockettesOf (filled bytes m) n ≡ blockettesOf bytes n
+pub blockettes-filled : (bytes : List ℕ) (m n : ℕ) → length bytes ≤ m → m ≤ 256 * n
+    → blockettesOf (filled bytes m) n ≡ blockettesOf bytes n
 unfolding blockettesOf
-blockettes-filled bytes m n h k = ap (λ (x : List ℕ). x ++ (checkOf x n 1 ++ checkOf x n 0)) (filled-further bytes m (256 * n) h k)
+blockettes-filled bytes m n h k =
+    ap (λ (x : List ℕ). x ++ (checkOf x n 1 ++ checkOf x n 0)) (filled-further bytes m (256 * n) h k)
 
 -- ---- with blockettes and without
 
@@ -83,7 +89,8 @@ pub body-gcr : (bytes : List ℕ) (density : ℕ) → hasBlockettes (length byte
 unfolding bodyOf pick
 body-gcr bytes density h = simp h
 
-pub body-plain : (bytes : List ℕ) (density : ℕ) → hasBlockettes (length bytes) density ≡ false → bodyOf bytes density ≡ bytes
+pub body-plain : (bytes : List ℕ) (density : ℕ) → hasBlockettes (length bytes) density ≡ false
+    → bodyOf bytes density ≡ bytes
 unfolding bodyOf pick
 body-plain bytes density h = simp h
 
@@ -95,7 +102,12 @@ image-length bytes density = go (hasBlockettes (length bytes) density) refl
         → length (countBytes (length bytes) ++ bodyOf bytes density) ≡ imageLength (length bytes) density
     go true h =
         let n = blocketteCount (length bytes) in
-        simp (body-gcr bytes density h, length-gcr (length bytes) density h, blockettes-length bytes n (blockettes-hold (length bytes))) (omega arith)
+        simp (
+          body-gcr bytes density h,
+          length-gcr (length bytes) density h,
+          blockettes-length bytes n
+              (blockettes-hold (length bytes)),
+        ) (omega arith)
     go false h = simp (body-plain bytes density h, length-plain (length bytes) density h) (omega arith)
 
 -- an image has room for its bytes
@@ -114,7 +126,8 @@ unfolding blocketteCount
 blockettes-tight c = omega arith
 
 -- bytes filled to whole blockettes
-pub whole-blockettes : (bytes : List ℕ) → length (filled bytes (256 * blocketteCount (length bytes))) ≡ 256 * blocketteCount (length bytes)
+pub whole-blockettes : (bytes : List ℕ)
+    → length (filled bytes (256 * blocketteCount (length bytes))) ≡ 256 * blocketteCount (length bytes)
 whole-blockettes bytes = filled-length bytes (256 * blocketteCount (length bytes)) (blockettes-hold (length bytes))
 
 -- a GCR record has blockettes, unless it is empty
@@ -130,7 +143,8 @@ marks-of c h = pick-yes (blocketteCount c + 2) 0 (has-some c h)
 -- in either density no more than that
 pub marks-most : (c density : ℕ) → markCount c density ≤ blocketteCount c + 2
 unfolding markCount
-marks-most c density = pick-by (λ (n : ℕ). n ≤ blocketteCount c + 2) (hasBlockettes c density) (λ some. omega arith) (λ none. omega arith)
+marks-most c density =
+    pick-by (λ (n : ℕ). n ≤ blocketteCount c + 2) (hasBlockettes c density) (λ some. omega arith) (λ none. omega arith)
 
 -- a GCR image is its count and a blockette for each mark
 pub marks-fill : (c : ℕ) → imageLength c 1 ≡ 2 + 256 * markCount c 1
@@ -149,7 +163,8 @@ module _ (density : ℕ) (gcr : density ≡ 0 → ⊥) where
   pub image-alike : (bytes : List ℕ) → imageOf bytes density ≡ imageOf bytes 1
   unfolding imageOf bodyOf
   image-alike bytes =
-      ap (λ (b : Bool). countBytes (length bytes) ++ pick b (blockettesOf bytes (blocketteCount (length bytes))) bytes) (has-alike (length bytes))
+      ap (λ (b : Bool). countBytes (length bytes) ++ pick b (blockettesOf bytes (blocketteCount (length bytes))) bytes)
+      (has-alike (length bytes))
 
 module _ (bytes : List ℕ) (some : 0 < length bytes) where
   -- what follows the count
@@ -164,5 +179,6 @@ module _ (bytes : List ℕ) (some : 0 < length bytes) where
       let n = blocketteCount (length bytes) in
       let full = filled bytes (256 * n) in
       ap (λ (l : List ℕ). getD l i 0) body-is
-      ∙ List·getD-append full (checkOf full n 1 ++ checkOf full n 0) 0 i (omega (arith, whole-blockettes bytes, blockettes-hold (length bytes)))
+      ∙ List·getD-append full (checkOf full n 1 ++ checkOf full n 0) 0 i
+      (omega (arith, whole-blockettes bytes, blockettes-hold (length bytes)))
       ∙ List·getD-append bytes (replicate (256 * n - length bytes) 0) 0 i h

@@ -1,4 +1,5 @@
--- What mending the blockette at a place does to a string: its length stays, and each byte is that of the others or as it was.
+-- What mending the blockette at a place does to a string: its length stays, and each byte is that of the others or as
+-- it was.
 -- Assumes nothing.
 use mathlib.Core.Path.{_≡_, ap, subst, _∙_}
 use mathlib.Core.List.{List, _++_}
@@ -29,17 +30,22 @@ module _ (bytes new : List ℕ) (start : ℕ) where
   written-before : (i : ℕ) → i < start → i < length bytes → getD (writtenAt bytes start new) i 0 ≡ getD bytes i 0
   unfolding writtenAt
   written-before i before inside =
-      List·getD-append (take start bytes) (take (length bytes - start) new ++ drop (start + length new) bytes) 0 i (simp length-take (omega arith))
+      List·getD-append (take start bytes) (take (length bytes - start) new ++ drop (start + length new) bytes) 0 i
+      (simp length-take (omega arith))
       ∙ getD-take start bytes i 0 before
 
-  pub written-in : (j : ℕ) → j < length new → start + j < length bytes → getD (writtenAt bytes start new) (start + j) 0 ≡ getD new j 0
+  pub written-in : (j : ℕ) → j < length new → start + j < length bytes
+      → getD (writtenAt bytes start new) (start + j) 0 ≡ getD new j 0
   unfolding writtenAt
   written-in j short inside =
-      getD-behind (take start bytes) (take (length bytes - start) new ++ drop (start + length new) bytes) start j (length-take-le start bytes (omega arith))
-      ∙ List·getD-append (take (length bytes - start) new) (drop (start + length new) bytes) 0 j (simp length-take (omega arith))
+      getD-behind (take start bytes) (take (length bytes - start) new ++ drop (start + length new) bytes) start j
+      (length-take-le start bytes (omega arith))
+      ∙ List·getD-append (take (length bytes - start) new) (drop (start + length new) bytes) 0 j
+      (simp length-take (omega arith))
       ∙ getD-take (length bytes - start) new j 0 (omega arith)
 
-  written-behind : (i : ℕ) → start + length new ≤ i → i < length bytes → getD (writtenAt bytes start new) i 0 ≡ getD bytes i 0
+  written-behind : (i : ℕ) → start + length new ≤ i → i < length bytes
+      → getD (writtenAt bytes start new) i 0 ≡ getD bytes i 0
   unfolding writtenAt
   written-behind i behind inside =
       let rest = drop (start + length new) bytes in
@@ -48,14 +54,16 @@ module _ (bytes new : List ℕ) (start : ℕ) where
       let there : i ≡ start + (length new + j) = omega arith in
       let here : start + length new + j ≡ i = omega arith in
       ap (λ (k : ℕ). getD (take start bytes ++ (middle ++ rest)) k 0) there
-      ∙ getD-behind (take start bytes) (middle ++ rest) start (length new + j) (length-take-le start bytes (omega arith))
+      ∙ getD-behind (take start bytes) (middle ++ rest) start (length new + j)
+      (length-take-le start bytes (omega arith))
       ∙ ap (λ (l : List ℕ). getD (l ++ rest) (length new + j) 0) (take-all (length bytes - start) new (omega arith))
       ∙ getD-append-add new rest j 0
       ∙ getD-drop (start + length new) bytes j 0
       ∙ ap (λ (k : ℕ). getD bytes k 0) here
 
 -- a byte outside the blockette at a place, where that one is written
-pub written-elsewhere : (bytes new : List ℕ) (place : ℕ) → length new ≡ 256 → (i : ℕ) → i < length bytes → (i / 256 ≡ place → ⊥)
+pub written-elsewhere : (bytes new : List ℕ) (place : ℕ) → length new ≡ 256 → (i : ℕ) → i < length bytes
+    → (i / 256 ≡ place → ⊥)
     → getD (writtenAt bytes (256 * place) new) i 0 ≡ getD bytes i 0
 written-elsewhere bytes new place full i inside other =
     elim (decLe (suc i) (256 * place)) [
@@ -73,7 +81,8 @@ module _ (blockettes : List ℕ) (n place : ℕ) (bytes : List ℕ) where
       let others = othersOf blockettes (n + 2) place in
       let new = writtenAt bytes (256 * place) others in
       elim (decLe (suc place) n) [
-        | yes inside ↦ ap length (pick-yes new bytes (lt-ltb place n inside)) ∙ written-length bytes others (256 * place) (omega arith)
+        | yes inside ↦ ap length (pick-yes new bytes (lt-ltb place n inside))
+            ∙ written-length bytes others (256 * place) (omega arith)
         | no past ↦ ap length (pick-no new bytes (le-ltb place n (omega arith)))
       ]
 
@@ -87,10 +96,12 @@ module _ (blockettes : List ℕ) (n place : ℕ) (bytes : List ℕ) where
       let it : i ≡ 256 * place + i % 256 = omega arith in
       ap (λ (l : List ℕ). getD l i 0) (pick-yes new bytes (lt-ltb place n below))
       ∙ ap (λ (k : ℕ). getD new k 0) it
-      ∙ written-in bytes others (256 * place) (i % 256) (omega (arith, others-length blockettes (n + 2) place)) (omega arith)
+      ∙ written-in bytes others (256 * place) (i % 256) (omega (arith, others-length blockettes (n + 2) place))
+      (omega arith)
 
   -- a byte of another
-  pub mended-elsewhere : (i : ℕ) → i < length bytes → (i / 256 ≡ place → ⊥) → getD (mendAt blockettes n place bytes) i 0 ≡ getD bytes i 0
+  pub mended-elsewhere : (i : ℕ) → i < length bytes → (i / 256 ≡ place → ⊥)
+      → getD (mendAt blockettes n place bytes) i 0 ≡ getD bytes i 0
   unfolding mendAt
   mended-elsewhere i inside other =
       let others = othersOf blockettes (n + 2) place in

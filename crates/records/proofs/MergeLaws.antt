@@ -29,7 +29,8 @@ pass-numbers p =
     pick-by P (ltb (length (p .image)) 2) (λ short. nine)
     (λ two. pick-by P (not (eqb (length (p .image)) (imageLength (countOf (p .image)) 1))) (λ wrong. nine)
     (λ long. pick-by P (not (eqb (length (p .marks)) (markCount (countOf (p .image)) 1))) (λ wrong. nine)
-    (λ marked. pick-by P (legalMarks (p .marks)) (λ legal not-9 not-10. refl) (λ wrong not-9 not-10. absurd (not-10 refl)))))
+    (λ marked. pick-by P (legalMarks (p .marks)) (λ legal not-9 not-10. refl)
+    (λ wrong not-9 not-10. absurd (not-10 refl)))))
 
 module _ (p : Pass) (good : passRefusal p ≡ 0) where
   abbrev is-whole : IsWhole (p .image) (p .marks) 1
@@ -53,7 +54,8 @@ pub marks-alike :
     → countOf (first .image) ≡ countOf (second .image)
     → length (second .marks) ≡ length (first .marks)
 marks-alike first second one two same =
-    whole (second .image) (second .marks) 1 two .marked ∙ ap (λ (n : ℕ). markCount n 1) (sym same) ∙ sym (whole (first .image) (first .marks) 1 one .marked)
+    whole (second .image) (second .marks) 1 two .marked ∙ ap (λ (n : ℕ). markCount n 1) (sym same)
+    ∙ sym (whole (first .image) (first .marks) 1 one .marked)
 
 -- a part that goes to the end
 pub to-end : (l : List ℕ) → take (length l - 2) (drop 2 l) ≡ drop 2 l
@@ -77,7 +79,8 @@ pub record IsMergeable (first second : Pass) (imageSpace marksSpace : ℕ) : Typ
 pub pair-agrees :
     (first second : Pass)
     → pairRefusal first second ≡ 0
-    → (countOf (first .image) ≡ countOf (second .image)) × (clashes (drop 2 (first .image)) (first .marks) (drop 2 (second .image)) (second .marks) ≡ false)
+    → (countOf (first .image) ≡ countOf (second .image))
+    × (clashes (drop 2 (first .image)) (first .marks) (drop 2 (second .image)) (second .marks) ≡ false)
 unfolding pairRefusal
 pair-agrees first second e =
     let counts = not-refused _ _ _ (λ r. omega arith) e in

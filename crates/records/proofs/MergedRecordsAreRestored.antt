@@ -1,4 +1,5 @@
--- A GCR record that was built and read in two passes, of which each shows what was built, is merged and restored to the bytes that it was built from.
+-- A GCR record that was built and read in two passes, of which each shows what was built, is merged and restored to the
+-- bytes that it was built from.
 -- Assumes nothing.
 use mathlib.Core.Path.{_≡_, refl, sym, ap, ap₂, _∙_}
 use mathlib.Core.Bool.{Bool, false, not, _||_}
@@ -9,11 +10,12 @@ use lib.Dec.{eqb}
 use lib.ListN.{length, take, drop, getD, length-append, length-drop}
 use lib.Seq.{take-at, drop-at, length-take-le}
 use borrow.Author.Tests.{eq-eqb, le-ltb}
-use Rattle.common.specs.Given.{given}
+use Rattle.common.specs.Space.{overwrite}
 use Rattle.common.proofs.PickLaws.{pick-yes, pick-no}
 use Rattle.blockettes.specs.Blockettes.{blocketteAt}
 use Rattle.passes.specs.Passes.{clashes, mergedMarks, mergedBlockettes}
-use Rattle.passes.proofs.MergedLaws.{marks-length, mark-at, merged-legal, merged-good, blockettes-length, merged-at, none-clash}
+use Rattle.passes.proofs.MergedLaws.{marks-length, mark-at, merged-legal, merged-good, blockettes-length, merged-at}
+use Rattle.passes.proofs.MergedLaws.{none-clash}
 use Rattle.marks.specs.Marks.{Once}
 use Rattle.records.specs.Count.{limit, countOf}
 use Rattle.records.specs.Image.{imageOf}
@@ -52,7 +54,8 @@ module _ (built : List ℕ) (first second : Pass) (one : Shows built first) (two
   pub merged-shows : Shown built (mergedImage first second) marks
   unfolding mergedImage
   merged-shows =
-      let long = blockettes-length (drop 2 (first .image)) (first .marks) (drop 2 (second .image)) (second .marks) (body-long first one) (body-long second two) in
+      let long = blockettes-length (drop 2 (first .image)) (first .marks) (drop 2 (second .image)) (second .marks)
+      (body-long first one) (body-long second two) in
       let so-many = marks-length (first .marks) (second .marks) in
       record {
         whole = length-append (take 2 (first .image)) body ∙ ap₂ _+_ front long ∙ sym (one .marked);
@@ -62,8 +65,10 @@ module _ (built : List ℕ) (first second : Pass) (one : Shows built first) (two
         good = λ place within fine.
             let below : place < length (first .marks) = omega (arith, so-many) in
             ap (λ (l : List ℕ). blocketteAt l place) (drop-at (take 2 (first .image)) body 2 front)
-            ∙ merged-at (drop 2 (first .image)) (first .marks) (drop 2 (second .image)) (second .marks) (body-long first one) (body-long second two) place below
-            ∙ merged-good (drop 2 (first .image)) (drop 2 (second .image)) (blocketteAt (drop 2 built) place) (getD (first .marks) place 0) (getD (second .marks) place 0) place
+            ∙ merged-at (drop 2 (first .image)) (first .marks) (drop 2 (second .image)) (second .marks)
+            (body-long first one) (body-long second two) place below
+            ∙ merged-good (drop 2 (first .image)) (drop 2 (second .image)) (blocketteAt (drop 2 built) place)
+            (getD (first .marks) place 0) (getD (second .marks) place 0) place
             (sym (mark-at (first .marks) (second .marks) place below) ∙ fine)
             (one .good place below)
             (two .good place (omega (arith, as-many)));
@@ -71,9 +76,11 @@ module _ (built : List ℕ) (first second : Pass) (one : Shows built first) (two
 
 -- ---- of a built record
 
-module _ (bytes : List ℕ) (first second : Pass) (fits : length bytes ≤ limit) (one : Shows (imageOf bytes 1) first) (two : Shows (imageOf bytes 1) second) where
+module _ (bytes : List ℕ) (first second : Pass) (fits : length bytes ≤ limit) (one : Shows (imageOf bytes 1) first)
+    (two : Shows (imageOf bytes 1) second) where
   -- merging is not refused where both spaces have room
-  pub merging-is-accepted : (imageSpace marksSpace : ℕ) → length (first .image) ≤ imageSpace → length (first .marks) ≤ marksSpace
+  pub merging-is-accepted : (imageSpace marksSpace : ℕ) → length (first .image) ≤ imageSpace
+      → length (first .marks) ≤ marksSpace
       → mergeRefusal first second imageSpace marksSpace ≡ 0
   unfolding mergeRefusal eitherRefused pairRefusal
   merging-is-accepted imageSpace marksSpace image-room marks-room =
@@ -91,9 +98,12 @@ module _ (bytes : List ℕ) (first second : Pass) (fits : length bytes ≤ limit
       ∙ pick-no 11 0 (ap₂ _||_ (le-ltb _ _ image-room) (le-ltb _ _ marks-room))
 
   -- and restoring what it gives is the record
-  pub merged-records-are-restored : Once (mergedMarks (first .marks) (second .marks)) → (space : List ℕ) → length bytes ≤ length space
+  pub merged-records-are-restored : Once (mergedMarks (first .marks) (second .marks)) → (space : List ℕ)
+      → length bytes ≤ length space
       → (restoreRefusal (mergedImage first second) (mergedMarks (first .marks) (second .marks)) (length space) ≡ 0)
-      × (restoreInto (mergedImage first second) (mergedMarks (first .marks) (second .marks)) space ≡ given bytes space)
+      × (restoreInto (mergedImage first second) (mergedMarks (first .marks) (second .marks)) space
+      ≡ overwrite bytes space)
   merged-records-are-restored once space room =
-      built-records-are-restored bytes (mergedImage first second) (mergedMarks (first .marks) (second .marks)) space fits
+      built-records-are-restored bytes (mergedImage first second) (mergedMarks (first .marks) (second .marks))
+      space fits
       (record { shown = merged-shows (imageOf bytes 1) first second one two; once = once }) room

@@ -5,14 +5,15 @@ use mathlib.Core.List.{List, [], _∷_}
 use Prim.Native.Nat.{ℕ, _+_, _*_}
 use lib.ListN.{getD}
 use Rattle.common.specs.Pick.{pick}
-use Rattle.common.specs.Given.{filled}
+use Rattle.common.specs.Space.{filled}
 use Rattle.blockettes.specs.Xor.{_⊕_, xorAll}
 use Rattle.blockettes.specs.Blockettes.{blocketteAt, numbered, ofParity, foldParity, checkOf}
 use Rattle.marks.specs.declared.Defect.{Defect}
 use Rattle.marks.specs.Marks.{isError}
 use Rattle.marks.specs.Scan.{scanFrom, scanMarks, kindOf, numberOf, defectAt}
 use Rattle.records.specs.Count.{limit, rotated, countBytes}
-use Rattle.records.specs.Image.{blocketteCount, hasBlockettes, blockettesOf, bodyOf, imageOf, imageLength, markCount}
+use Rattle.records.specs.Image.{blocketteCount, hasBlockettes, blockettesOf, bodyOf, imageOf, imageLength}
+use Rattle.records.specs.Image.{markCount}
 use Rattle.records.specs.Place.{noPlace, isPlace, asCame, writtenBytes}
 use Rattle.records.specs.Build.{buildRefusal, builtBytes}
 
@@ -23,7 +24,8 @@ error mark kind number = record { mark = mark; kind = kind; number = number }
 abbrev none : Defect
 none = error 0 0 0
 
--- the marks of c = 600, blockettes 2, 1 and 0 and check blockettes 1 and 0: "mark 9 on blockette 1, 3 on check 0"; "6 on 2, 4 on 0"
+-- the marks of c = 600, blockettes 2, 1 and 0 and check blockettes 1 and 0: "mark 9 on blockette 1, 3 on check 0"; "6
+-- on 2, 4 on 0"
 abbrev oneOfEach : List ℕ
 oneOfEach = 15 ∷ 9 ∷ 15 ∷ 15 ∷ 3 ∷ []
 
@@ -50,7 +52,8 @@ pub record RecordCases : Type 0 where
   pub two-bytes : 256 * scanMarks twoEven .stop ≡ 512
   -- "c = 1, byte 5A: the 257th check byte is 5A": behind the count, one blockette and check blockette 1
   pub check-257 : getD (imageOf (0x5A ∷ []) 1) (2 + 256 + 256) 0 ≡ 0x5A
-  -- "The bench case of 16,385 now offers GO." (document 02, Wish 3): of the builder, within the limit, with a blockette more; 65,536 is 9
+  -- "The bench case of 16,385 now offers GO." (document 02, request 3): of the builder, within the limit, with a
+  -- blockette more; 65,536 is 9
   pub longest-before : buildRefusal 16384 1 noPlace 16898 ≡ 0
   pub longer : buildRefusal 16385 1 noPlace 17154 ≡ 0
   pub longest : buildRefusal 65535 1 noPlace 66050 ≡ 0
@@ -58,7 +61,8 @@ pub record RecordCases : Type 0 where
   -- 65,535 bytes are 256 blockettes, numbered in one byte, with 258 marks
   pub most-blockettes : blocketteCount 65535 ≡ 256
   pub most-marks : markCount 65535 1 ≡ 258
-  -- "The byte itself is written as it came, every record byte after it is zero" (document 02, Wish 6); with none, all are written
+  -- "The byte itself is written as it came, every record byte after it is zero" (document 02, request 6); with none,
+  -- all are written
   pub second-bad : builtBytes (0x11 ∷ 0x22 ∷ 0x33 ∷ 0x44 ∷ []) 1 ≡ 0x11 ∷ 0x22 ∷ 0 ∷ 0 ∷ []
   pub last-bad : builtBytes (0x11 ∷ 0x22 ∷ 0x33 ∷ 0x44 ∷ []) 3 ≡ 0x11 ∷ 0x22 ∷ 0x33 ∷ 0x44 ∷ []
   pub none-bad : builtBytes (0x11 ∷ 0x22 ∷ 0x33 ∷ 0x44 ∷ []) noPlace ≡ 0x11 ∷ 0x22 ∷ 0x33 ∷ 0x44 ∷ []
@@ -68,8 +72,10 @@ pub record RecordCases : Type 0 where
   pub last-place : buildRefusal 4 0 3 6 ≡ 0
 
 pub record-cases : RecordCases
-unfolding pick filled _⊕_ xorAll blocketteAt numbered ofParity foldParity checkOf isError scanFrom scanMarks kindOf numberOf defectAt
-    limit rotated countBytes blocketteCount hasBlockettes blockettesOf bodyOf imageOf imageLength markCount isPlace asCame writtenBytes buildRefusal
+unfolding pick filled _⊕_ xorAll blocketteAt numbered ofParity foldParity checkOf isError scanFrom scanMarks kindOf
+    numberOf defectAt
+    limit rotated countBytes blocketteCount hasBlockettes blockettesOf bodyOf imageOf imageLength markCount isPlace
+    asCame writtenBytes buildRefusal
 record-cases =
     record {
       count-5 = refl;

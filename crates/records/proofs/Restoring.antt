@@ -1,4 +1,5 @@
--- A built record with some blockettes spoiled is restored to its bytes, and the restorer accepts it: what `BuiltRecordsAreRestored` rests on.
+-- A built record with some blockettes spoiled is restored to its bytes, and the restorer accepts it: what
+-- `BuiltRecordsAreRestored` rests on.
 -- Assumes nothing.
 use mathlib.Core.Path.{_≡_, refl, sym, ap, _∙_}
 use mathlib.Core.Bool.{true, not}
@@ -10,7 +11,7 @@ use native.Mathlib.Omega.{arith}
 use lib.ListN.{length, take, drop, getD, length-drop}
 use lib.Seq.{getD-take, length-take-le, ext-getD}
 use borrow.Author.Tests.{eq-eqb, le-ltb}
-use Rattle.common.specs.Given.{given, filled}
+use Rattle.common.specs.Space.{overwrite, filled}
 use Rattle.common.proofs.PickLaws.{pick-yes, pick-no, where-done}
 use Rattle.blockettes.specs.Blockettes.{blocketteAt, othersOf}
 use Rattle.blockettes.proofs.Others.{others-same}
@@ -22,18 +23,22 @@ use Rattle.records.specs.Count.{countOf}
 use Rattle.records.specs.Image.{blocketteCount, blockettesOf, imageOf, imageLength, markCount}
 use Rattle.records.specs.Whole.{layoutRefusal, wholeRefusal}
 use Rattle.records.specs.Restore.{mendAt, restoreRefusal, restoredBytes, restoreInto}
-use Rattle.records.proofs.ImageLaws.{blockettes-tight, whole-blockettes, marks-of, body-is, body-front, image-holds}
+use Rattle.records.proofs.ImageLaws.{blockettes-tight, whole-blockettes, marks-of, body-is, body-front}
+use Rattle.records.proofs.ImageLaws.{image-holds}
 use Rattle.records.proofs.Mending.{mended-length, mended-here, mended-elsewhere}
 
 -- ---- a record whose blockettes are spoiled where they are marked
 
 module _ (bytes built blockettes marks : List ℕ) (n : ℕ) (count : n ≡ blocketteCount (length bytes))
     (front : (i : ℕ) → i < length bytes → getD built i 0 ≡ getD bytes i 0)
-    (each : (place : ℕ) → place < n + 2 → othersOf built (n + 2) place ≡ blocketteAt built place) (marked : length marks ≡ n + 2)
+    (each : (place : ℕ) → place < n + 2 → othersOf built (n + 2) place ≡ blocketteAt built place)
+    (marked : length marks ≡ n + 2)
     (once : ScannedOnce marks)
-    (good : (place : ℕ) → place < length marks → getD marks place 0 ≡ 15 → blocketteAt blockettes place ≡ blocketteAt built place) where
+    (good : (place : ℕ) → place < length marks → getD marks place 0 ≡ 15
+    → blocketteAt blockettes place ≡ blocketteAt built place) where
   -- the others of an error that is found restore its blockette as it was built
-  others-restore : (parity place : ℕ) → Found marks parity (length marks) place → place < n → othersOf blockettes (n + 2) place ≡ blocketteAt built place
+  others-restore : (parity place : ℕ) → Found marks parity (length marks) place → place < n
+      → othersOf blockettes (n + 2) place ≡ blocketteAt built place
   others-restore parity place found below =
       others-same blockettes built (n + 2) place (omega arith)
       (λ j inside same other.
@@ -43,7 +48,8 @@ module _ (bytes built blockettes marks : List ℕ) (n : ℕ) (count : n ≡ bloc
 
   -- a byte of a place that is so restored
   byte-mended : (place : ℕ) (old : List ℕ) (i : ℕ) → i < length bytes → length old ≡ length bytes → i / 256 ≡ place
-      → othersOf blockettes (n + 2) place ≡ blocketteAt built place → getD (mendAt blockettes n place old) i 0 ≡ getD bytes i 0
+      → othersOf blockettes (n + 2) place ≡ blocketteAt built place
+      → getD (mendAt blockettes n place old) i 0 ≡ getD bytes i 0
   unfolding blocketteCount
   byte-mended place old i inside as-long here restored =
       mended-here blockettes n place old i (omega arith) here (omega arith)
@@ -54,12 +60,16 @@ module _ (bytes built blockettes marks : List ℕ) (n : ℕ) (count : n ≡ bloc
   byte-good : (i : ℕ) → i < length bytes → getD marks (i / 256) 0 ≡ 15 → getD blockettes i 0 ≡ getD bytes i 0
   unfolding blocketteCount
   byte-good i inside fine =
-      sym (blockette-at blockettes i) ∙ ap (λ (l : List ℕ). getD l (i % 256) 0) (good (i / 256) (omega arith) fine) ∙ blockette-at built i
+      sym (blockette-at blockettes i) ∙ ap (λ (l : List ℕ). getD l (i % 256) 0) (good (i / 256) (omega arith) fine)
+      ∙ blockette-at built i
       ∙ front i inside
 
   -- a byte, after the odd and then the even error are mended
-  byte-restored : (old : List ℕ) → length old ≡ length bytes → ((i : ℕ) → i < length bytes → getD old i 0 ≡ getD blockettes i 0) → (i : ℕ)
-      → i < length bytes → getD (mendAt blockettes n (scanMarks marks .even) (mendAt blockettes n (scanMarks marks .odd) old)) i 0 ≡ getD bytes i 0
+  byte-restored : (old : List ℕ) → length old ≡ length bytes
+      → ((i : ℕ) → i < length bytes → getD old i 0 ≡ getD blockettes i 0) → (i : ℕ)
+      → i < length bytes
+      → getD (mendAt blockettes n (scanMarks marks .even) (mendAt blockettes n (scanMarks marks .odd) old)) i 0
+      ≡ getD bytes i 0
   unfolding blocketteCount
   byte-restored old as-long same i inside =
       let odd = scanMarks marks .odd in
@@ -83,7 +93,8 @@ module _ (bytes built blockettes marks : List ℕ) (n : ℕ) (count : n ≡ bloc
 
 -- each blockette of a GCR image is what the others of its parity restore
 body-others : (bytes : List ℕ) → 0 < length bytes → (place : ℕ) → place < blocketteCount (length bytes) + 2
-    → othersOf (drop 2 (imageOf bytes 1)) (blocketteCount (length bytes) + 2) place ≡ blocketteAt (drop 2 (imageOf bytes 1)) place
+    → othersOf (drop 2 (imageOf bytes 1)) (blocketteCount (length bytes) + 2) place
+    ≡ blocketteAt (drop 2 (imageOf bytes 1)) place
 unfolding blockettesOf
 body-others bytes some place h =
     let n = blocketteCount (length bytes) in
@@ -92,7 +103,8 @@ body-others bytes some place h =
 -- the bytes that it makes
 pub restored-bytes : (bytes image marks : List ℕ) → countOf image ≡ length bytes → 2 + length bytes ≤ length image
     → length marks ≡ markCount (length bytes) 1 → Once marks
-    → ((place : ℕ) → place < length marks → getD marks place 0 ≡ 15 → blocketteAt (drop 2 image) place ≡ blocketteAt (drop 2 (imageOf bytes 1)) place)
+    → ((place : ℕ) → place < length marks → getD marks place 0 ≡ 15
+    → blocketteAt (drop 2 image) place ≡ blocketteAt (drop 2 (imageOf bytes 1)) place)
     → restoredBytes image marks ≡ bytes
 unfolding restoredBytes
 restored-bytes bytes image marks said long marked once good =
@@ -112,7 +124,8 @@ restored-bytes bytes image marks said long marked once good =
     (λ i inside.
     let below : i < c = omega arith in
     let some : 0 < c = omega arith in
-    byte-restored bytes (drop 2 (imageOf bytes 1)) blocks marks n refl (body-front bytes some) (body-others bytes some) (marked ∙ marks-of c some)
+    byte-restored bytes (drop 2 (imageOf bytes 1)) blocks marks n refl (body-front bytes some) (body-others bytes some)
+    (marked ∙ marks-of c some)
     (scanned-once marks once) good old as-long (λ j h. getD-take c blocks j 0 h) i below)
 
 module _ (image marks : List ℕ) (long : length image ≡ imageLength (countOf image) 1)
@@ -137,7 +150,7 @@ module _ (image marks : List ℕ) (long : length image ≡ imageLength (countOf 
 
 -- what it leaves in the space where it answers 0
 pub restorer-gives : (image marks space : List ℕ) → restoreRefusal image marks (length space) ≡ 0
-    → restoreInto image marks space ≡ given (restoredBytes image marks) space
+    → restoreInto image marks space ≡ overwrite (restoredBytes image marks) space
 unfolding restoreInto
 restorer-gives image marks space accepted =
-    where-done (restoreRefusal image marks (length space)) (given (restoredBytes image marks) space) space accepted
+    where-done (restoreRefusal image marks (length space)) (overwrite (restoredBytes image marks) space) space accepted

@@ -1,5 +1,6 @@
--- Spoiled records there are: a built image is one, with nothing spoiled, and each stays one where one more blockette holds other bytes and is marked,
--- as long as its parity has no other error. So there are records with an odd and an even blockette that are really spoiled.
+-- Spoiled records there are: a built image is one, with nothing spoiled, and each stays one where one more blockette
+-- holds other bytes and is marked, as long as its parity has no other error. So there are records with an odd and an
+-- even blockette that are really spoiled.
 -- Assumes nothing.
 use mathlib.Core.Path.{_≡_, refl, sym, ap, _∙_}
 use mathlib.Core.Bool.{true, false≢true}
@@ -7,7 +8,8 @@ use mathlib.Core.List.{List, [], _∷_}
 use Prim.Native.Nat.{ℕ, zero, suc, _+_, _-_, _*_, _%_, _≤_, _<_}
 use native.Mathlib.Decide.{ℕ-discrete}
 use native.Mathlib.Omega.{arith}
-use lib.ListN.{length, take, drop, set, getD, replicate, length-append, length-drop, length-set, length-replicate, getD-replicate}
+use lib.ListN.{length, take, drop, set, getD, replicate, length-append, length-drop, length-set, length-replicate}
+use lib.ListN.{getD-replicate}
 use lib.Seq.{take-at, drop-at, length-take-le, getD-take, getD-drop, getD-set-same, getD-set-other, ext-getD}
 use borrow.Author.Tests.{le-leb}
 use Rattle.common.proofs.PickLaws.{both-hold}
@@ -32,7 +34,8 @@ bad-legal : (mark : ℕ) → IsBad mark → legalMark mark ≡ true
 unfolding legalMark
 bad-legal mark bad = simp (le-leb 1 mark (bad .low), le-leb mark 9 (bad .high))
 
-set-legal : (marks : List ℕ) (place mark : ℕ) → legalMark mark ≡ true → legalMarks marks ≡ true → legalMarks (set marks place mark) ≡ true
+set-legal : (marks : List ℕ) (place mark : ℕ) → legalMark mark ≡ true → legalMarks marks ≡ true
+    → legalMarks (set marks place mark) ≡ true
 unfolding legalMarks
 set-legal [] place mark new old = old
 set-legal (m ∷ marks) zero mark new old = simp (new, both-hold (legalMark m) (legalMarks marks) old .1)
@@ -71,50 +74,55 @@ module _ (bytes new : List ℕ) (place : ℕ) (full : length new ≡ 256) (room 
       ∙ sym (byte-of bytes other i small))
 
 -- an image with room for the blockette
-module _ (image new : List ℕ) (place : ℕ) (full : length new ≡ 256) (room : 2 + (256 * place + 256) ≤ length image) where
-  front : length (take 2 image) ≡ 2
-  front = length-take-le 2 image (omega arith)
+module _ (image new : List ℕ) (place : ℕ) (full : length new ≡ 256) (room : 2 + (256 * place + 256) ≤ length image)
+  where
+    front : length (take 2 image) ≡ 2
+    front = length-take-le 2 image (omega arith)
 
-  body-room : 256 * place + 256 ≤ length (drop 2 image)
-  body-room = simp length-drop (omega arith)
+    body-room : 256 * place + 256 ≤ length (drop 2 image)
+    body-room = simp length-drop (omega arith)
 
-  spoiled-front : take 2 (spoiledAt image place new) ≡ take 2 image
-  unfolding spoiledAt
-  spoiled-front = take-at (take 2 image) _ 2 front
+    spoiled-front : take 2 (spoiledAt image place new) ≡ take 2 image
+    unfolding spoiledAt
+    spoiled-front = take-at (take 2 image) _ 2 front
 
-  spoiled-body : drop 2 (spoiledAt image place new) ≡ writtenAt (drop 2 image) (256 * place) new
-  unfolding spoiledAt
-  spoiled-body = drop-at (take 2 image) _ 2 front
+    spoiled-body : drop 2 (spoiledAt image place new) ≡ writtenAt (drop 2 image) (256 * place) new
+    unfolding spoiledAt
+    spoiled-body = drop-at (take 2 image) _ 2 front
 
-  spoiled-length : length (spoiledAt image place new) ≡ length image
-  unfolding spoiledAt
-  spoiled-length =
-      let kept : length (writtenAt (drop 2 image) (256 * place) new) ≡ length (drop 2 image) =
-      written-length (drop 2 image) new (256 * place) (omega (arith, body-room))
-      in
-      simp (length-append, front, kept, length-drop) (omega arith)
+    spoiled-length : length (spoiledAt image place new) ≡ length image
+    unfolding spoiledAt
+    spoiled-length =
+        let kept : length (writtenAt (drop 2 image) (256 * place) new) ≡ length (drop 2 image) =
+        written-length (drop 2 image) new (256 * place) (omega (arith, body-room))
+        in
+        simp (length-append, front, kept, length-drop) (omega arith)
 
-  -- the spoiled blockette holds the bytes, and the others stand as they were
-  pub spoiled-here : blocketteAt (drop 2 (spoiledAt image place new)) place ≡ new
-  spoiled-here = ap (λ (l : List ℕ). blocketteAt l place) spoiled-body ∙ blockette-written (drop 2 image) new place full body-room
+    -- the spoiled blockette holds the bytes, and the others stand as they were
+    pub spoiled-here : blocketteAt (drop 2 (spoiledAt image place new)) place ≡ new
+    spoiled-here =
+        ap (λ (l : List ℕ). blocketteAt l place) spoiled-body ∙ blockette-written (drop 2 image) new place full body-room
 
-  pub spoiled-elsewhere : (other : ℕ) → (other ≡ place → ⊥) → 2 + (256 * other + 256) ≤ length image
-      → blocketteAt (drop 2 (spoiledAt image place new)) other ≡ blocketteAt (drop 2 image) other
-  spoiled-elsewhere other differs inside =
-      ap (λ (l : List ℕ). blocketteAt l other) spoiled-body
-      ∙ blockette-kept (drop 2 image) new place full body-room other differs (simp length-drop (omega arith))
+    pub spoiled-elsewhere : (other : ℕ) → (other ≡ place → ⊥) → 2 + (256 * other + 256) ≤ length image
+        → blocketteAt (drop 2 (spoiledAt image place new)) other ≡ blocketteAt (drop 2 image) other
+    spoiled-elsewhere other differs inside =
+        ap (λ (l : List ℕ). blocketteAt l other) spoiled-body
+        ∙ blockette-kept (drop 2 image) new place full body-room other differs (simp length-drop (omega arith))
 
 -- ---- spoiled records
 
 -- a built image with every blockette marked good
-pub spoiled-nowhere : (bytes : List ℕ) → Spoiled (imageOf bytes 1) (imageOf bytes 1) (replicate (markCount (length bytes) 1) 15)
+pub spoiled-nowhere : (bytes : List ℕ)
+    → Spoiled (imageOf bytes 1) (imageOf bytes 1) (replicate (markCount (length bytes) 1) 15)
 spoiled-nowhere bytes =
     let n = markCount (length bytes) 1 in
     record {
       shown = record {
         whole = refl;
         count = refl;
-        marked = image-length bytes 1 ∙ marks-fill (length bytes) ∙ ap (λ (k : ℕ). 2 + 256 * k) (sym (length-replicate n 15));
+        marked =
+            image-length bytes 1 ∙ marks-fill (length bytes)
+            ∙ ap (λ (k : ℕ). 2 + 256 * k) (sym (length-replicate n 15));
         legal = good-legal n;
         good = λ place below fine. refl;
       };
@@ -122,7 +130,8 @@ spoiled-nowhere bytes =
     }
 
 -- one blockette more that holds other bytes and is marked
-module _ (built image marks new : List ℕ) (place mark : ℕ) (s : Shown built image marks) (full : length new ≡ 256) (bad : IsBad mark)
+module _ (built image marks new : List ℕ) (place mark : ℕ) (s : Shown built image marks) (full : length new ≡ 256)
+    (bad : IsBad mark)
     (below : place < length marks) where
   inside : (p : ℕ) → p < length marks → 2 + (256 * p + 256) ≤ length image
   inside p h = omega (arith, s .whole, s .marked)
@@ -154,12 +163,15 @@ module _ (built image marks new : List ℕ) (place mark : ℕ) (s : Shown built 
 
 -- one error more, where its parity has none yet
 module _ (marks : List ℕ) (place mark : ℕ) (o : Once marks)
-    (alone : (j : ℕ) → j < length marks → isError (getD marks j 0) ≡ true → (length marks - 1 - j) % 2 ≡ (length marks - 1 - place) % 2 → ⊥) where
-  still-error : (j : ℕ) → (j ≡ place → ⊥) → isError (getD (set marks place mark) j 0) ≡ true → isError (getD marks j 0) ≡ true
+    (alone : (j : ℕ) → j < length marks → isError (getD marks j 0) ≡ true
+    → (length marks - 1 - j) % 2 ≡ (length marks - 1 - place) % 2 → ⊥) where
+  still-error : (j : ℕ) → (j ≡ place → ⊥) → isError (getD (set marks place mark) j 0) ≡ true
+      → isError (getD marks j 0) ≡ true
   still-error j other e = sym (ap isError (getD-set-other marks place j mark 0 other)) ∙ e
 
   more-once : (i j : ℕ) → i < length marks → j < length marks → isError (getD (set marks place mark) i 0) ≡ true
-      → isError (getD (set marks place mark) j 0) ≡ true → (length marks - 1 - i) % 2 ≡ (length marks - 1 - j) % 2 → i ≡ j
+      → isError (getD (set marks place mark) j 0) ≡ true → (length marks - 1 - i) % 2 ≡ (length marks - 1 - j) % 2
+      → i ≡ j
   more-once i j hi hj ei ej same =
       elim (ℕ-discrete i place) [
         | yes first ↦
@@ -175,7 +187,8 @@ module _ (marks : List ℕ) (place mark : ℕ) (o : Once marks)
       ]
 
   pub once-more : Once (set marks place mark)
-  once-more = let as-many : length (set marks place mark) ≡ length marks = length-set marks place mark in rw as-many more-once
+  once-more =
+      let as-many : length (set marks place mark) ≡ length marks = length-set marks place mark in rw as-many more-once
 
 -- ---- an odd and an even blockette spoiled
 
@@ -191,21 +204,25 @@ twoBad bytes first second = set (set (replicate (markCount (length bytes) 1) 15)
 abbrev pub twoSpoiled : List ℕ → List ℕ → List ℕ → List ℕ
 twoSpoiled bytes first second = spoiledAt (spoiledAt (imageOf bytes 1) 0 first) 1 second
 
-module _ (bytes first second : List ℕ) (mark₁ mark₂ : ℕ) (some : 0 < length bytes) (full₁ : length first ≡ 256) (full₂ : length second ≡ 256)
+module _ (bytes first second : List ℕ) (mark₁ mark₂ : ℕ) (some : 0 < length bytes) (full₁ : length first ≡ 256)
+    (full₂ : length second ≡ 256)
     (bad₁ : IsBad mark₁) (bad₂ : IsBad mark₂) where
   -- a record of at least one byte has three blockettes or more
   three : 3 ≤ markCount (length bytes) 1
   unfolding blocketteCount
   three = omega (arith, marks-of (length bytes) some)
 
-  one-spoiled : Spoiled (imageOf bytes 1) (spoiledAt (imageOf bytes 1) 0 first) (set (replicate (markCount (length bytes) 1) 15) 0 mark₁)
+  one-spoiled : Spoiled (imageOf bytes 1) (spoiledAt (imageOf bytes 1) 0 first)
+      (set (replicate (markCount (length bytes) 1) 15) 0 mark₁)
   one-spoiled =
       let n = markCount (length bytes) 1 in
       let goods : List ℕ = replicate n 15 in
       let long : length goods ≡ n = length-replicate n 15 in
       let before = spoiled-nowhere bytes in
       record {
-        shown = shown-more (imageOf bytes 1) (imageOf bytes 1) goods first 0 mark₁ (before .shown) full₁ bad₁ (omega (arith, three));
+        shown =
+            shown-more (imageOf bytes 1) (imageOf bytes 1) goods first 0 mark₁ (before .shown) full₁ bad₁
+            (omega (arith, three));
         once = once-more goods 0 mark₁ (before .once) (λ j h e same. no-error n j (omega arith) e);
       }
 
@@ -217,7 +234,8 @@ module _ (bytes first second : List ℕ) (mark₁ mark₂ : ℕ) (some : 0 < len
       let long : length (set goods 0 mark₁) ≡ n = length-set goods 0 mark₁ ∙ length-replicate n 15 in
       record {
         shown =
-            shown-more (imageOf bytes 1) (spoiledAt (imageOf bytes 1) 0 first) (set goods 0 mark₁) second 1 mark₂ (one-spoiled .shown) full₂ bad₂
+            shown-more (imageOf bytes 1) (spoiledAt (imageOf bytes 1) 0 first) (set goods 0 mark₁) second 1 mark₂
+            (one-spoiled .shown) full₂ bad₂
             (omega (arith, three));
         once =
             once-more (set goods 0 mark₁) 1 mark₂ (one-spoiled .once)
@@ -262,7 +280,8 @@ another-full blockette = length-replicate 256 ((getD blockette 0 0 + 1) % 256)
 pub another-differs : (blockette : List ℕ) → another blockette ≡ blockette → ⊥
 unfolding another
 another-differs blockette same =
-    let first : (getD blockette 0 0 + 1) % 256 ≡ getD blockette 0 0 = ap (λ (l : List ℕ). getD l 0 0) same in omega arith
+    let first : (getD blockette 0 0 + 1) % 256 ≡ getD blockette 0 0 = ap (λ (l : List ℕ). getD l 0 0) same in
+    omega arith
 
 -- with any marks of an error
 pub records-are-spoiled : (bytes : List ℕ) (mark₁ mark₂ : ℕ) → 0 < length bytes → IsBad mark₁ → IsBad mark₂
@@ -275,7 +294,11 @@ records-are-spoiled bytes mark₁ mark₂ some bad₁ bad₂ =
       twoSpoiled bytes (another first) (another second),
       record {
         spoiled = two-spoiled bytes (another first) (another second) mark₁ mark₂ some full₁ full₂ bad₁ bad₂;
-        first = λ same. another-differs first (sym (first-holds bytes (another first) (another second) mark₁ mark₂ some full₁ full₂ bad₁ bad₂) ∙ same);
-        second = λ same. another-differs second (sym (second-holds bytes (another first) (another second) mark₁ mark₂ some full₁ full₂ bad₁ bad₂) ∙ same);
+        first =
+            λ same. another-differs first
+            (sym (first-holds bytes (another first) (another second) mark₁ mark₂ some full₁ full₂ bad₁ bad₂) ∙ same);
+        second =
+            λ same. another-differs second
+            (sym (second-holds bytes (another first) (another second) mark₁ mark₂ some full₁ full₂ bad₁ bad₂) ∙ same);
       },
     )

@@ -1,4 +1,5 @@
--- Two passes there are of which neither can be restored alone, and which can be merged and restored: over every record of three blockettes of data.
+-- Two passes there are of which neither can be restored alone, and which can be merged and restored: over every record
+-- of three blockettes of data.
 -- Assumes nothing.
 use mathlib.Core.Path.{_≡_, refl, sym, subst, _∙_}
 use mathlib.Core.Bool.{true}
@@ -22,7 +23,8 @@ use Rattle.records.specs.Merge.{Pass, passOf}
 use Rattle.records.specs.Spoiled.{Shown, spoiledAt}
 use Rattle.records.proofs.BuiltRecordsAreRestored.{said, shown-accepted}
 use Rattle.records.proofs.MergedRecordsAreRestored.{Shows}
-use Rattle.records.proofs.Spoiling.{IsBad, another, another-full, no-error, shown-more, once-more, spoiled-nowhere}
+use Rattle.records.proofs.Spoiling.{IsBad, another, another-full, no-error, shown-more, once-more}
+use Rattle.records.proofs.Spoiling.{spoiled-nowhere}
 
 -- blockettes 2 and 0 and check blockette 0 are bad in the first, 1 and both check blockettes in the second
 abbrev pub firstMarks : List ℕ
@@ -65,11 +67,13 @@ module _ (bytes : List ℕ) (five : markCount (length bytes) 1 ≡ 5) where
   unspoiled = subst (λ (n : ℕ). Shown built built (replicate n 15)) five (spoiled-nowhere bytes .shown)
 
   -- one place more
-  worse : (places : List ℕ) (marks : List ℕ) (place mark : ℕ) → IsBad mark → place < length marks → Shown built (spoilings built places) marks
+  worse : (places : List ℕ) (marks : List ℕ) (place mark : ℕ) → IsBad mark → place < length marks
+      → Shown built (spoilings built places) marks
       → Shown built (spoilings built (place ∷ places)) (set marks place mark)
   unfolding spoilings
   worse places marks place mark is-bad below shown =
-      shown-more built (spoilings built places) marks (another (blocketteAt (drop 2 built) place)) place mark shown (another-full _) is-bad below
+      shown-more built (spoilings built places) marks (another (blocketteAt (drop 2 built) place)) place mark shown
+      (another-full _) is-bad below
 
   pub first-shows : Shows built (firstPass bytes)
   unfolding spoilings
@@ -89,7 +93,8 @@ module _ (bytes : List ℕ) (five : markCount (length bytes) 1 ≡ 5) where
 
   module _ (fits : length bytes ≤ limit) (space : ℕ) (room : length bytes ≤ space) where
     -- a pass that shows what was built and has two errors of one parity
-    alone : (p : Pass) → Shows built p → ltb (scanMarks (p .marks) .stop) (length (p .marks)) ≡ true → restoreRefusal (p .image) (p .marks) space ≡ 12
+    alone : (p : Pass) → Shows built p → ltb (scanMarks (p .marks) .stop) (length (p .marks)) ≡ true
+        → restoreRefusal (p .image) (p .marks) space ≡ 12
     unfolding restoreRefusal
     alone p shows stopped =
         pick-yes _ _ (eq-eqb _ 0 (shown-accepted bytes (p .image) (p .marks) fits shows))

@@ -21,7 +21,8 @@ pub record IsLaid (image marks : List ℕ) (c density : ℕ) : Type 0 where
   pub marked : length marks ≡ markCount c density
   pub legal : legalMarks marks ≡ true
 
-pub laid : (image marks : List ℕ) (c density : ℕ) → layoutRefusal image marks c density ≡ 0 → IsLaid image marks c density
+pub laid : (image marks : List ℕ) (c density : ℕ) → layoutRefusal image marks c density ≡ 0
+    → IsLaid image marks c density
 unfolding layoutRefusal
 laid image marks c density e =
     let i = not-refused _ _ _ (λ r. omega arith) e in
@@ -47,7 +48,8 @@ whole image marks density e =
     record { two = ltb-false _ _ (t .0); long = lies .long; marked = lies .marked; legal = lies .legal }
 
 -- the restorer does not refuse: the test is passed, and the bytes fit
-pub restorable : (image marks : List ℕ) (space : ℕ) → restoreRefusal image marks space ≡ 0 → IsWhole image marks 1 × (countOf image ≤ space)
+pub restorable : (image marks : List ℕ) (space : ℕ) → restoreRefusal image marks space ≡ 0
+    → IsWhole image marks 1 × (countOf image ≤ space)
 unfolding restoreRefusal
 restorable image marks space e =
     by-test (eqb (wholeRefusal image marks 1) 0)

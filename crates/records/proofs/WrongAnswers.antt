@@ -1,5 +1,5 @@
--- For each of the seven C functions, two wrong answers that its contract does not allow. The contract is `Post`, as the toolchain reads it:
--- what is handed in, what is returned, and what the lent space holds afterwards.
+-- For each of the seven C functions, two wrong answers that its contract does not allow. The contract is `Post`, as the
+-- toolchain reads it: what is handed in, what is returned, and what the lent space holds afterwards.
 -- Assumes nothing.
 use mathlib.Core.Path.{_≡_, sym, ap, _∙_}
 use mathlib.Core.Bool.{true, not, false≢true}
@@ -13,7 +13,7 @@ use lib.ListN.{length, drop, getD}
 use lib.Seq.{drop-append-seam, drop-at}
 use borrow.Author.Tests.{eqb-false, lt-ltb, le-ltb, ne-eqb}
 use Rattle.common.specs.Pick.{pick}
-use Rattle.common.specs.Given.{given, filled}
+use Rattle.common.specs.Space.{overwrite, filled}
 use Rattle.common.proofs.PickLaws.{by-test, pick-by, pick-yes, pick-no, pick-both, not-refused, where-done}
 use Rattle.marks.specs.Marks.{isError}
 use Rattle.marks.specs.Scan.{scanFrom, scanMarks, kindOf, numberOf, defectAt, findingsOf}
@@ -26,7 +26,8 @@ use Rattle.records.specs.Place.{isPlace, asCame, writtenBytes}
 use Rattle.records.specs.Build.{buildRefusal, builtBytes, buildInto}
 use Rattle.records.specs.Restore.{restoreRefusal}
 use Rattle.records.specs.Merge.{Pass, passOf, mergeMarksInto}
-use Rattle.records.specs.Interface.{imageLengthWithin, markCountWithin, imageCount, scanReport, scanRefusal, scanInto}
+use Rattle.records.specs.Interface.{imageLengthWithin, markCountWithin, imageCount, scanReport, scanRefusal}
+use Rattle.records.specs.Interface.{scanInto}
 use Rattle.records.specs.Spoiled.{Spoiled}
 use Rattle.records.proofs.ImageLaws.{image-length}
 use Rattle.records.proofs.PlaceLaws.{written-length}
@@ -43,7 +44,8 @@ use Rattle.records.proofs.interface.ctc_scan.Reads as scan-reads
 -- ---- ctc_build
 
 module _ (κs : Lfts 2) (bytes image : RefT (List ℕ)) (density place r : ℕ) (after : List ℕ)
-    (allowed : build-reads.Post κs (bytes, (density, (place, (image, tt)))) r (bytes, (density, (place, (at-last image after, tt))))) where
+    (allowed : build-reads.Post κs (bytes, (density, (place, (image, tt)))) r
+    (bytes, (density, (place, (at-last image after, tt))))) where
   -- more than 65,535 bytes are taken
   pub build-takes-too-many-bytes : limit < length (now bytes) → r ≡ 0 → ⊥
   unfolding buildRefusal
@@ -52,8 +54,9 @@ module _ (κs : Lfts 2) (bytes image : RefT (List ℕ)) (density place r : ℕ) 
 
   -- a byte behind the image is changed
   pub build-writes-behind-the-image :
-      r ≡ 0 → (drop (imageLength (length (now bytes)) density) after ≡ drop (imageLength (length (now bytes)) density) (now image) → ⊥) → ⊥
-  unfolding buildInto given
+      r ≡ 0 → (drop (imageLength (length (now bytes)) density) after
+      ≡ drop (imageLength (length (now bytes)) density) (now image) → ⊥) → ⊥
+  unfolding buildInto overwrite
   build-writes-behind-the-image done wrong =
       let made = imageOf (builtBytes (now bytes) place) density in
       let needed = imageLength (length (now bytes)) density in
@@ -73,25 +76,26 @@ module _ (κs : Lfts 2) (bytes image : RefT (List ℕ)) (density place r : ℕ) 
       let few = not-refused _ _ _ (λ z. omega arith) (sym (allowed .0) ∙ done) in
       let room = not-refused _ _ _ (λ z. omega arith) (few .1) in
       let found = not-refused _ _ _ (λ z. omega arith) (room .1) in
-      let lost : not (isPlace (length (now bytes)) place) ≡ true = simp (le-ltb place (length (now bytes)) behind, ne-eqb place 65791 some) in
+      let lost : not (isPlace (length (now bytes)) place)
+      ≡ true = simp (le-ltb place (length (now bytes)) behind, ne-eqb place 65791 some) in
       false≢true (sym (found .0) ∙ lost)
 
   -- of two bytes of an MFM record, the first of which is bad
   module _ (a b : ℕ) (two : now bytes ≡ a ∷ b ∷ []) (mfm : density ≡ 0) (first : place ≡ 0) (done : r ≡ 0) where
-    one-came : after ≡ given (0 ∷ 1 ∷ a ∷ 0 ∷ []) (now image)
+    one-came : after ≡ overwrite (0 ∷ 1 ∷ a ∷ 0 ∷ []) (now image)
     unfolding buildInto imageOf bodyOf hasBlockettes countBytes rotated writtenBytes asCame filled pick
     one-came =
         let made : imageOf (builtBytes (now bytes) place) density ≡ 0 ∷ 1 ∷ a ∷ 0 ∷ [] = simp (two, mfm, first) in
-        allowed .1 ∙ where-done _ _ _ (sym (allowed .0) ∙ done) ∙ ap (λ (i : List ℕ). given i (now image)) made
+        allowed .1 ∙ where-done _ _ _ (sym (allowed .0) ∙ done) ∙ ap (λ (i : List ℕ). overwrite i (now image)) made
 
     -- the bad byte itself is zeroed
     pub build-zeroes-the-bad-byte : (getD after 2 0 ≡ a → ⊥) → ⊥
-    unfolding given
+    unfolding overwrite
     build-zeroes-the-bad-byte wrong = wrong (ap (λ (s : List ℕ). getD s 2 0) one-came)
 
     -- the byte after it is written as it came
     pub build-keeps-what-follows-the-bad-byte : (b ≡ 0 → ⊥) → getD after 3 0 ≡ b → ⊥
-    unfolding given
+    unfolding overwrite
     build-keeps-what-follows-the-bad-byte some wrong = some (sym wrong ∙ ap (λ (s : List ℕ). getD s 3 0) one-came)
 
 -- ---- ctc_restore
@@ -104,54 +108,66 @@ module _ (κs : Lfts 3) (image marks out : RefT (List ℕ)) (r : ℕ) (after : L
   restore-gives-what-cannot-be-restored stopped done =
       pick-by (λ (n : ℕ). r ≡ n → ⊥) (eqb (wholeRefusal (now image) (now marks) 1) 0)
       (λ whole. pick-by (λ (n : ℕ). r ≡ n → ⊥) (ltb (length (now out)) (countOf (now image))) (λ short e. omega arith)
-      (λ room. pick-by (λ (n : ℕ). r ≡ n → ⊥) (ltb (scanMarks (now marks) .stop) (length (now marks))) (λ stop e. omega arith)
+      (λ room. pick-by (λ (n : ℕ). r ≡ n → ⊥) (ltb (scanMarks (now marks) .stop) (length (now marks)))
+      (λ stop e. omega arith)
       (λ through. absurd (false≢true (sym through ∙ stopped)))))
       (λ other e. eqb-false _ _ other (sym e ∙ done)) (allowed .0)
 
-  -- a record that was built, with at most one odd and one even blockette spoiled and marked, comes back with other bytes
+  -- a record that was built, with at most one odd and one even blockette spoiled and marked, comes back with other
+  -- bytes
   pub restore-gives-other-bytes :
-      (bytes : List ℕ) → length bytes ≤ limit → Spoiled (imageOf bytes 1) (now image) (now marks) → length bytes ≤ length (now out)
-      → (after ≡ given bytes (now out) → ⊥) → ⊥
+      (bytes : List ℕ) → length bytes ≤ limit → Spoiled (imageOf bytes 1) (now image) (now marks)
+      → length bytes ≤ length (now out)
+      → (after ≡ overwrite bytes (now out) → ⊥) → ⊥
   restore-gives-other-bytes bytes fits spoiled room wrong =
       wrong (allowed .1 ∙ built-records-are-restored bytes (now image) (now marks) (now out) fits spoiled room .1)
 
 -- ---- ctc_merge
 
-module _ (κs : Lfts 6) (first first-marks second second-marks image marks : RefT (List ℕ)) (r : ℕ) (image-after marks-after : List ℕ)
+module _ (κs : Lfts 6) (first first-marks second second-marks image marks : RefT (List ℕ)) (r : ℕ)
+    (image-after marks-after : List ℕ)
     (allowed : merge-reads.Post κs (first, (first-marks, (second, (second-marks, (image, (marks, tt)))))) r
-    (first, (first-marks, (second, (second-marks, (at-last image image-after, (at-last marks marks-after, tt))))))) where
-  abbrev one : Pass
-  one = passOf (now first) (now first-marks)
+    (first, (first-marks, (second, (second-marks, (at-last image image-after, (at-last marks marks-after, tt)))))))
+  where
+    abbrev one : Pass
+    one = passOf (now first) (now first-marks)
 
-  abbrev other : Pass
-  other = passOf (now second) (now second-marks)
+    abbrev other : Pass
+    other = passOf (now second) (now second-marks)
 
-  -- a blockette that is good in both and unlike is taken
-  pub merge-takes-unlike-blockettes :
-      clashes (drop 2 (now first)) (now first-marks) (drop 2 (now second)) (now second-marks) ≡ true → r ≡ 0 → ⊥
-  merge-takes-unlike-blockettes unlike done =
-      false≢true (sym (mergeable one other (length (now image)) (length (now marks)) (sym (allowed .0) ∙ done) .no-clash) ∙ unlike)
+    -- a blockette that is good in both and unlike is taken
+    pub merge-takes-unlike-blockettes :
+        clashes (drop 2 (now first)) (now first-marks) (drop 2 (now second)) (now second-marks) ≡ true → r ≡ 0 → ⊥
+    merge-takes-unlike-blockettes unlike done =
+        false≢true
+        (sym (mergeable one other (length (now image)) (length (now marks)) (sym (allowed .0) ∙ done) .no-clash)
+        ∙ unlike)
 
-  -- a byte behind the marks is changed
-  pub merge-writes-behind-the-marks : r ≡ 0 → (drop (length (now first-marks)) marks-after ≡ drop (length (now first-marks)) (now marks) → ⊥) → ⊥
-  unfolding mergeMarksInto given
-  merge-writes-behind-the-marks done wrong =
-      let merged = mergedMarks (now first-marks) (now second-marks) in
-      let long = marks-length (now first-marks) (now second-marks) in
-      wrong
-      (ap (λ (s : List ℕ). drop (length (now first-marks)) s) (allowed .1 .1 ∙ where-done _ _ _ (sym (allowed .0) ∙ done))
-      ∙ drop-at merged (drop (length merged) (now marks)) (length (now first-marks)) long
-      ∙ ap (λ (n : ℕ). drop n (now marks)) long)
+    -- a byte behind the marks is changed
+    pub merge-writes-behind-the-marks : r ≡ 0
+        → (drop (length (now first-marks)) marks-after ≡ drop (length (now first-marks)) (now marks) → ⊥) → ⊥
+    unfolding mergeMarksInto overwrite
+    merge-writes-behind-the-marks done wrong =
+        let merged = mergedMarks (now first-marks) (now second-marks) in
+        let long = marks-length (now first-marks) (now second-marks) in
+        wrong
+        (ap (λ (s : List ℕ). drop (length (now first-marks)) s)
+        (allowed .1 .1 ∙ where-done _ _ _ (sym (allowed .0) ∙ done))
+        ∙ drop-at merged (drop (length merged) (now marks)) (length (now first-marks)) long
+        ∙ ap (λ (n : ℕ). drop n (now marks)) long)
 
 -- ---- ctc_image_length
 
 module _ (count density r : ℕ) (allowed : length-reads.Post tt (count, (density, tt)) r (count, (density, tt))) where
   -- the check blockettes are not counted
-  pub length-without-check-blockettes : 1 ≤ count → count ≤ limit → (density ≡ 0 → ⊥) → r ≡ 2 + 256 * blocketteCount count → ⊥
+  pub length-without-check-blockettes : 1 ≤ count → count ≤ limit → (density ≡ 0 → ⊥)
+      → r ≡ 2 + 256 * blocketteCount count → ⊥
   unfolding imageLengthWithin imageLength hasBlockettes pick
   length-without-check-blockettes some fits gcr e =
       let has : (count ≡ 0 → ⊥) = λ none. omega arith in
-      let right : r ≡ 2 + 256 * (blocketteCount count + 2) = allowed ∙ simp (le-ltb limit count fits, ne-eqb density 0 gcr, ne-eqb count 0 has) in
+      let right : r
+      ≡ 2 + 256 * (blocketteCount count + 2) = allowed
+      ∙ simp (le-ltb limit count fits, ne-eqb density 0 gcr, ne-eqb count 0 has) in
       omega arith
 
   -- a count above the limit has a length
@@ -167,7 +183,9 @@ module _ (count density r : ℕ) (allowed : marks-reads.Post tt (count, (density
   unfolding markCountWithin markCount hasBlockettes pick
   marks-without-check-blockettes some fits gcr e =
       let has : (count ≡ 0 → ⊥) = λ none. omega arith in
-      let right : r ≡ blocketteCount count + 2 = allowed ∙ simp (le-ltb limit count fits, ne-eqb density 0 gcr, ne-eqb count 0 has) in
+      let right : r
+      ≡ blocketteCount count + 2 = allowed
+      ∙ simp (le-ltb limit count fits, ne-eqb density 0 gcr, ne-eqb count 0 has) in
       omega arith
 
   -- an MFM record has marks
@@ -199,13 +217,14 @@ module _ (κs : Lfts 2) (marks report : RefT (List ℕ)) (r : ℕ) (after : List
     (allowed : scan-reads.Post κs (marks, (report, tt)) r (marks, (at-last report after, tt))) where
   -- a bad check blockette does not stop the scan, though blockette 0, of its parity, is bad too
   pub scan-passes-a-check-blockette : now marks ≡ 9 ∷ 15 ∷ 3 ∷ [] → r ≡ 0 → getD after 6 0 ≡ 0 → ⊥
-  unfolding scanRefusal scanInto given scanReport findingsOf defectAt kindOf numberOf scanMarks scanFrom isError pick
+  unfolding scanRefusal scanInto overwrite scanReport findingsOf defectAt kindOf numberOf scanMarks scanFrom isError
+      pick
   scan-passes-a-check-blockette bad done e =
       by-test (ltb (length (now report)) 9)
       (λ short. let right : r ≡ 11 = allowed .0 ∙ simp short in omega arith)
       (λ room.
-      let full : scanInto (now marks) (now report) ≡ given (scanReport (now marks)) (now report) = simp room in
-      let holds = allowed .1 ∙ full ∙ ap (λ (l : List ℕ). given (scanReport l) (now report)) bad in
+      let full : scanInto (now marks) (now report) ≡ overwrite (scanReport (now marks)) (now report) = simp room in
+      let holds = allowed .1 ∙ full ∙ ap (λ (l : List ℕ). overwrite (scanReport l) (now report)) bad in
       let right : getD after 6 0 ≡ 3 = ap (λ (l : List ℕ). getD l 6 0) holds in
       omega arith)
 

@@ -1,4 +1,5 @@
--- The builder: "bytes and a density (any but 0 is GCR) to an image" (document 01, Loads, restorer, session), and a place (document 02, Wish 6).
+-- The builder: "bytes and a density (any but 0 is GCR) to an image" (document 01, Loads, restorer, session), and a
+-- place (document 02, request 6).
 -- Assumes nothing.
 use Prim.Native.Nat.{ℕ}
 use mathlib.Core.Bool.{not}
@@ -6,14 +7,14 @@ use mathlib.Core.List.{List}
 use lib.Dec.{ltb, eqb}
 use lib.ListN.{length}
 use Rattle.common.specs.Pick.{pick}
-use Rattle.common.specs.Given.{given}
+use Rattle.common.specs.Space.{overwrite}
 use Rattle.common.specs.Refusals.{done, wrongLength, spaceShort, noSuchPlace}
 use Rattle.records.specs.Count.{limit}
 use Rattle.records.specs.Image.{imageOf, imageLength}
 use Rattle.records.specs.Place.{isPlace, writtenBytes}
 
--- "host bytes too many for the builder, keep refusal 9" (document 02, Wish 10); "11 the .. builder's image space .. short", lowest first; "15 a place that is neither in the host bytes nor the value for
--- none, after 11"
+-- "host bytes too many for the builder, keep refusal 9" (document 02, request 10); "11 the .. builder's image space ..
+-- short", lowest first; "15 a place that is neither in the host bytes nor the value for none, after 11"
 unfoldable pub buildRefusal : ℕ → ℕ → ℕ → ℕ → ℕ
 buildRefusal c density place space =
     pick (ltb limit c) wrongLength
@@ -26,4 +27,5 @@ builtBytes bytes place = writtenBytes bytes place 0 (length bytes)
 -- the image space afterwards: as it was where the call is refused
 unfoldable pub buildInto : List ℕ → ℕ → ℕ → List ℕ → List ℕ
 buildInto bytes density place space =
-    pick (eqb (buildRefusal (length bytes) density place (length space)) done) (given (imageOf (builtBytes bytes place) density) space) space
+    pick (eqb (buildRefusal (length bytes) density place (length space)) done)
+    (overwrite (imageOf (builtBytes bytes place) density) space) space

@@ -4,9 +4,10 @@ use Prim.Native.Nat.{ℕ, _+_, _*_, _/_, _%_}
 use mathlib.Core.List.{List, [], _∷_}
 use lib.ListN.{getD}
 
--- The most bytes of a record: "Raise the limit to 65,535, for write stores, supplied counts, a held count, images, the builder and the restorer
--- alike." (document 02, Wish 3). It is the most that 16 bits hold; where document 01 says 16,384 of a record, it is this. "no 16-bit count is above it"
--- (document 02, Wish 10): it is tested of the builder's bytes, and of a count that C hands in.
+-- The most bytes of a record: "Raise the limit to 65,535, for write stores, supplied counts, a held count, images, the
+-- builder and the restorer alike." (document 02, request 3). It is the most that 16 bits hold; where document 01 says
+-- 16,384 of a record, it is this. "no 16-bit count is above it" (document 02, request 10): it is tested of the
+-- builder's bytes, and of a count that C hands in.
 unfoldable pub limit : ℕ
 limit = 65535
 

@@ -1,13 +1,14 @@
--- The records of before the limit was raised (document 02, Wish 3): "Tapes written before read the same, because the count was 16 bits and a blockette
--- number one byte from the start." The image of a record (`imageOf`), its length and its marks never looked at the limit, and do not look at it
--- now. What the C functions answered did, in one test; here it is as it was, with the limit of before.
+-- The records of before the limit was raised (document 02, request 3): "Tapes written before read the same, because the
+-- count was 16 bits and a blockette number one byte from the start." The image of a record (`imageOf`), its length and
+-- its marks never looked at the limit, and do not look at it now. What the C functions answered did, in one test; here
+-- it is as it was, with the limit of before.
 -- Assumes nothing.
 use Prim.Native.Nat.{ℕ}
 use mathlib.Core.List.{List}
 use lib.Dec.{ltb, eqb}
 use lib.ListN.{length}
 use Rattle.common.specs.Pick.{pick}
-use Rattle.common.specs.Given.{given}
+use Rattle.common.specs.Space.{overwrite}
 use Rattle.common.specs.Refusals.{done, wrongLength, spaceShort, unrestorable}
 use Rattle.marks.specs.Scan.{scanMarks}
 use Rattle.records.specs.Count.{countOf}
@@ -21,11 +22,13 @@ earlierLimit = 16384
 
 -- the builder: its refusal, and the space afterwards
 abbrev pub earlierBuildRefusal : ℕ → ℕ → ℕ → ℕ
-earlierBuildRefusal c density space = pick (ltb earlierLimit c) wrongLength (pick (ltb space (imageLength c density)) spaceShort done)
+earlierBuildRefusal c density space =
+    pick (ltb earlierLimit c) wrongLength (pick (ltb space (imageLength c density)) spaceShort done)
 
 abbrev pub earlierBuildInto : List ℕ → ℕ → List ℕ → List ℕ
 earlierBuildInto bytes density space =
-    pick (eqb (earlierBuildRefusal (length bytes) density (length space)) done) (given (imageOf bytes density) space) space
+    pick (eqb (earlierBuildRefusal (length bytes) density (length space)) done)
+    (overwrite (imageOf bytes density) space) space
 
 -- the restorer: the test of its image, its refusal, and the space afterwards
 abbrev pub earlierWholeRefusal : List ℕ → List ℕ → ℕ
@@ -41,4 +44,5 @@ earlierRestoreRefusal image marks space =
 
 abbrev pub earlierRestoreInto : List ℕ → List ℕ → List ℕ → List ℕ
 earlierRestoreInto image marks space =
-    pick (eqb (earlierRestoreRefusal image marks (length space)) done) (given (restoredBytes image marks) space) space
+    pick (eqb (earlierRestoreRefusal image marks (length space)) done)
+    (overwrite (restoredBytes image marks) space) space

@@ -6,7 +6,7 @@ use mathlib.Core.List.{List, _++_}
 use lib.Dec.{eqb}
 use lib.ListN.{length}
 use Rattle.common.specs.Pick.{pick}
-use Rattle.common.specs.Given.{filled}
+use Rattle.common.specs.Space.{filled}
 use Rattle.blockettes.specs.Blockettes.{blocketteLength, checkOf}
 use Rattle.records.specs.Count.{countBytes}
 
@@ -28,7 +28,8 @@ blockettesOf bytes n = filled bytes (blocketteLength * n) ++ checksOf (filled by
 
 -- "MFM: then c bytes. GCR: .."
 unfoldable pub bodyOf : List ℕ → ℕ → List ℕ
-bodyOf bytes density = pick (hasBlockettes (length bytes) density) (blockettesOf bytes (blocketteCount (length bytes))) bytes
+bodyOf bytes density =
+    pick (hasBlockettes (length bytes) density) (blockettesOf bytes (blocketteCount (length bytes))) bytes
 
 -- "Image: count c rotated right one bit as 16 bits, high byte first", and what follows it
 unfoldable pub imageOf : List ℕ → ℕ → List ℕ

@@ -5,7 +5,7 @@ use mathlib.Core.List.{List, [], _∷_}
 use lib.Dec.{ltb, eqb}
 use lib.ListN.{length}
 use Rattle.common.specs.Pick.{pick}
-use Rattle.common.specs.Given.{given}
+use Rattle.common.specs.Space.{overwrite}
 use Rattle.common.specs.Refusals.{done, spaceShort}
 use Rattle.marks.specs.Scan.{findingsOf}
 use Rattle.records.specs.Count.{limit, countOf}
@@ -31,11 +31,13 @@ imageCount image = pick (ltb (length image) 2) noCount (countOf image)
 abbrev pub reportLength : ℕ
 reportLength = 9
 
--- what the scan finds, as nine bytes: mark, kind and number of the first odd error, of the first even one, and of the stopping one
+-- what the scan finds, as nine bytes: mark, kind and number of the first odd error, of the first even one, and of the
+-- stopping one
 unfoldable pub scanReport : List ℕ → List ℕ
 scanReport marks =
     let found = findingsOf marks in
-    found .odd .mark ∷ found .odd .kind ∷ found .odd .number ∷ found .even .mark ∷ found .even .kind ∷ found .even .number ∷ found .stop .mark
+    found .odd .mark ∷ found .odd .kind ∷ found .odd .number
+    ∷ found .even .mark ∷ found .even .kind ∷ found .even .number ∷ found .stop .mark
     ∷ found .stop .kind
     ∷ found .stop .number
     ∷ []
@@ -46,4 +48,4 @@ scanRefusal space = pick (ltb space reportLength) spaceShort done
 
 -- the space afterwards: as it was where the call is refused
 unfoldable pub scanInto : List ℕ → List ℕ → List ℕ
-scanInto marks space = pick (eqb (scanRefusal (length space)) done) (given (scanReport marks) space) space
+scanInto marks space = pick (eqb (scanRefusal (length space)) done) (overwrite (scanReport marks) space) space

@@ -1,4 +1,5 @@
--- One record out of two passes (document 02, Wish 5): "Take two GCR images and their marks and write one image and one list of marks."
+-- One record out of two passes (document 02, request 5): "Take two GCR images and their marks and write one image and
+-- one list of marks."
 -- Assumes nothing.
 use Prim.Native.Nat.{ℕ}
 use mathlib.Core.Bool.{Bool, not, _||_}
@@ -6,7 +7,7 @@ use mathlib.Core.List.{List, _++_}
 use lib.Dec.{ltb, eqb}
 use lib.ListN.{length, take, drop}
 use Rattle.common.specs.Pick.{pick}
-use Rattle.common.specs.Given.{given}
+use Rattle.common.specs.Space.{overwrite}
 use Rattle.common.specs.Refusals.{done, wrongLength, markValue, spaceShort, countsDiffer, blockettesUnlike}
 use Rattle.passes.specs.Passes.{clashes, mergedMarks, mergedBlockettes}
 use Rattle.records.specs.Count.{countOf}
@@ -33,7 +34,8 @@ eitherRefused first second number = eqb (passRefusal first) number || eqb (passR
 unfoldable pub pairRefusal : Pass → Pass → ℕ
 pairRefusal first second =
     pick (not (eqb (countOf (first .image)) (countOf (second .image)))) countsDiffer
-    (pick (clashes (drop 2 (first .image)) (first .marks) (drop 2 (second .image)) (second .marks)) blockettesUnlike done)
+    (pick (clashes (drop 2 (first .image)) (first .marks) (drop 2 (second .image)) (second .marks))
+    blockettesUnlike done)
 
 -- 11 for either space: the merged image and its marks are as long as those of a pass
 abbrev pub roomRefusal : Pass → ℕ → ℕ → ℕ
@@ -45,18 +47,22 @@ unfoldable pub mergeRefusal : Pass → Pass → ℕ → ℕ → ℕ
 mergeRefusal first second imageSpace marksSpace =
     pick (eitherRefused first second wrongLength) wrongLength
     (pick (eitherRefused first second markValue) markValue
-    (pick (not (eqb (pairRefusal first second) done)) (pairRefusal first second) (roomRefusal first imageSpace marksSpace)))
+    (pick (not (eqb (pairRefusal first second) done)) (pairRefusal first second)
+    (roomRefusal first imageSpace marksSpace)))
 
 -- the merged image: the count that both say, and the merged blockettes
 unfoldable pub mergedImage : Pass → Pass → List ℕ
 mergedImage first second =
-    take 2 (first .image) ++ mergedBlockettes (drop 2 (first .image)) (first .marks) (drop 2 (second .image)) (second .marks)
+    take 2 (first .image)
+    ++ mergedBlockettes (drop 2 (first .image)) (first .marks) (drop 2 (second .image)) (second .marks)
 
 -- both spaces afterwards: "leaves the rest of it as it was", and all of it where the call is refused
 unfoldable pub mergeImageInto : Pass → Pass → List ℕ → ℕ → List ℕ
 mergeImageInto first second image marksSpace =
-    pick (eqb (mergeRefusal first second (length image) marksSpace) done) (given (mergedImage first second) image) image
+    pick (eqb (mergeRefusal first second (length image) marksSpace) done)
+    (overwrite (mergedImage first second) image) image
 
 unfoldable pub mergeMarksInto : Pass → Pass → ℕ → List ℕ → List ℕ
 mergeMarksInto first second imageSpace marks =
-    pick (eqb (mergeRefusal first second imageSpace (length marks)) done) (given (mergedMarks (first .marks) (second .marks)) marks) marks
+    pick (eqb (mergeRefusal first second imageSpace (length marks)) done)
+    (overwrite (mergedMarks (first .marks) (second .marks)) marks) marks

@@ -5,7 +5,7 @@ use mathlib.Core.List.{List, _++_}
 use lib.Dec.{ltb, eqb}
 use lib.ListN.{length, take, drop}
 use Rattle.common.specs.Pick.{pick}
-use Rattle.common.specs.Given.{given}
+use Rattle.common.specs.Space.{overwrite}
 use Rattle.common.specs.Refusals.{done, spaceShort, unrestorable}
 use Rattle.blockettes.specs.Blockettes.{blocketteLength, othersOf}
 use Rattle.marks.specs.Scan.{scanMarks}
@@ -24,8 +24,8 @@ restoreRefusal image marks space =
 unfoldable pub writtenAt : List ℕ → ℕ → List ℕ → List ℕ
 writtenAt bytes start new = take start bytes ++ (take (length bytes - start) new ++ drop (start + length new) bytes)
 
--- Bytes whose blockette at a place is made from the others of its parity, check blockette included; a place at n or above is
--- that of a check blockette, or none, and leaves the bytes as they are.
+-- Bytes whose blockette at a place is made from the others of its parity, check blockette included; a place at n or
+-- above is that of a check blockette, or none, and leaves the bytes as they are.
 unfoldable pub mendAt : List ℕ → ℕ → ℕ → List ℕ → List ℕ
 mendAt blockettes n place bytes =
     pick (ltb place n) (writtenAt bytes (blocketteLength * place) (othersOf blockettes (n + 2) place)) bytes
@@ -37,9 +37,10 @@ restoredOf blockettes n odd even c = mendAt blockettes n even (mendAt blockettes
 -- "GCR image and marks to c bytes": the bad odd and the bad even blockette are restored
 unfoldable pub restoredBytes : List ℕ → List ℕ → List ℕ
 restoredBytes image marks =
-    restoredOf (drop 2 image) (blocketteCount (countOf image)) (scanMarks marks .odd) (scanMarks marks .even) (countOf image)
+    restoredOf (drop 2 image) (blocketteCount (countOf image)) (scanMarks marks .odd) (scanMarks marks .even)
+    (countOf image)
 
 -- the output space afterwards: as it was where the call is refused
 unfoldable pub restoreInto : List ℕ → List ℕ → List ℕ → List ℕ
 restoreInto image marks space =
-    pick (eqb (restoreRefusal image marks (length space)) done) (given (restoredBytes image marks) space) space
+    pick (eqb (restoreRefusal image marks (length space)) done) (overwrite (restoredBytes image marks) space) space

@@ -9,8 +9,9 @@ use Rattle.blockettes.specs.Blockettes.{blocketteLength, blocketteAt}
 use Rattle.marks.specs.Marks.{legalMarks, Once}
 use Rattle.records.specs.Restore.{writtenAt}
 
--- An image as it was built, as it is read now, and its marks: "the built count", and "the built bytes in every blockette that it marks good"
--- (document 02, Wish 5). A blockette's place counts from 0 in tape order behind the two count bytes.
+-- An image as it was built, as it is read now, and its marks: "the built count", and "the built bytes in every
+-- blockette that it marks good" (document 02, request 5). A blockette's place counts from 0 in tape order behind the
+-- two count bytes.
 pub record Shown (built image marks : List ℕ) : Type 0 where
   -- nothing is lost
   pub whole : length image ≡ length built
@@ -21,7 +22,8 @@ pub record Shown (built image marks : List ℕ) : Type 0 where
   -- "any of 1-9 and all others 15"
   pub legal : legalMarks marks ≡ true
   -- "those alone marked": a blockette marked good is as it was built
-  pub good : (place : ℕ) → place < length marks → getD marks place 0 ≡ 15 → blocketteAt (drop 2 image) place ≡ blocketteAt (drop 2 built) place
+  pub good : (place : ℕ) → place < length marks → getD marks place 0 ≡ 15
+      → blocketteAt (drop 2 image) place ≡ blocketteAt (drop 2 built) place
 
 -- Some blockettes hold other bytes, "at most one odd and one even", "those alone marked".
 pub record Spoiled (built image marks : List ℕ) : Type 0 where

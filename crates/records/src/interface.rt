@@ -6,7 +6,7 @@ use crate::layout::image_length;
 use crate::layout::mark_count;
 use crate::merge::merge;
 use crate::restore::restore;
-use common::give;
+use common::overwrite;
 use common::refusals::DONE;
 use common::refusals::SPACE_SHORT;
 use marks::findings_of;
@@ -15,7 +15,8 @@ ghost use lib.ListN.{length};
 ghost use Rattle.records.specs.Build.{buildRefusal, buildInto};
 ghost use Rattle.records.specs.Restore.{restoreRefusal, restoreInto};
 ghost use Rattle.records.specs.Merge.{passOf, mergeRefusal, mergeImageInto, mergeMarksInto};
-ghost use Rattle.records.specs.Interface.{imageLengthWithin, markCountWithin, imageCount, scanReport, scanRefusal, scanInto};
+ghost use Rattle.records.specs.Interface.{imageLengthWithin, markCountWithin, imageCount};
+ghost use Rattle.records.specs.Interface.{scanReport, scanRefusal, scanInto};
 
 // What is no count: one more than 16 bits hold.
 const NO_COUNT: usize = 65536;
@@ -26,8 +27,9 @@ const REPORT_LENGTH: usize = 9;
 // Bytes to an image.
 #[no_mangle]
 pub extern "C" fn ctc_build(bytes: &[u8], density: u8, place: usize, image: &mut [u8]) -> u32
-    ensures { λ r. ⌜ r ≡ buildRefusal (length (now (bytes .entry))) density place (length (now (image .entry))) ⌝ }
-    ensures { λ _. ⌜ now (image .exit) ≡ buildInto (now (bytes .entry)) density place (now (image .entry)) ⌝ }
+    ensures answered { λ r. ⌜ r ≡ buildRefusal (length (now (bytes .entry))) density place
+        (length (now (image .entry))) ⌝ }
+    ensures written { λ _. ⌜ now (image .exit) ≡ buildInto (now (bytes .entry)) density place (now (image .entry)) ⌝ }
 {
     build(bytes, density, place, image)
 }
@@ -35,8 +37,10 @@ pub extern "C" fn ctc_build(bytes: &[u8], density: u8, place: usize, image: &mut
 // GCR image and marks to bytes.
 #[no_mangle]
 pub extern "C" fn ctc_restore(image: &[u8], marks: &[u8], out: &mut [u8]) -> u32
-    ensures { λ r. ⌜ r ≡ restoreRefusal (now (image .entry)) (now (marks .entry)) (length (now (out .entry))) ⌝ }
-    ensures { λ _. ⌜ now (out .exit) ≡ restoreInto (now (image .entry)) (now (marks .entry)) (now (out .entry)) ⌝ }
+    ensures answered { λ r. ⌜ r ≡ restoreRefusal (now (image .entry)) (now (marks .entry))
+        (length (now (out .entry))) ⌝ }
+    ensures written { λ _. ⌜ now (out .exit) ≡ restoreInto (now (image .entry)) (now (marks .entry))
+        (now (out .entry)) ⌝ }
 {
     restore(image, marks, out)
 }
@@ -51,9 +55,17 @@ pub extern "C" fn ctc_merge(
     image: &mut [u8],
     marks: &mut [u8],
 ) -> u32
-    ensures { λ r. ⌜ r ≡ mergeRefusal (passOf (now (first .entry)) (now («first_marks» .entry))) (passOf (now (second .entry)) (now («second_marks» .entry))) (length (now (image .entry))) (length (now (marks .entry))) ⌝ }
-    ensures { λ _. ⌜ now (image .exit) ≡ mergeImageInto (passOf (now (first .entry)) (now («first_marks» .entry))) (passOf (now (second .entry)) (now («second_marks» .entry))) (now (image .entry)) (length (now (marks .entry))) ⌝ }
-    ensures { λ _. ⌜ now (marks .exit) ≡ mergeMarksInto (passOf (now (first .entry)) (now («first_marks» .entry))) (passOf (now (second .entry)) (now («second_marks» .entry))) (length (now (image .entry))) (now (marks .entry)) ⌝ }
+    ensures answered { λ r. ⌜ r ≡ mergeRefusal (passOf (now (first .entry)) (now («first_marks» .entry)))
+        (passOf (now (second .entry)) (now («second_marks» .entry)))
+        (length (now (image .entry))) (length (now (marks .entry))) ⌝ }
+    ensures image_written { λ _. ⌜ now (image .exit) ≡ mergeImageInto
+        (passOf (now (first .entry)) (now («first_marks» .entry)))
+        (passOf (now (second .entry)) (now («second_marks» .entry)))
+        (now (image .entry)) (length (now (marks .entry))) ⌝ }
+    ensures marks_written { λ _. ⌜ now (marks .exit) ≡ mergeMarksInto
+        (passOf (now (first .entry)) (now («first_marks» .entry)))
+        (passOf (now (second .entry)) (now («second_marks» .entry)))
+        (length (now (image .entry))) (now (marks .entry)) ⌝ }
 {
     merge(first, first_marks, second, second_marks, image, marks)
 }
@@ -112,13 +124,13 @@ fn scan_report(marks: &[u8]) -> [u8; REPORT_LENGTH]
 // The scan of the marks.
 #[no_mangle]
 pub extern "C" fn ctc_scan(marks: &[u8], report: &mut [u8]) -> u32
-    ensures { λ r. ⌜ r ≡ scanRefusal (length (now (report .entry))) ⌝ }
-    ensures { λ _. ⌜ now (report .exit) ≡ scanInto (now (marks .entry)) (now (report .entry)) ⌝ }
+    ensures answered { λ r. ⌜ r ≡ scanRefusal (length (now (report .entry))) ⌝ }
+    ensures written { λ _. ⌜ now (report .exit) ≡ scanInto (now (marks .entry)) (now (report .entry)) ⌝ }
 {
     if report.len() < REPORT_LENGTH {
         return SPACE_SHORT;
     }
     let found = scan_report(marks);
-    give(&found, report);
+    overwrite(&found, report);
     DONE
 }

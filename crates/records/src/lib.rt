@@ -1,5 +1,5 @@
-// Records as they lie on tape: the layout of an image, the builder, the test of an image and its marks, and the restorer.
-// It knows nothing of the controller.
+// Records as they lie on tape: the layout of an image, the builder, the test of an image and its marks, and the
+// restorer. It knows nothing of the controller.
 pub mod build;
 pub mod count;
 pub mod interface;

@@ -15,8 +15,8 @@ pub fn is_place(handed: usize, place: usize) -> bool
 
 // How many of the bytes handed in are written as they came.
 pub fn as_came(handed: usize, place: usize) -> usize
-    ensures { λ r. ⌜ r ≡ asCame handed place ⌝ }
-    ensures { λ r. ⌜ r ≤ handed ⌝ }
+    ensures counted { λ r. ⌜ r ≡ asCame handed place ⌝ }
+    ensures bounded { λ r. ⌜ r ≤ handed ⌝ }
 {
     if place < handed { place + 1 } else { handed }
 }

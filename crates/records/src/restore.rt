@@ -4,8 +4,8 @@ use crate::layout::blockette_count;
 use crate::whole::whole_refusal;
 use blockettes::BLOCKETTE_LENGTH;
 use blockettes::put_others;
-use common::give;
-use common::least;
+use common::min;
+use common::overwrite;
 use common::refusals::DONE;
 use common::refusals::SPACE_SHORT;
 use common::refusals::UNRESTORABLE;
@@ -25,7 +25,7 @@ fn mend_at(blockettes: &[u8], n: usize, place: usize, bytes: &mut [u8])
 {
     if place < n {
         let start = BLOCKETTE_LENGTH * place;
-        let end = least(bytes.len(), start + BLOCKETTE_LENGTH);
+        let end = min(bytes.len(), start + BLOCKETTE_LENGTH);
         put_others(&mut bytes[start..end], blockettes, n + 2, place);
     }
 }
@@ -35,15 +35,17 @@ fn put_restored(blockettes: &[u8], n: usize, odd: usize, even: usize, space: &mu
     requires { ⌜ n ≤ 256 ⌝ }
     requires { ⌜ n ≡ blocketteCount (length (now space)) ⌝ }
     requires { ⌜ length (now space) ≤ length (now blockettes) ⌝ }
-    ensures { λ _. ⌜ now (space .exit) ≡ restoredOf (now (blockettes .entry)) n odd even (length (now (space .entry))) ⌝ }
+    ensures { λ _. ⌜ now (space .exit) ≡ restoredOf (now (blockettes .entry)) n odd even
+        (length (now (space .entry))) ⌝ }
 {
     let count = space.len();
-    give(&blockettes[..count], space);
+    overwrite(&blockettes[..count], space);
     mend_at(blockettes, n, odd, space);
     mend_at(blockettes, n, even, space);
 }
 
-// Refused as a whole image is, for too little space, or for two bad blockettes of one parity; `stop` is where the scan of the marks stopped.
+// Refused as a whole image is, for too little space, or for two bad blockettes of one parity; `stop` is where the scan
+// of the marks stopped.
 fn restore_refusal(image: &[u8], marks: &[u8], stop: usize, space: usize) -> u32
     requires { ⌜ stop ≡ scanMarks (now marks) .stop ⌝ }
     ensures { λ r. ⌜ r ≡ restoreRefusal (now (image .entry)) (now (marks .entry)) space ⌝ }
@@ -64,8 +66,10 @@ fn restore_refusal(image: &[u8], marks: &[u8], stop: usize, space: usize) -> u32
 
 // GCR image and marks to the bytes of the record, at the start of the space.
 pub fn restore(image: &[u8], marks: &[u8], space: &mut [u8]) -> u32
-    ensures { λ r. ⌜ r ≡ restoreRefusal (now (image .entry)) (now (marks .entry)) (length (now (space .entry))) ⌝ }
-    ensures { λ _. ⌜ now (space .exit) ≡ restoreInto (now (image .entry)) (now (marks .entry)) (now (space .entry)) ⌝ }
+    ensures answered { λ r. ⌜ r ≡ restoreRefusal (now (image .entry)) (now (marks .entry))
+        (length (now (space .entry))) ⌝ }
+    ensures written { λ _. ⌜ now (space .exit) ≡ restoreInto (now (image .entry)) (now (marks .entry))
+        (now (space .entry)) ⌝ }
 {
     let errors = scan_marks(marks);
     let refusal = restore_refusal(image, marks, errors.stop, space.len());

@@ -1,4 +1,5 @@
--- Laws of the four drives: what is put is got, the other drives are left alone, and a review changes nothing but the copies.
+-- Laws of the four drives: what is put is got, the other drives are left alone, and a review changes nothing but the
+-- copies.
 -- Assumes nothing.
 use mathlib.Core.Path.{_≡_, refl}
 use Prim.Native.Nat.{ℕ, zero, suc, _≤_}
@@ -27,13 +28,18 @@ module _ (drives : Drives) (drive : Drive) where
   unfolding driveOf withDrive pick
   put-other n m hn hm =
       by-four (λ k. (j : ℕ) → j ≤ 3 → (k ≡ j → ⊥) → driveOf (withDrive drives k drive) j ≡ driveOf drives j)
-      (by-four (λ j. (0 ≡ j → ⊥) → driveOf (withDrive drives 0 drive) j ≡ driveOf drives j) (λ other. absurd (other refl)) (λ other. refl) (λ other. refl) (λ other. refl))
-      (by-four (λ j. (1 ≡ j → ⊥) → driveOf (withDrive drives 1 drive) j ≡ driveOf drives j) (λ other. refl) (λ other. absurd (other refl)) (λ other. refl) (λ other. refl))
-      (by-four (λ j. (2 ≡ j → ⊥) → driveOf (withDrive drives 2 drive) j ≡ driveOf drives j) (λ other. refl) (λ other. refl) (λ other. absurd (other refl)) (λ other. refl))
-      (by-four (λ j. (3 ≡ j → ⊥) → driveOf (withDrive drives 3 drive) j ≡ driveOf drives j) (λ other. refl) (λ other. refl) (λ other. refl) (λ other. absurd (other refl)))
+      (by-four (λ j. (0 ≡ j → ⊥) → driveOf (withDrive drives 0 drive) j ≡ driveOf drives j)
+      (λ other. absurd (other refl)) (λ other. refl) (λ other. refl) (λ other. refl))
+      (by-four (λ j. (1 ≡ j → ⊥) → driveOf (withDrive drives 1 drive) j ≡ driveOf drives j) (λ other. refl)
+      (λ other. absurd (other refl)) (λ other. refl) (λ other. refl))
+      (by-four (λ j. (2 ≡ j → ⊥) → driveOf (withDrive drives 2 drive) j ≡ driveOf drives j) (λ other. refl)
+      (λ other. refl) (λ other. absurd (other refl)) (λ other. refl))
+      (by-four (λ j. (3 ≡ j → ⊥) → driveOf (withDrive drives 3 drive) j ≡ driveOf drives j) (λ other. refl)
+      (λ other. refl) (λ other. refl) (λ other. absurd (other refl)))
       n hn m hm
 
 -- a review leaves each drive as it was, with its report copied
 pub reviewed-drive : (drives : Drives) (n : ℕ) → n ≤ 3 → driveOf (copyReports drives) n ≡ copyReport (driveOf drives n)
 unfolding driveOf copyReports pick
-reviewed-drive drives = by-four (λ n. driveOf (copyReports drives) n ≡ copyReport (driveOf drives n)) refl refl refl refl
+reviewed-drive drives =
+    by-four (λ n. driveOf (copyReports drives) n ≡ copyReport (driveOf drives n)) refl refl refl refl

@@ -1,2 +1,1 @@
 pub mod DriveLaws
-pub mod StringLaws

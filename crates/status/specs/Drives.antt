@@ -7,7 +7,16 @@ use Rattle.common.specs.Pick.{pick}
 use Rattle.status.specs.declared.drives.Drive.{Drive}
 use Rattle.status.specs.declared.drives.Drives.{Drives}
 
--- ---- "Report bits: EOT 128, EOT warning 64, installed 32, BOT warning 16, protected 8, position unknown 4, selectable 2, BOT 1."
+-- ---- "track, gap, selected drive .. 0-3"
+
+abbrev pub lastDrive : ℕ
+lastDrive = 3
+
+abbrev pub lastTrack : ℕ
+lastTrack = 3
+
+-- ---- "Report bits: EOT 128, EOT warning 64, installed 32, BOT warning 16, protected 8, position unknown 4, selectable
+-- 2, BOT 1."
 
 abbrev pub eot : ℕ
 eot = 128
@@ -63,7 +72,8 @@ gcr = 1
 
 -- the record of a drive
 unfoldable pub driveOf : Drives → ℕ → Drive
-driveOf drives number = pick (eqb number 0) (drives .d0) (pick (eqb number 1) (drives .d1) (pick (eqb number 2) (drives .d2) (drives .d3)))
+driveOf drives number =
+    pick (eqb number 0) (drives .d0) (pick (eqb number 1) (drives .d1) (pick (eqb number 2) (drives .d2) (drives .d3)))
 
 -- the drives with another record for one of them
 unfoldable pub withDrive : Drives → ℕ → Drive → Drives
@@ -88,7 +98,14 @@ withReport drive report =
 -- a drive with another gap
 abbrev pub withGap : Drive → ℕ → Drive
 withGap drive gap =
-    record { report = drive .report; reviewed = drive .reviewed; track = drive .track; density = drive .density; gap = gap; guard = drive .guard }
+    record {
+      report = drive .report;
+      reviewed = drive .reviewed;
+      track = drive .track;
+      density = drive .density;
+      gap = gap;
+      guard = drive .guard;
+    }
 
 -- "A new track sets the gap to 0 if BOT is reported, else 3; the same track changes nothing."
 unfoldable pub withTrack : Drive → ℕ → Drive
@@ -106,12 +123,26 @@ withTrack drive track =
 -- "0C/0D density 0/1"
 abbrev pub withDensity : Drive → ℕ → Drive
 withDensity drive density =
-    record { report = drive .report; reviewed = drive .reviewed; track = drive .track; density = density; gap = drive .gap; guard = drive .guard }
+    record {
+      report = drive .report;
+      reviewed = drive .reviewed;
+      track = drive .track;
+      density = density;
+      gap = drive .gap;
+      guard = drive .guard;
+    }
 
--- "Control values 0A and 0B clear and set a guard on the selected drive" (document 02, Wish 7)
+-- "Control values 0A and 0B clear and set a guard on the selected drive" (document 02, request 7)
 abbrev pub withGuard : Drive → Bool → Drive
 withGuard drive guard =
-    record { report = drive .report; reviewed = drive .reviewed; track = drive .track; density = drive .density; gap = drive .gap; guard = guard }
+    record {
+      report = drive .report;
+      reviewed = drive .reviewed;
+      track = drive .track;
+      density = drive .density;
+      gap = drive .gap;
+      guard = guard;
+    }
 
 -- "density .. (MFM; 1 is GCR)": any but 0
 abbrev pub isGcr : Drive → Bool
@@ -127,13 +158,27 @@ anyDiffers drives =
 -- a drive whose report is copied
 abbrev pub copyReport : Drive → Drive
 copyReport drive =
-    record { report = drive .report; reviewed = drive .report; track = drive .track; density = drive .density; gap = drive .gap; guard = drive .guard }
+    record {
+      report = drive .report;
+      reviewed = drive .report;
+      track = drive .track;
+      density = drive .density;
+      gap = drive .gap;
+      guard = drive .guard;
+    }
 
 -- ".. then copies all four."
 unfoldable pub copyReports : Drives → Drives
-copyReports drives = record { d0 = copyReport (drives .d0); d1 = copyReport (drives .d1); d2 = copyReport (drives .d2); d3 = copyReport (drives .d3) }
+copyReports drives =
+    record {
+      d0 = copyReport (drives .d0);
+      d1 = copyReport (drives .d1);
+      d2 = copyReport (drives .d2);
+      d3 = copyReport (drives .d3);
+    }
 
--- "track 0, density 0 (MFM; 1 is GCR), gap 3", with a report that is copied as reviewed; of the guard, "it starts clear, and a reset clears it"
+-- "track 0, density 0 (MFM; 1 is GCR), gap 3", with a report that is copied as reviewed; of the guard, "it starts
+-- clear, and a reset clears it"
 abbrev pub freshWith : ℕ → Drive
 freshWith report = record { report = report; reviewed = report; track = 0; density = mfm; gap = gapLost; guard = false }
 

@@ -1,7 +1,14 @@
 // The four drives. Their records are named fields, so that no index has to be shown to be in range.
 ghost use mathlib.Core.Path.{_≡_};
 ghost use Prim.Native.Nat.{_≤_};
-ghost use Rattle.status.specs.Drives.{reports, driveOf, withDrive, withReport, withGap, withTrack, withDensity, withGuard, isGcr, anyDiffers, copyReport, copyReports, freshWith, freshDrives, resetDrives};
+ghost use Rattle.status.specs.Drives.{reports, driveOf, withDrive, withReport, withGap, withTrack, withDensity};
+ghost use Rattle.status.specs.Drives.{withGuard, isGcr, anyDiffers, copyReport, copyReports, freshWith};
+ghost use Rattle.status.specs.Drives.{freshDrives, resetDrives};
+
+// The last of the four drives, and the last track of a tape.
+pub const LAST_DRIVE: u8 = 3;
+
+pub const LAST_TRACK: u8 = 3;
 
 // The bits of a report.
 pub const EOT: u8 = 128;
@@ -36,7 +43,8 @@ pub const MFM: u8 = 0;
 
 pub const GCR: u8 = 1;
 
-// A drive's report, the copy that the last review took of it, its track (0-3), density and gap, and whether writing out of a bad gap is guarded against.
+// A drive's report, the copy that the last review took of it, its track (0-3), density and gap, and whether writing out
+// of a bad gap is guarded against.
 pub struct Drive {
     pub report: u8,
     pub reviewed: u8,
@@ -154,12 +162,19 @@ pub fn any_differs(drives: Drives) -> bool
         | !(drives.d3.report == drives.d3.reviewed)
 }
 
-// A drive whose report is copied.
-fn copy_report(mut drive: Drive) -> Drive
+// A drive whose report is copied. The record is made anew: a byte stored into it would hold up the next read of the
+// whole.
+fn copy_report(drive: Drive) -> Drive
     ensures { λ r. ⌜ r ≡ copyReport drive ⌝ }
 {
-    drive.reviewed = drive.report;
-    drive
+    Drive {
+        report: drive.report,
+        reviewed: drive.report,
+        track: drive.track,
+        density: drive.density,
+        gap: drive.gap,
+        guard: drive.guard,
+    }
 }
 
 // All four reports copied.

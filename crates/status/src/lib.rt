@@ -1,4 +1,3 @@
-// What the controller keeps of its four drives, its status words, and the strings that carry them to the host.
+// What the controller keeps of its four drives, and its status words.
 pub mod drives;
-pub mod strings;
 pub mod words;

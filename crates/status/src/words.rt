@@ -2,14 +2,24 @@
 //
 //   primary   bit 0 changed, 1 enable, 2 retry, 3-5 track, 6-7 drive
 //             bit 8 mark, 9-10 motion, 11-15 code
-//             bit 16 host parity, 17 overflow, 18 underflow, 19 write data late, 20 read data late, 21 supplied count, 22 count valid, 23 density
+//             bit 16 host parity, 17 overflow, 18 underflow, 19 write data late, 20 read data late,
+//             21 supplied count, 22 count valid, 23 density
 //             bits 24-31 report
 use crate::drives::Drive;
 use crate::drives::Drives;
 use marks::Defect;
 ghost use mathlib.Core.Path.{_≡_};
 ghost use Prim.Native.Nat.{_≤_};
-ghost use Rattle.status.specs.Words.{zeroWord, bitOf, noOutcome, withCount, withHostErrors, anyBit, primaryFirst, primarySecond, primaryThird, primaryOf, secondaryWord, digitsOf, tertiaryOf, quintaryOf, reportsWord};
+ghost use Rattle.status.specs.Words.{zeroWord, bitOf, noOutcome, withCount, withHostErrors, anyBit, primaryFirst};
+ghost use Rattle.status.specs.Words.{primarySecond, primaryThird, primaryOf, secondaryWord, digitsOf, tertiaryOf};
+ghost use Rattle.status.specs.Words.{quintaryOf, reportsWord};
+
+// The last motion and code that primary has bits for, and the most that secondary counts.
+pub const LAST_MOTION: u8 = 3;
+
+pub const LAST_CODE: u8 = 31;
+
+pub const COUNT_LIMIT: u32 = 65535;
 
 pub struct Word {
     pub b0: u8,

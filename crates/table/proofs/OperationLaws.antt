@@ -9,13 +9,16 @@ use types.Run.{OneOf}
 use lib.ListN.{getD}
 use Rattle.operations.proofs.operation.Operation.{the-type}
 use Rattle.operations.specs.declared.operation.Operation.{Operation}
-use Rattle.operations.specs.declared.operation.Operation.the-variants.{Read, CheckBytes, SuppliedCount, Write, Erase, Rewind, FastForward, SkipForward, SkipReverse, SearchForward, SearchReverse, WriteMark}
+use Rattle.operations.specs.declared.operation.Operation.the-variants.{Read, CheckBytes, SuppliedCount, Write, Erase}
+use Rattle.operations.specs.declared.operation.Operation.the-variants.{Rewind, FastForward, SkipForward, SkipReverse}
+use Rattle.operations.specs.declared.operation.Operation.the-variants.{SearchForward, SearchReverse, WriteMark}
 
 -- the operations as they are declared
 abbrev pub declaredAt : ℕ → Operation
 declaredAt place =
     getD
-    (Read ∷ CheckBytes ∷ SuppliedCount ∷ Write ∷ Erase ∷ Rewind ∷ FastForward ∷ SkipForward ∷ SkipReverse ∷ SearchForward ∷ SearchReverse ∷ WriteMark ∷ [])
+    (Read ∷ CheckBytes ∷ SuppliedCount ∷ Write ∷ Erase ∷ Rewind ∷ FastForward ∷ SkipForward ∷ SkipReverse
+    ∷ SearchForward ∷ SearchReverse ∷ WriteMark ∷ [])
     place
     WriteMark
 
@@ -43,7 +46,8 @@ module _ (P : Operation → Type 0) where
   here operation place e p = subst P (back operation) (subst (λ (n : ℕ). P (declaredAt n)) (sym e) p)
 
   -- so it holds of an operation that is one of them
-  pub among : (places : List ℕ) (operation : Operation) → OneOf places (tagOf the-type operation) → Each places → P operation
+  pub among : (places : List ℕ) (operation : Operation) → OneOf places (tagOf the-type operation) → Each places
+      → P operation
   among [] operation e each = absurd e
   among (place ∷ []) operation e each = here operation place e (each .0)
   among (place ∷ (next ∷ rest)) operation (inl e) each = here operation place e (each .0)

@@ -8,9 +8,11 @@ use lib.Dec.{T, eqb, eqb→eq}
 use lib.ListN.{length}
 use Rattle.common.specs.Pick.{pick}
 use Rattle.operations.specs.declared.operation.Operation.{Operation}
-use Rattle.operations.specs.Answers.{forwardCodes, reverseCodes, endCodes, suppliedCodes, listedCodes, trailingCodes, clearCodes, isIn, answerOf}
+use Rattle.operations.specs.Answers.{forwardCodes, reverseCodes, endCodes, suppliedCodes, listedCodes, trailingCodes}
+use Rattle.operations.specs.Answers.{clearCodes, isIn, answerOf}
 use Rattle.operations.proofs.Table.{every, at}
-use Rattle.table.specs.Text.{comma, lineFeed, zeroDigit, lineOrder, digitsFrom, parted, lineText, linesText, tableText, operationAt, tableLength, byteAt}
+use Rattle.table.specs.Text.{comma, lineFeed, zeroDigit, lineOrder, digitsFrom, parted, lineText, linesText}
+use Rattle.table.specs.Text.{tableText, operationAt, tableLength, byteAt}
 
 -- 64 bytes to a line: a digit at each even place, a comma behind it, and a line feed behind the last
 unfoldable pub byteOf : ℕ → ℕ
@@ -22,7 +24,8 @@ right : ℕ → ℕ → Bool
 right place byte = eqb byte (byteOf place)
 
 every-byte : T (every right 0 tableText)
-unfolding right byteOf tableText linesText lineText parted digitsFrom lineOrder operationAt answerOf isIn listedCodes forwardCodes reverseCodes
+unfolding right byteOf tableText linesText lineText parted digitsFrom lineOrder operationAt answerOf isIn
+    listedCodes forwardCodes reverseCodes
     endCodes suppliedCodes trailingCodes clearCodes pick
 every-byte = tt
 

@@ -1,11 +1,13 @@
--- What the program prints (document 02, Wish 9): "prints the core's table, twelve lines of 32 digits parted by commas, none at a line's end".
--- Each line ends with its #0A.
+-- What the program prints (document 02, request 9): "prints the core's table, twelve lines of 32 digits parted by
+-- commas, none at a line's end". Each line ends with its #0A.
 -- Assumes nothing.
 use Prim.Native.Nat.{ℕ, zero, suc, _+_, _*_}
 use mathlib.Core.List.{List, [], _∷_, _++_}
 use lib.ListN.{getD}
 use Rattle.operations.specs.declared.operation.Operation.{Operation}
-use Rattle.operations.specs.declared.operation.Operation.the-variants.{Read, CheckBytes, SuppliedCount, Write, Erase, Rewind, FastForward, SkipForward, SkipReverse, SearchForward, SearchReverse, WriteMark}
+use Rattle.operations.specs.declared.operation.Operation.the-variants.{Read, CheckBytes, SuppliedCount, Write, Erase}
+use Rattle.operations.specs.declared.operation.Operation.the-variants.{Rewind, FastForward, SkipForward, SkipReverse}
+use Rattle.operations.specs.declared.operation.Operation.the-variants.{SearchForward, SearchReverse, WriteMark}
 use Rattle.operations.specs.Operation.{numberOf}
 use Rattle.operations.specs.Answers.{answerOf}
 
@@ -18,8 +20,8 @@ lineFeed = 10
 abbrev pub zeroDigit : ℕ
 zeroDigit = 48
 
--- "Operations run: read, check bytes, supplied count, write, erase, rewind, fast forward, skip forward, skip reverse, search forward, search
--- reverse, write mark."
+-- "Operations run: read, check bytes, supplied count, write, erase, rewind, fast forward, skip forward, skip reverse,
+-- search forward, search reverse, write mark."
 unfoldable pub lineOrder : List Operation
 lineOrder =
     Read ∷
@@ -74,6 +76,7 @@ tableLength = 768
 abbrev pub byteAt : ℕ → ℕ
 byteAt place = getD tableText place 0
 
--- where the digit of an operation and a code stands: two bytes to a code, 64 to a line, and the lines are the rows of the core's table
+-- where the digit of an operation and a code stands: two bytes to a code, 64 to a line, and the lines are the rows of
+-- the core's table
 abbrev pub digitPlace : Operation → ℕ → ℕ
 digitPlace operation code = 64 * numberOf operation + 2 * code

@@ -1,4 +1,5 @@
-// The answers by the papers' lists: which codes an operation's result may report, and which of them ask no retry. The core's table is not looked at.
+// The answers by the papers' lists: which codes an operation's result may report, and which of them ask no retry. The
+// core's table is not looked at.
 use operations::answers::ASKS_RETRY;
 use operations::answers::NEVER_REPORTED;
 use operations::operation::Operation;
@@ -61,7 +62,7 @@ fn is_clear(operation: Operation, code: u8) -> bool
 }
 
 // The answer of an operation and a code, worked out.
-pub fn answer_of(operation: Operation, code: u8) -> u8
+pub fn answer_by_rules(operation: Operation, code: u8) -> u8
     ensures { λ r. ⌜ r ≡ answerOf operation code ⌝ }
 {
     if (code == 0) | is_clear(operation, code) {

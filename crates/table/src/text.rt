@@ -1,5 +1,5 @@
 // The text that is printed: a line for each operation, a digit for each code.
-use crate::rules::answer_of;
+use crate::rules::answer_by_rules;
 use operations::operation::Operation;
 ghost use mathlib.Core.Path.{_≡_};
 ghost use Prim.Native.Nat.{_<_};
@@ -43,7 +43,7 @@ fn byte_at(place: usize) -> u8
         return b',';
     }
     let operation = operation_at(place / LINE_LENGTH);
-    b'0' + answer_of(operation, (column / 2) as u8)
+    b'0' + answer_by_rules(operation, (column / 2) as u8)
 }
 
 // The whole text.

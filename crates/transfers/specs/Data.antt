@@ -1,5 +1,5 @@
--- The data call (document 01, Stores; Records), as far as it concerns one drive: the image that it builds, what fills the check store, the
--- words that it leaves, and its refusals.
+-- The data call (document 01, Stores; Records), as far as it concerns one drive: the image that it builds, what fills
+-- the check store, the words that it leaves, and its refusals.
 -- Assumes nothing.
 use Prim.Native.Nat.{ℕ, _+_, _*_}
 use mathlib.Core.Bool.{Bool, not, _&&_}
@@ -24,8 +24,8 @@ use Rattle.status.specs.Words.{withHostErrors}
 abbrev pub checkStore : ℕ
 checkStore = checksLength
 
--- What is handed in for a write: the host's bytes, and "which host byte came with bad parity": its "place, counted from 0 over all bytes handed in, or
--- 65,535 plus 256 for none" (document 02, Wish 6).
+-- What is handed in for a write: the host's bytes, and "which host byte came with bad parity": its "place, counted from
+-- 0 over all bytes handed in, or 65,535 plus 256 for none" (document 02, request 6).
 pub record Host : Type 0 where
   pub bytes : List ℕ
   pub place : ℕ
@@ -34,13 +34,16 @@ pub record Host : Type 0 where
 abbrev pub hostOf : List ℕ → ℕ → Host
 hostOf bytes place = record { bytes = bytes; place = place }
 
--- "6 check store not 512; .. 11 the data call's .. image space .. short"; "15 a place that is neither in the host bytes nor the value for none, after 11"
+-- "6 check store not 512; .. 11 the data call's .. image space .. short"; "15 a place that is neither in the host bytes
+-- nor the value for none, after 11"
 unfoldable pub dataRefusal : Drive → Store → ℕ → ℕ → ℕ → ℕ → ℕ
 dataRefusal drive store handed place space check =
     pick (not (eqb check checkStore)) checkStoreLength
-    (pick (ltb space (imageLength (heldCount store) (drive .density))) spaceShort (pick (not (isPlace handed place)) noSuchPlace done))
+    (pick (ltb space (imageLength (heldCount store) (drive .density))) spaceShort
+    (pick (not (isPlace handed place)) noSuchPlace done))
 
--- the bytes of the record: behind those thrown away, "zeros fill, ..; more are not looked at", and zeros behind a bad one
+-- the bytes of the record: behind those thrown away, "zeros fill, ..; more are not looked at", and zeros behind a bad
+-- one
 abbrev pub recordBytes : Store → Host → List ℕ
 recordBytes store host = writtenBytes (host .bytes) (host .place) (thrownAway store) (heldCount store)
 
@@ -50,7 +53,8 @@ writeImage store host density = imageOf (recordBytes store host) density
 
 -- "check store then takes both check blockettes, or zeros for c = 0": the last 512 bytes of an image
 unfoldable pub checkBytes : List ℕ → ℕ → List ℕ
-checkBytes image c = pick (eqb c 0) (replicate checkStore 0) (take checkStore (drop (2 + blocketteLength * blocketteCount c) image))
+checkBytes image c =
+    pick (eqb c 0) (replicate checkStore 0) (take checkStore (drop (2 + blocketteLength * blocketteCount c) image))
 
 -- the check store afterwards, "at a GCR data call"
 abbrev pub dataCheck : Drive → Store → List ℕ → List ℕ → List ℕ
@@ -60,11 +64,13 @@ dataCheck drive store image check = pick (isGcr drive) (checkBytes image (heldCo
 unfoldable pub neededBytes : Store → ℕ
 neededBytes store = thrownAway store + heldCount store
 
--- A bad byte among these, one thrown away too. "A place past the bytes that the store needs counts as none"; 65,791 is past those of every store.
+-- A bad byte among these, one thrown away too. "A place past the bytes that the store needs counts as none"; 65,791 is
+-- past those of every store.
 unfoldable pub badByte : Store → ℕ → Bool
 badByte store place = ltb place (neededBytes store)
 
--- "fewer host bytes than thrown away plus count"; "Underflow is flagged only where the host ran out before any bad byte"
+-- "fewer host bytes than thrown away plus count"; "Underflow is flagged only where the host ran out before any bad
+-- byte"
 unfoldable pub runsShort : Store → Host → Bool
 runsShort store host = ltb (length (host .bytes)) (neededBytes store) && not (badByte store (host .place))
 

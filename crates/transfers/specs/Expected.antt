@@ -1,4 +1,5 @@
--- What a result brings, and the test of it (document 01, Records, "Result"; Turned back, 9 and 10; document 02, Wish 1).
+-- What a result brings, and the test of it (document 01, Records, "Result"; Turned back, 9 and 10; document 02,
+-- request 1).
 -- Assumes nothing.
 use Prim.Native.Nat.{ℕ}
 use mathlib.Core.Bool.{Bool, not, _&&_, _||_}
@@ -25,8 +26,8 @@ wholeCode code = eqb code 0 || (eqb code 0x10 || (eqb code 0x11 || eqb code 0x12
 unfoldable pub expectedWhole : ℕ → ℕ → Bool → Expected
 expectedWhole density code mark = pick (wholeCode code && not mark) (Whole density) Nothing
 
--- of a supplied count: "With code 0 the image and marks have the length which the supplied count gives"; "A supplied count of 0 takes an empty
--- image"
+-- of a supplied count: "With code 0 the image and marks have the length which the supplied count gives"; "A supplied
+-- count of 0 takes an empty image"
 unfoldable pub expectedSupplied : ℕ → ℕ → Expected
 expectedSupplied count code = pick (eqb code 0 && not (eqb count 0)) (Supplied count) Nothing
 
@@ -43,10 +44,11 @@ expectedOf operation store density code mark =
 
 -- an image of this length, and no marks: "9 .. wrong length of image or marks"
 unfoldable pub unmarkedRefusal : List ℕ → List ℕ → ℕ → ℕ
-unmarkedRefusal image marks n = pick (not (eqb (length image) n)) wrongLength (pick (eqb (length marks) 0) done wrongLength)
+unmarkedRefusal image marks n =
+    pick (not (eqb (length image) n)) wrongLength (pick (eqb (length marks) 0) done wrongLength)
 
--- what is expected decides: with a supplied count, "the image's own count is not looked at"; "two count bytes", and no marks; "image and marks are
--- empty"
+-- what is expected decides: with a supplied count, "the image's own count is not looked at"; "two count bytes", and no
+-- marks; "image and marks are empty"
 unfoldable pub imageRefusal : List ℕ → List ℕ → Expected → ℕ
 imageRefusal image marks (Whole density) = wholeRefusal image marks density
 imageRefusal image marks (Supplied count) = layoutRefusal image marks count gcr

@@ -1,5 +1,5 @@
--- The result (document 01, Records; document 02, Wishes 1 and 2), as far as it concerns one drive: its refusals, the verdict on it, and what is told by that: the bytes
--- that are delivered, the check store, the status words and the gap.
+-- The result (document 01, Records; document 02, Wishes 1 and 2), as far as it concerns one drive: its refusals, the
+-- verdict on it, and what is told by that: the bytes that are delivered, the check store, the status words and the gap.
 -- Assumes nothing.
 use Prim.Native.Nat.{ℕ, _*_, _/_, _%_, min}
 use mathlib.Core.Bool.{Bool, not, _&&_, _||_}
@@ -7,7 +7,7 @@ use mathlib.Core.List.{List, [], _++_}
 use lib.Dec.{leb, ltb, eqb}
 use lib.ListN.{length, take, drop, replicate}
 use Rattle.common.specs.Pick.{pick}
-use Rattle.common.specs.Given.{given}
+use Rattle.common.specs.Space.{overwrite}
 use Rattle.common.specs.Refusals.{checkStoreLength, codeNotListed, flagsAgainstRule}
 use Rattle.blockettes.specs.Blockettes.{blocketteLength}
 use Rattle.marks.specs.declared.Findings.{Findings}
@@ -74,8 +74,8 @@ resultRefusal drive operation store r check =
 unfoldable pub isGone : Drive → Operation → Bool
 isGone drive operation = movesTape (moveOf operation) && not (reports (drive .report) installed)
 
--- the marks as the operation reads them; with a supplied count, "The first blockette counts as a data error with mark 0, whichever legal mark
--- came for it"
+-- the marks as the operation reads them; with a supplied count, "The first blockette counts as a data error with mark
+-- 0, whichever legal mark came for it"
 unfoldable pub marksRead : Operation → List ℕ → List ℕ
 marksRead operation marks = pick (suppliesCount operation) (tornMarks marks) marks
 
@@ -88,7 +88,8 @@ unfoldable pub codeReported : Operation → Store → ℕ → ℕ
 codeReported operation store code =
     pick (suppliesCount operation && (eqb (heldCount store) 0 && eqb code 0)) blocketteNumberWrong code
 
--- ".. code 7 replaces the code"; "None: no change. At most one of each parity: code 15, in place of 0, 10, 11 or 12. Else 16"
+-- ".. code 7 replaces the code"; "None: no change. At most one of each parity: code 15, in place of 0, 10, 11 or 12.
+-- Else 16"
 unfoldable pub finalCode : Bool → ℕ → Findings → ℕ
 finalCode gone code found =
     pick gone offline
@@ -118,7 +119,9 @@ verdictOf drive operation store r =
       used = usesImage (isGone drive operation) (r .image);
       supplied = not (eqb (suppliedCount operation store) 0);
       renews = readsGcr drive operation;
-      code = finalCode (isGone drive operation) (codeReported operation store (r .code)) (findingsRead operation (r .marks));
+      code =
+          finalCode (isGone drive operation) (codeReported operation store (r .code))
+          (findingsRead operation (r .marks));
       count = usedCount (usesImage (isGone drive operation) (r .image)) operation store (r .image);
       found = findingsRead operation (r .marks);
     }
@@ -153,35 +156,40 @@ fitting bytes space = take space bytes
 
 -- at the start of the space: "the rest of the lent space keeps its bytes"
 abbrev pub fittingInto : List ℕ → List ℕ → List ℕ
-fittingInto bytes space = given (fitting bytes (length space)) space
+fittingInto bytes space = overwrite (fitting bytes (length space)) space
 
 -- "check store .. zeroed first; check store then takes both check blockettes"
 unfoldable pub resultCheck : Verdict → List ℕ → List ℕ → List ℕ
-resultCheck verdict image check = pick (verdict .renews) (pick (verdict .used) (checkBytes image (verdict .count)) (replicate checkStore 0)) check
+resultCheck verdict image check =
+    pick (verdict .renews) (pick (verdict .used) (checkBytes image (verdict .count)) (replicate checkStore 0)) check
 
 -- ---- words
 
--- "tertiary, quintary and check store are zeroed first": they stay zero where the image goes unused or the scan finds nothing
+-- "tertiary, quintary and check store are zeroed first": they stay zero where the image goes unused or the scan finds
+-- nothing
 unfoldable pub resultTertiary : Verdict → Word → Word
-resultTertiary verdict before = pick (verdict .renews) (pick (verdict .gone) zeroWord (tertiaryOf (verdict .found .odd) (verdict .found .even))) before
+resultTertiary verdict before =
+    pick (verdict .renews) (pick (verdict .gone) zeroWord (tertiaryOf (verdict .found .odd) (verdict .found .even)))
+    before
 
 -- quintary in the same way
 unfoldable pub resultQuintary : Verdict → Word → Word
-resultQuintary verdict before = pick (verdict .renews) (pick (verdict .gone) zeroWord (quintaryOf (verdict .found .stop))) before
+resultQuintary verdict before =
+    pick (verdict .renews) (pick (verdict .gone) zeroWord (quintaryOf (verdict .found .stop))) before
 
 -- "writes with code 0"
 unfoldable pub wroteWell : Operation → ℕ → Bool
 wroteWell operation code = sameOperation operation Write && eqb code 0
 
--- "Used images, and writes with code 0, set bit 22 and secondary = c."; of a supplied count, "A result .. makes secondary the count exactly if
--- that is nonzero, whatever the code"
+-- "Used images, and writes with code 0, set bit 22 and secondary = c."; of a supplied count, "A result .. makes
+-- secondary the count exactly if that is nonzero, whatever the code"
 unfoldable pub resultCount : Verdict → Operation → Store → ℕ → ℕ
 resultCount verdict operation store before =
     pick (verdict .supplied) (heldCount store)
     (pick (verdict .used) (verdict .count) (pick (wroteWell operation (verdict .code)) (heldCount store) before))
 
--- bits 17, 19, 20, 21 and 22 are set, "(1 sets bit 19, 2 bit 20)", "Host space too short: .. bit 17", "A result sets bits 21 and 22 .. exactly if
--- that is nonzero"; mark is assigned, and the record of final code, motion and count
+-- bits 17, 19, 20, 21 and 22 are set, "(1 sets bit 19, 2 bit 20)", "Host space too short: .. bit 17", "A result sets
+-- bits 21 and 22 .. exactly if that is nonzero"; mark is assigned, and the record of final code, motion and count
 unfoldable pub resultBits : Verdict → Outcome → Operation → Store → Bool → ℕ → ℕ → ℕ → Outcome
 resultBits verdict outcome operation store mark late bytes space =
     record {
@@ -202,8 +210,8 @@ resultBits verdict outcome operation store mark late bytes space =
       counted = outcome .counted || (verdict .supplied || (verdict .used || wroteWell operation (verdict .code)));
     }
 
--- "Bit 2 (retry)": by the final code and what the scan found, or any of bits 16-20; "Bit 19, the late flag 1, leaves it clear in both skips.
--- Another bit among 16-20 still sets it." (document 02, Wish 2)
+-- "Bit 2 (retry)": by the final code and what the scan found, or any of bits 16-20; "Bit 19, the late flag 1, leaves it
+-- clear in both skips. Another bit among 16-20 still sets it." (document 02, request 2)
 unfoldable pub withRetry : Outcome → Operation → Findings → Outcome
 withRetry outcome operation found =
     record {
@@ -219,11 +227,14 @@ withRetry outcome operation found =
       counted = outcome .counted;
     }
 
--- all words, where `bytes` are to be delivered and `space` fit: primary by its bits and its record, which has "secondary = c", tertiary and quintary
+-- all words, where `bytes` are to be delivered and `space` fit: primary by its bits and its record, which has
+-- "secondary = c", tertiary and quintary
 unfoldable pub resultWords : Words → Verdict → Operation → Store → Bool → ℕ → ℕ → ℕ → Words
 resultWords words verdict operation store mark late bytes space =
     record {
-      outcome = withRetry (resultBits verdict (words .outcome) operation store mark late bytes space) operation (verdict .found);
+      outcome =
+          withRetry (resultBits verdict (words .outcome) operation store mark late bytes space) operation
+          (verdict .found);
       tertiary = resultTertiary verdict (words .tertiary);
       quintary = resultQuintary verdict (words .quintary);
     }
@@ -250,7 +261,8 @@ unfoldable pub settleResult : Words → Drive → Operation → Store → Result
 settleResult words drive operation store r space check =
     record {
       words =
-          resultWords words (verdictOf drive operation store r) operation store (r .mark) (r .late) (length (delivered drive operation store r check)) space;
+          resultWords words (verdictOf drive operation store r) operation store (r .mark) (r .late)
+          (length (delivered drive operation store r check)) space;
       gap = resultGap drive operation (verdictOf drive operation store r .code);
       bytes = length (fitting (delivered drive operation store r check) space);
     }

@@ -3,8 +3,8 @@ use crate::after::Words;
 use blockettes::BLOCKETTE_LENGTH;
 use blockettes::CHECKS_LENGTH;
 use common::clear;
-use common::give;
-use common::least;
+use common::min;
+use common::overwrite;
 use common::refusals::CHECK_STORE_LENGTH;
 use common::refusals::DONE;
 use common::refusals::NO_SUCH_PLACE;
@@ -23,10 +23,11 @@ use status::words::zero_word;
 ghost use mathlib.Core.Path.{_≡_};
 ghost use Prim.Native.Nat.{_≤_};
 ghost use lib.ListN.{length};
-ghost use Rattle.common.specs.Given.{given};
+ghost use Rattle.common.specs.Space.{overwrite};
 ghost use Rattle.records.specs.Image.{imageLength};
 ghost use Rattle.operations.specs.Store.{heldCount};
-ghost use Rattle.transfers.specs.Data.{checkStore, hostOf, dataRefusal, writeImage, checkBytes, dataCheck, neededBytes, badByte, runsShort, dataWords};
+ghost use Rattle.transfers.specs.Data.{checkStore, hostOf, dataRefusal, writeImage, checkBytes, dataCheck};
+ghost use Rattle.transfers.specs.Data.{neededBytes, badByte, runsShort, dataWords};
 
 // How long the check store is.
 pub const CHECK_STORE: usize = CHECKS_LENGTH;
@@ -55,7 +56,8 @@ pub fn data_refusal(
     DONE
 }
 
-// The image of a write, at the start of the space: how long it is. What follows a bad byte is zeros, as what the host did not hand in.
+// The image of a write, at the start of the space: how long it is. What follows a bad byte is zeros, as what the host
+// did not hand in.
 pub fn put_write_image(
     store: Store,
     host: &[u8],
@@ -65,12 +67,13 @@ pub fn put_write_image(
 ) -> usize
     requires { ⌜ imageLength (heldCount store) density ≤ length (now space) ⌝ }
     ensures { λ r. ⌜ r ≡ length (writeImage store (hostOf (now (host .entry)) place) density) ⌝ }
-    ensures { λ _. ⌜ now (space .exit) ≡ given (writeImage store (hostOf (now (host .entry)) place) density) (now (space .entry)) ⌝ }
+    ensures { λ _. ⌜ now (space .exit)
+        ≡ overwrite (writeImage store (hostOf (now (host .entry)) place) density) (now (space .entry)) ⌝ }
 {
     let came = &host[..as_came(host.len(), place)];
     let count = held_count(store);
-    let from = least(came.len(), store.second as usize);
-    let end = least(came.len(), from + count as usize);
+    let from = min(came.len(), store.second as usize);
+    let end = min(came.len(), from + count as usize);
     let needed = image_length(count, density);
     put_image(&came[from..end], count, density, &mut space[..needed]);
     needed
@@ -86,7 +89,7 @@ pub fn put_check_bytes(image: &[u8], count: u16, check: &mut [u8])
         clear(check);
     } else {
         let from = 2 + BLOCKETTE_LENGTH * blockette_count(count);
-        give(&image[from..], check);
+        overwrite(&image[from..], check);
     }
 }
 
@@ -122,7 +125,8 @@ fn runs_short(store: Store, host: &[u8], place: usize) -> bool
     (host.len() < needed_bytes(store)) & !bad_byte(store, place)
 }
 
-// The words after a data call: bit 16 is set where a byte was bad, bit 18 where host bytes ran short, and in GCR tertiary and quintary are zeroed.
+// The words after a data call: bit 16 is set where a byte was bad, bit 18 where host bytes ran short, and in GCR
+// tertiary and quintary are zeroed.
 pub fn data_words(mut words: Words, drive: Drive, store: Store, host: &[u8], place: usize) -> Words
     ensures { λ r. ⌜ r ≡ dataWords words drive store (hostOf (now (host .entry)) place) ⌝ }
 {

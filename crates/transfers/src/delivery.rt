@@ -3,8 +3,8 @@ use crate::data::put_check_bytes;
 use crate::verdict::Verdict;
 use blockettes::BLOCKETTE_LENGTH;
 use common::clear;
-use common::give;
-use common::least;
+use common::min;
+use common::overwrite;
 use marks::Findings;
 use marks::is_found;
 use operations::operation::Operation;
@@ -19,7 +19,8 @@ ghost use lib.ListN.{length};
 ghost use Rattle.records.specs.Image.{imageLength};
 ghost use Rattle.operations.specs.Operation.{isRead};
 ghost use Rattle.transfers.specs.Data.{checkStore};
-ghost use Rattle.transfers.specs.Results.{readCount, readBytes, deliveredBytes, bytesRead, fitting, fittingInto, resultCheck};
+ghost use Rattle.transfers.specs.Results.{readCount, readBytes, deliveredBytes, bytesRead, fitting, fittingInto};
+ghost use Rattle.transfers.specs.Results.{resultCheck};
 
 // How many bytes of its image a read delivers.
 fn read_count(count: u16, found: Findings) -> usize
@@ -27,8 +28,8 @@ fn read_count(count: u16, found: Findings) -> usize
     ensures { λ r. ⌜ r ≤ count ⌝ }
 {
     if is_found(found.stop) {
-        let before = least(found.place, blockette_count(count));
-        return least(count as usize, BLOCKETTE_LENGTH * before);
+        let before = min(found.place, blockette_count(count));
+        return min(count as usize, BLOCKETTE_LENGTH * before);
     }
     count as usize
 }
@@ -69,8 +70,8 @@ fn put_fitting(bytes: &[u8], space: &mut [u8]) -> usize
     ensures { λ r. ⌜ r ≡ length (fitting (now (bytes .entry)) (length (now (space .entry)))) ⌝ }
     ensures { λ _. ⌜ now (space .exit) ≡ fittingInto (now (bytes .entry)) (now (space .entry)) ⌝ }
 {
-    let n = least(bytes.len(), space.len());
-    give(&bytes[..n], space);
+    let n = min(bytes.len(), space.len());
+    overwrite(&bytes[..n], space);
     n
 }
 
@@ -81,7 +82,7 @@ pub fn put_bytes_read(operation: Operation, bytes: &[u8], space: &mut [u8]) -> u
 {
     let n = put_fitting(bytes, space);
     if supplies_count(operation) {
-        let torn = least(n, BLOCKETTE_LENGTH);
+        let torn = min(n, BLOCKETTE_LENGTH);
         clear(&mut space[..torn]);
     }
     n
@@ -90,7 +91,8 @@ pub fn put_bytes_read(operation: Operation, bytes: &[u8], space: &mut [u8]) -> u
 // The check store after a result.
 pub fn put_result_check(verdict: Verdict, image: &[u8], check: &mut [u8])
     requires { ⌜ length (now check) ≡ checkStore ⌝ }
-    requires { ⌜ (verdict .renews ≡ true → verdict .used ≡ true → length (now image) ≡ imageLength (verdict .count) 1) ⌝ }
+    requires { ⌜
+        (verdict .renews ≡ true → verdict .used ≡ true → length (now image) ≡ imageLength (verdict .count) 1) ⌝ }
     ensures { λ _. ⌜ now (check .exit) ≡ resultCheck verdict (now (image .entry)) (now (check .entry)) ⌝ }
 {
     if verdict.renews {

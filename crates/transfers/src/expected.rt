@@ -13,10 +13,11 @@ use records::whole::whole_refusal;
 use status::drives::GCR;
 use status::drives::MFM;
 ghost use mathlib.Core.Path.{_≡_};
-ghost use Rattle.transfers.specs.Expected.{wholeCode, expectedWhole, expectedSupplied, expectedCount, expectedOf, unmarkedRefusal, imageRefusal};
+ghost use Rattle.transfers.specs.Expected.{wholeCode, expectedWhole, expectedSupplied, expectedCount, expectedOf};
+ghost use Rattle.transfers.specs.Expected.{unmarkedRefusal, imageRefusal};
 
-// What is to be handed in: a whole image of this density with its marks, a GCR image of a supplied count with its marks, two count bytes and no
-// marks, or neither.
+// What is to be handed in: a whole image of this density with its marks, a GCR image of a supplied count with its
+// marks, two count bytes and no marks, or neither.
 pub enum Expected {
     Whole(u8),
     Supplied(u16),

@@ -34,7 +34,8 @@ pub fn result_refusal(
     marks: &[u8],
     check: usize,
 ) -> u32
-    ensures { λ r. ⌜ r ≡ resultRefusal drive operation store (resultWith ending (now (image .entry)) (now (marks .entry))) check ⌝ }
+    ensures { λ r. ⌜ r
+        ≡ resultRefusal drive operation store (resultWith ending (now (image .entry)) (now (marks .entry))) check ⌝ }
 {
     if check != CHECK_STORE {
         return CHECK_STORE_LENGTH;

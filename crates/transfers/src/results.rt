@@ -22,7 +22,8 @@ use status::words::quintary_of;
 use status::words::tertiary_of;
 use status::words::zero_word;
 ghost use mathlib.Core.Path.{_≡_};
-ghost use Rattle.transfers.specs.Results.{resultTertiary, resultQuintary, wroteWell, resultCount, resultBits, withRetry, resultWords, resultGap};
+ghost use Rattle.transfers.specs.Results.{resultTertiary, resultQuintary, wroteWell, resultCount, resultBits};
+ghost use Rattle.transfers.specs.Results.{withRetry, resultWords, resultGap};
 
 // Tertiary after a result: the first errors, zero where the image goes unused, or as it was.
 fn result_tertiary(verdict: Verdict, before: Word) -> Word

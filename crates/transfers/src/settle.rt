@@ -17,7 +17,7 @@ use operations::store::Store;
 use status::drives::Drive;
 ghost use mathlib.Core.Path.{_≡_};
 ghost use lib.ListN.{length};
-ghost use Rattle.common.specs.Given.{given};
+ghost use Rattle.common.specs.Space.{overwrite};
 ghost use Rattle.transfers.specs.Data.{hostOf, dataRefusal, writeImage, dataCheck, settleData};
 ghost use Rattle.transfers.specs.Results.{resultWith, resultRefusal, resultInto, resultCheckInto, settleResult};
 
@@ -33,8 +33,11 @@ pub fn settle_data(
 ) -> Written
     requires { ⌜ dataRefusal drive store (length (now host)) place (length (now space)) (length (now check)) ≡ 0 ⌝ }
     ensures { λ r. ⌜ r ≡ settleData words drive store (hostOf (now (host .entry)) place) ⌝ }
-    ensures { λ _. ⌜ now (space .exit) ≡ given (writeImage store (hostOf (now (host .entry)) place) (drive .density)) (now (space .entry)) ⌝ }
-    ensures { λ _. ⌜ now (check .exit) ≡ dataCheck drive store (writeImage store (hostOf (now (host .entry)) place) (drive .density)) (now (check .entry)) ⌝ }
+    ensures { λ _. ⌜ now (space .exit)
+        ≡ overwrite (writeImage store (hostOf (now (host .entry)) place) (drive .density)) (now (space .entry)) ⌝ }
+    ensures { λ _. ⌜ now (check .exit)
+        ≡ dataCheck drive store (writeImage store (hostOf (now (host .entry)) place) (drive .density))
+        (now (check .entry)) ⌝ }
 {
     let left = data_words(words, drive, store, host, place);
     let bytes = put_write_image(store, host, place, drive.density, space);
@@ -54,10 +57,17 @@ pub fn settle_result(
     space: &mut [u8],
     check: &mut [u8],
 ) -> After
-    requires { ⌜ resultRefusal drive operation store (resultWith ending (now image) (now marks)) (length (now check)) ≡ 0 ⌝ }
-    ensures { λ r. ⌜ r ≡ settleResult words drive operation store (resultWith ending (now (image .entry)) (now (marks .entry))) (length (now (space .entry))) (now (check .entry)) ⌝ }
-    ensures { λ _. ⌜ now (space .exit) ≡ resultInto drive operation store (resultWith ending (now (image .entry)) (now (marks .entry))) (now (space .entry)) (now (check .entry)) ⌝ }
-    ensures { λ _. ⌜ now (check .exit) ≡ resultCheckInto drive operation store (resultWith ending (now (image .entry)) (now (marks .entry))) (now (check .entry)) ⌝ }
+    requires { ⌜ resultRefusal drive operation store (resultWith ending (now image) (now marks)) (length (now check))
+        ≡ 0 ⌝ }
+    ensures { λ r. ⌜ r
+        ≡ settleResult words drive operation store (resultWith ending (now (image .entry)) (now (marks .entry)))
+        (length (now (space .entry))) (now (check .entry)) ⌝ }
+    ensures { λ _. ⌜ now (space .exit)
+        ≡ resultInto drive operation store (resultWith ending (now (image .entry)) (now (marks .entry)))
+        (now (space .entry)) (now (check .entry)) ⌝ }
+    ensures { λ _. ⌜ now (check .exit)
+        ≡ resultCheckInto drive operation store (resultWith ending (now (image .entry)) (now (marks .entry)))
+        (now (check .entry)) ⌝ }
 {
     let verdict = verdict_of(drive, operation, store, ending, image, marks);
     let gap = result_gap(drive, operation, verdict.code);

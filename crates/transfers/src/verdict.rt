@@ -26,7 +26,8 @@ ghost use Prim.Native.Nat.{_≤_};
 ghost use lib.ListN.{length};
 ghost use Rattle.marks.specs.Marks.{mostMarks};
 ghost use Rattle.operations.specs.Operation.{suppliesCount};
-ghost use Rattle.transfers.specs.Results.{resultWith, isGone, findingsRead, codeReported, finalCode, readsGcr, recordCount, usedCount, verdictOf};
+ghost use Rattle.transfers.specs.Results.{resultWith, isGone, findingsRead, codeReported, finalCode, readsGcr};
+ghost use Rattle.transfers.specs.Results.{recordCount, usedCount, verdictOf};
 
 // What a result says besides its image and marks.
 pub struct Ending {
@@ -35,8 +36,9 @@ pub struct Ending {
     pub late: u8,
 }
 
-// Whether the tape that should have moved is gone, whether the image is used, whether a count is supplied, whether tertiary, quintary and the
-// check store are made anew, the code that the host sees, the count of an image that is used, and what the scan found.
+// Whether the tape that should have moved is gone, whether the image is used, whether a count is supplied, whether
+// tertiary, quintary and the check store are made anew, the code that the host sees, the count of an image that is
+// used, and what the scan found.
 pub struct Verdict {
     pub gone: bool,
     pub used: bool,
@@ -131,7 +133,8 @@ pub fn verdict_of(
 ) -> Verdict
     requires { ⌜ ((length (now image) ≡ 0 → ⊥) → 2 ≤ length (now image)) ⌝ }
     requires { ⌜ (suppliesCount operation ≡ true → length (now marks) ≤ mostMarks) ⌝ }
-    ensures { λ r. ⌜ r ≡ verdictOf drive operation store (resultWith ending (now (image .entry)) (now (marks .entry))) ⌝ }
+    ensures { λ r. ⌜ r
+        ≡ verdictOf drive operation store (resultWith ending (now (image .entry)) (now (marks .entry))) ⌝ }
 {
     let found = findings_read(operation, marks);
     let gone = is_gone(drive, operation);

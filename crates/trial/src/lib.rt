@@ -1,6 +1,6 @@
-// One write with a place, as C and Rust can call it. It is for the tests: of the programs none hands in a place. The data call and the result are the
-// controller's own.
-use common::give;
+// One write with a place, as C and Rust can call it. It is for the tests: of the programs none hands in a place. The
+// data call and the result are the controller's own.
+use common::overwrite;
 use controller::controller::Controller;
 use controller::controller::fresh_controller;
 use link::body::with_current_drive;
@@ -81,8 +81,8 @@ fn told_of(data: Body, result: Body, image: usize) -> [u8; TOLD]
     ]
 }
 
-// A write of this count, of whose host bytes so many are thrown away: its data call, and where that is not refused a result with code 0. The refusal is
-// the data call's.
+// A write of this count, of whose host bytes so many are thrown away: its data call, and where that is not refused a
+// result with code 0. The refusal is the data call's.
 #[no_mangle]
 pub extern "C" fn trial_write(
     density: u8,
@@ -103,6 +103,6 @@ pub extern "C" fn trial_write(
     }
     let ended = with_result(written.reply.controller);
     let answer = told_of(written.reply.controller.body, ended, written.bytes);
-    give(&answer, told);
+    overwrite(&answer, told);
     0
 }

@@ -19,7 +19,8 @@ module _ (test : ℕ → Bool) where
   tally-append : (xs ys : List ℕ) → tally test (xs ++ ys) ≡ tally test xs + tally test ys
   unfolding tally
   tally-append [] ys = sym (zero-add (tally test ys))
-  tally-append (x ∷ xs) ys = rw (tally-append xs ys) (sym (add-assoc (pick (test x) 1 0) (tally test xs) (tally test ys)))
+  tally-append (x ∷ xs) ys =
+      rw (tally-append xs ys) (sym (add-assoc (pick (test x) 1 0) (tally test xs) (tally test ys)))
 
   one-at-most : (x : ℕ) → pick (test x) 1 0 ≤ 1
   one-at-most x = pick-by (λ (n : ℕ). n ≤ 1) (test x) (λ _. omega arith) (λ _. omega arith)
@@ -34,7 +35,8 @@ module _ (test : ℕ → Bool) where
   tally-zeros zero h = refl
   tally-zeros (suc n) h = rw (h, tally-zeros n h)
 
-  recounts : (leaving entering : ℕ) (xs : List ℕ) → tally test (xs ++ (entering ∷ [])) ≡ recounted (tally test (leaving ∷ xs)) (test leaving) (test entering)
+  recounts : (leaving entering : ℕ) (xs : List ℕ)
+      → tally test (xs ++ (entering ∷ [])) ≡ recounted (tally test (leaving ∷ xs)) (test leaving) (test entering)
   unfolding tally recounted
   recounts leaving entering xs = rw (tally-append xs (entering ∷ [])) (omega arith)
 
@@ -45,7 +47,8 @@ module _ (test : ℕ → Bool) where
 -- ---- the three
 
 -- a fresh count, from the one before
-pub counts-move : (leaving entering : ℕ) (xs : List ℕ) → countsAfter (countsOf (leaving ∷ xs)) leaving entering ≡ countsOf (xs ++ (entering ∷ []))
+pub counts-move : (leaving entering : ℕ) (xs : List ℕ)
+    → countsAfter (countsOf (leaving ∷ xs)) leaving entering ≡ countsOf (xs ++ (entering ∷ []))
 unfolding countsAfter countsOf
 counts-move leaving entering xs j = record {
   recoverable = sym (recounts isRecoverable leaving entering xs) j;

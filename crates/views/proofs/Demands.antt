@@ -1,5 +1,6 @@
--- The theorems of the moving view, of any answer that the contract of `moving_view` allows. 1: `views-meet-their-contract` and
--- `refused-views-change-nothing`. 2: `each-stretch-is-counted-afresh`, `the-first-has-most` and `the-rest-of-the-space-is-kept`.
+-- The theorems of the moving view, of any answer that the contract of `moving_view` allows. 1:
+-- `views-meet-their-contract` and `refused-views-change-nothing`. 2: `each-stretch-is-counted-afresh`,
+-- `the-first-has-most` and `the-rest-of-the-space-is-kept`.
 -- Assumes nothing.
 use mathlib.Core.Path.{_≡_, refl, sym, ap, _∙_}
 use mathlib.Core.Bool.{true, false}
@@ -18,12 +19,13 @@ use ghost.Atoms.{Atoms}
 use contract.Lifetimes.{Lfts}
 use contract.Monad.{Fun, fact}
 use denote.Ref.{RefT, now, at-last}
-use Rattle.common.specs.Given.{given}
+use Rattle.common.specs.Space.{overwrite}
 use Rattle.common.proofs.PickLaws.{by-test, pick-yes, pick-no, where-done, where-refused}
 use Rattle.status.specs.declared.words.ResultRecord.{ResultRecord}
 use Rattle.views.specs.declared.view.View.{View}
 use Rattle.views.specs.declared.view.First.the-variants.{None}
-use Rattle.views.specs.View.{codesOf, stretches, stretchesBytes, unrecoverables, firstMost, stretchCount, viewRefusal, movingView, movingViewInto}
+use Rattle.views.specs.View.{codesOf, stretches, stretchesBytes, unrecoverables, firstMost, stretchCount}
+use Rattle.views.specs.View.{viewRefusal, movingView, movingViewInto}
 use Rattle.views.specs.Places.{EachIsFresh, IsFirst}
 use Rattle.views.proofs.StretchLaws.{stretches-length, bytes-length}
 use Rattle.views.proofs.PlaceLaws.{each-is-fresh, is-first}
@@ -36,21 +38,26 @@ use Rattle.views.proofs.view.moving_view.Met as met
 
 -- an answer, and what the lent space then holds
 abbrev pub Allows : List ResultRecord → ℕ → List ℕ → View → List ℕ → Type 0
-Allows run width space r after = (r ≡ movingView width (codesOf run) (length space)) × (after ≡ movingViewInto width (codesOf run) space)
+Allows run width space r after =
+    (r ≡ movingView width (codesOf run) (length space)) × (after ≡ movingViewInto width (codesOf run) space)
 
 -- these are the words of the contract
-pub these-are-its-words : {M : Type 1} (𝓤 : URA M) (H : Heap 𝓤) (A : Atoms 𝓤) (mem : Memory → SProp 𝓤) (routines : Routine → Fun 𝓤)
+pub these-are-its-words : {M : Type 1} (𝓤 : URA M) (H : Heap 𝓤) (A : Atoms 𝓤) (mem : Memory → SProp 𝓤)
+    (routines : Routine → Fun 𝓤)
     (κs : Lfts 2) (run : RefT (List ResultRecord)) (width : ℕ) (out : RefT (List ℕ)) (r : View) (after : List ℕ)
-    → f.clauses 𝓤 H A mem routines κs (run, (width, (out, tt))) .ensures tt r (run, (width, (at-last out after, tt))) ≡ fact 𝓤 (Allows (now run) width (now out) r after)
+    → f.clauses 𝓤 H A mem routines κs (run, (width, (out, tt))) .ensures tt r (run, (width, (at-last out after, tt)))
+    ≡ fact 𝓤 (Allows (now run) width (now out) r after)
 these-are-its-words 𝓤 H A mem routines κs run width out r after = refl
 
 -- ---- demand 1
 
--- `moving_view` meets its contract, which has no `requires`; so it returns and does nothing undefined, whatever it is handed.
+-- `moving_view` meets its contract, which has no `requires`; so it returns and does nothing undefined, whatever it is
+-- handed.
 pub views-meet-their-contract : {M : Type 1} → stated.statement M
 views-meet-their-contract = met.met
 
-module _ (run : List ResultRecord) (width : ℕ) (space : List ℕ) (r : View) (after : List ℕ) (allowed : Allows run width space r after) where
+module _ (run : List ResultRecord) (width : ℕ) (space : List ℕ) (r : View) (after : List ℕ)
+    (allowed : Allows run width space r after) where
   abbrev codes : List ℕ
   codes = codesOf run
 
@@ -82,19 +89,26 @@ module _ (run : List ResultRecord) (width : ℕ) (space : List ℕ) (r : View) (
     pub ok : Admitted width (length codes) (length space)
     ok = admitted width (length codes) (length space) (sym refusal-is ∙ done)
 
-    answer-is : r ≡ record { refusal = 0; stretches = length (stretches width codes); first = firstMost (unrecoverables (stretches width codes)) }
+    answer-is : r
+        ≡ record {
+          refusal = 0;
+          stretches = length (stretches width codes);
+          first = firstMost (unrecoverables (stretches width codes));
+        }
     unfolding movingView
     answer-is = allowed .0 ∙ where-done refusal _ _ (sym refusal-is ∙ done)
 
-    after-is : after ≡ given (stretchesBytes (stretches width codes)) space
+    after-is : after ≡ overwrite (stretchesBytes (stretches width codes)) space
     unfolding movingViewInto
     after-is = allowed .1 ∙ where-done refusal _ _ (sym refusal-is ∙ done)
 
     many : r .stretches ≡ stretchCount width (length codes)
     many = ap (λ (v : View). v .stretches) answer-is ∙ stretches-length width codes (ok .some)
 
-    -- "Each stretch's counts equal a fresh count of it", and there are as many as there are places from 0 to the length less the width
-    pub each-stretch-is-counted-afresh : (r .stretches ≡ stretchCount width (length codes)) × EachIsFresh width codes after
+    -- "Each stretch's counts equal a fresh count of it", and there are as many as there are places from 0 to the length
+    -- less the width
+    pub each-stretch-is-counted-afresh : (r .stretches ≡ stretchCount width (length codes))
+        × EachIsFresh width codes after
     each-stretch-is-counted-afresh = (many, rw after-is (each-is-fresh width codes (ok .some) space))
 
     -- "the first stretch with most codes 16": the least place with the greatest count
@@ -103,9 +117,12 @@ module _ (run : List ResultRecord) (width : ℕ) (space : List ℕ) (r : View) (
 
     -- "write only the bytes they give; the rest of the lent space keeps its bytes" (document 01)
     pub the-rest-of-the-space-is-kept : drop (3 * r .stretches) after ≡ drop (3 * r .stretches) space
-    unfolding given
+    unfolding overwrite
     the-rest-of-the-space-is-kept =
-        ap (drop (3 * r .stretches)) after-is ∙ drop-at (stretchesBytes (stretches width codes)) _ (3 * r .stretches) (long ∙ ap (λ (n : ℕ). 3 * n) (sym same)) ∙ ap (λ (n : ℕ). drop n space) (long ∙ ap (λ (n : ℕ). 3 * n) (sym same))
+        ap (drop (3 * r .stretches)) after-is
+        ∙ drop-at (stretchesBytes (stretches width codes)) _ (3 * r .stretches)
+        (long ∙ ap (λ (n : ℕ). 3 * n) (sym same))
+        ∙ ap (λ (n : ℕ). drop n space) (long ∙ ap (λ (n : ℕ). 3 * n) (sym same))
       where
         same : r .stretches ≡ length (stretches width codes)
         same = ap (λ (v : View). v .stretches) answer-is

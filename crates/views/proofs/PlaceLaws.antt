@@ -8,12 +8,14 @@ use mathlib.Core.List.{List, [], _∷_, _++_, append-assoc}
 use lib.ListN.{length, take, drop, getD}
 use lib.Dec.{eqb}
 use borrow.Author.Tests.{eqb-true, eqb-false}
-use Rattle.common.specs.Given.{given}
+use Rattle.common.specs.Space.{overwrite}
 use Rattle.common.proofs.PickLaws.{by-test}
-use Rattle.views.specs.View.{stretches, countsOf, countBytes, stretchesBytes, unrecoverables, greatest, placeOf, stretchCount, firstMost}
+use Rattle.views.specs.View.{stretches, countsOf, countBytes, stretchesBytes, unrecoverables, greatest, placeOf}
+use Rattle.views.specs.View.{stretchCount, firstMost}
 use Rattle.views.specs.Places.{stretchAt, unrecoverableAt, EachIsFresh, LeastWithMost, IsFirst}
 use Rattle.views.specs.declared.view.First.the-variants.{None, At}
-use Rattle.views.proofs.StretchLaws.{by-less, stretches-short, stretches-long, stretches-length, unrecoverables-length, place-hit, place-miss, place-within}
+use Rattle.views.proofs.StretchLaws.{by-less, stretches-short, stretches-long, stretches-length}
+use Rattle.views.proofs.StretchLaws.{unrecoverables-length, place-hit, place-miss, place-within}
 
 -- ---- the stretch at a place
 
@@ -25,7 +27,8 @@ place-none : (g : ℕ) → placeOf g [] ≡ 0
 unfolding placeOf
 place-none g = refl
 
-stretches-at : (width : ℕ) (cs : List ℕ) (place : ℕ) → place < length (stretches width cs) → getD (stretches width cs) place [] ≡ stretchAt width cs place
+stretches-at : (width : ℕ) (cs : List ℕ) (place : ℕ) → place < length (stretches width cs)
+    → getD (stretches width cs) place [] ≡ stretchAt width cs place
 unfolding stretchAt
 stretches-at width [] place l = absurd (omega (arith, l, ap length (stretches-none width)))
 stretches-at width (c ∷ cs) zero l = by-less (length (c ∷ cs)) width
@@ -73,7 +76,8 @@ none-greater [] other = omega arith
 none-greater (n ∷ ns) zero = omega arith
 none-greater (n ∷ ns) (suc other) = omega (arith, none-greater ns other)
 
-unrecoverables-at : (ss : List (List ℕ)) (place : ℕ) → place < length ss → getD (unrecoverables ss) place 0 ≡ countsOf (getD ss place []) .unrecoverable
+unrecoverables-at : (ss : List (List ℕ)) (place : ℕ) → place < length ss
+    → getD (unrecoverables ss) place 0 ≡ countsOf (getD ss place []) .unrecoverable
 unfolding unrecoverables
 unrecoverables-at [] place l = absurd (omega (arith, l))
 unrecoverables-at (s ∷ ss) zero l = refl
@@ -91,20 +95,24 @@ module _ (width : ℕ) (codes : List ℕ) (some : 1 ≤ width) where
   many : length ss ≡ stretchCount width (length codes)
   many = stretches-length width codes some
 
-  pub each-is-fresh : (space : List ℕ) → EachIsFresh width codes (given (stretchesBytes ss) space)
-  unfolding given
+  pub each-is-fresh : (space : List ℕ) → EachIsFresh width codes (overwrite (stretchesBytes ss) space)
+  unfolding overwrite
   each-is-fresh space place l =
-      bytes-at ss place (drop (length (stretchesBytes ss)) space) (rw many l) ∙ ap (λ (s : List ℕ). countBytes (countsOf s)) (stretches-at width codes place (rw many l))
+      bytes-at ss place (drop (length (stretchesBytes ss)) space) (rw many l)
+      ∙ ap (λ (s : List ℕ). countBytes (countsOf s)) (stretches-at width codes place (rw many l))
 
   counted-at : (place : ℕ) → place < length ss → getD ns place 0 ≡ unrecoverableAt width codes place
   unfolding unrecoverableAt
-  counted-at place l = unrecoverables-at ss place l ∙ ap (λ (s : List ℕ). countsOf s .unrecoverable) (stretches-at width codes place l)
+  counted-at place l =
+      unrecoverables-at ss place l ∙ ap (λ (s : List ℕ). countsOf s .unrecoverable) (stretches-at width codes place l)
 
   least-with-most : placeOf (greatest ns) ns < length ns → LeastWithMost width codes (placeOf (greatest ns) ns)
   least-with-most l = record {
     is-one = omega (arith, l, counted, many);
     most = λ other h. omega (arith, none-greater ns other, here, counted-at other (rw many h));
-    least = λ other h. omega (arith, none-greater ns other, here, counted-at other (omega (arith, h, l, counted)), unlike other h);
+    min =
+        λ other h. omega
+        (arith, none-greater ns other, here, counted-at other (omega (arith, h, l, counted)), unlike other h);
   }
     where
       counted : length ns ≡ length ss

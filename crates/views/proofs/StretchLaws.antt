@@ -13,7 +13,8 @@ use lib.Dec.{eqb, ltb}
 use borrow.Author.Tests.{ltb-true, ltb-false, lt-ltb, le-ltb, eqb-true, eqb-false, eq-eqb, ne-eqb}
 use Rattle.common.specs.Pick.{pick}
 use Rattle.common.proofs.PickLaws.{by-test, pick-yes, pick-no}
-use Rattle.views.specs.View.{stretches, stretchCount, countsOf, countBytes, stretchesBytes, unrecoverables, greatest, placeOf}
+use Rattle.views.specs.View.{stretches, stretchCount, countsOf, countBytes, stretchesBytes, unrecoverables}
+use Rattle.views.specs.View.{greatest, placeOf}
 
 -- a claim, by which of two numbers is less
 pub by-less : {P : Type 0} (a b : ℕ) → (ltb a b ≡ true → a < b → P) → (ltb a b ≡ false → b ≤ a → P) → P
@@ -26,11 +27,13 @@ unfolding stretches
 stretches-short width [] l = refl
 stretches-short width (c ∷ cs) l = pick-yes _ _ (lt-ltb _ _ l)
 
-pub stretches-long : (width c : ℕ) (cs : List ℕ) → width ≤ length (c ∷ cs) → stretches width (c ∷ cs) ≡ take width (c ∷ cs) ∷ stretches width cs
+pub stretches-long : (width c : ℕ) (cs : List ℕ) → width ≤ length (c ∷ cs)
+    → stretches width (c ∷ cs) ≡ take width (c ∷ cs) ∷ stretches width cs
 unfolding stretches
 stretches-long width c cs l = pick-no _ _ (le-ltb _ _ l)
 
-pub stretches-length : (width : ℕ) (cs : List ℕ) → 1 ≤ width → length (stretches width cs) ≡ stretchCount width (length cs)
+pub stretches-length : (width : ℕ) (cs : List ℕ) → 1 ≤ width
+    → length (stretches width cs) ≡ stretchCount width (length cs)
 unfolding stretchCount
 stretches-length width [] some = rw (stretches-short width [] some) (omega arith)
 stretches-length width (c ∷ cs) some = by-less (length (c ∷ cs)) width
@@ -38,14 +41,16 @@ stretches-length width (c ∷ cs) some = by-less (length (c ∷ cs)) width
     (λ t l. rw (stretches-long width c cs l, stretches-length width cs some) (omega (arith, l)))
 
 -- the first code of a run, where the width is 1
-alone : (width c : ℕ) → 1 ≤ width → width ≤ 0 + 1 → stretches width (c ∷ []) ≡ stretches width [] ++ (drop (0 + 1 - width) (c ∷ []) ∷ [])
+alone : (width c : ℕ) → 1 ≤ width → width ≤ 0 + 1
+    → stretches width (c ∷ []) ≡ stretches width [] ++ (drop (0 + 1 - width) (c ∷ []) ∷ [])
 unfolding stretches pick
 alone zero c some l = absurd (omega (arith, some))
 alone (suc zero) c some l = refl
 alone (suc (suc n)) c some l = absurd (omega (arith, l))
 
 abbrev More : ℕ → ℕ → List ℕ → Type 0
-More width c cs = stretches width (cs ++ (c ∷ [])) ≡ stretches width cs ++ (drop (length cs + 1 - width) (cs ++ (c ∷ [])) ∷ [])
+More width c cs =
+    stretches width (cs ++ (c ∷ [])) ≡ stretches width cs ++ (drop (length cs + 1 - width) (cs ++ (c ∷ [])) ∷ [])
 
 module _ (width c x : ℕ) (xs : List ℕ) (l : width ≤ length (x ∷ xs) + 1) where
   abbrev all : List ℕ
@@ -70,9 +75,11 @@ module _ (width c x : ℕ) (xs : List ℕ) (l : width ≤ length (x ∷ xs) + 1)
 
     first-one : More width c (x ∷ xs)
     first-one =
-        first ∙ ap (λ (ss : List (List ℕ)). take width all ∷ ss) (stretches-short width (xs ++ (c ∷ [])) (rw (length-append) (omega (arith, short))))
+        first ∙ ap (λ (ss : List (List ℕ)). take width all ∷ ss)
+        (stretches-short width (xs ++ (c ∷ [])) (rw (length-append) (omega (arith, short))))
         ∙ ap (λ (s : List ℕ). s ∷ []) (everything ∙ ap (λ (n : ℕ). drop n all) none-before)
-        ∙ ap (λ (ss : List (List ℕ)). ss ++ (drop (length (x ∷ xs) + 1 - width) all ∷ [])) (sym (stretches-short width (x ∷ xs) short))
+        ∙ ap (λ (ss : List (List ℕ)). ss ++ (drop (length (x ∷ xs) + 1 - width) all ∷ []))
+        (sym (stretches-short width (x ∷ xs) short))
 
   -- one of those after it
   module _ (fits : width ≤ length (x ∷ xs)) where
@@ -84,7 +91,8 @@ module _ (width c x : ℕ) (xs : List ℕ) (l : width ≤ length (x ∷ xs) + 1)
         first
         ∙ (λ j. take-append-le width (x ∷ xs) (c ∷ []) fits j ∷ rest j)
         ∙ ap (λ (n : ℕ). take width (x ∷ xs) ∷ (stretches width xs ++ (drop n all ∷ []))) one-before
-        ∙ ap (λ (ss : List (List ℕ)). ss ++ (drop (length (x ∷ xs) + 1 - width) all ∷ [])) (sym (stretches-long width x xs fits))
+        ∙ ap (λ (ss : List (List ℕ)). ss ++ (drop (length (x ∷ xs) + 1 - width) all ∷ []))
+        (sym (stretches-long width x xs fits))
 
 pub stretches-more : (width c : ℕ) (cs : List ℕ) → 1 ≤ width → width ≤ length cs + 1 → More width c cs
 stretches-more width c [] some l = alone width c some l
@@ -94,10 +102,13 @@ stretches-more width c (x ∷ xs) some l = by-less (length (x ∷ xs)) width
 
 -- ---- what is written of them
 
-pub bytes-more : (ss : List (List ℕ)) (s : List ℕ) → stretchesBytes (ss ++ (s ∷ [])) ≡ stretchesBytes ss ++ countBytes (countsOf s)
+pub bytes-more : (ss : List (List ℕ)) (s : List ℕ)
+    → stretchesBytes (ss ++ (s ∷ [])) ≡ stretchesBytes ss ++ countBytes (countsOf s)
 unfolding stretchesBytes
 bytes-more [] s = append-nil (countBytes (countsOf s))
-bytes-more (t ∷ ss) s = ap (λ (bs : List ℕ). countBytes (countsOf t) ++ bs) (bytes-more ss s) ∙ sym (append-assoc (countBytes (countsOf t)) (stretchesBytes ss) (countBytes (countsOf s)))
+bytes-more (t ∷ ss) s =
+    ap (λ (bs : List ℕ). countBytes (countsOf t) ++ bs) (bytes-more ss s)
+    ∙ sym (append-assoc (countBytes (countsOf t)) (stretchesBytes ss) (countBytes (countsOf s)))
 
 pub bytes-length : (ss : List (List ℕ)) → length (stretchesBytes ss) ≡ 3 * length ss
 unfolding stretchesBytes countBytes
@@ -106,7 +117,8 @@ bytes-length (s ∷ ss) = rw (bytes-length ss) (omega arith)
 
 -- ---- the first with most
 
-pub unrecoverables-more : (ss : List (List ℕ)) (s : List ℕ) → unrecoverables (ss ++ (s ∷ [])) ≡ unrecoverables ss ++ (countsOf s .unrecoverable ∷ [])
+pub unrecoverables-more : (ss : List (List ℕ)) (s : List ℕ)
+    → unrecoverables (ss ++ (s ∷ [])) ≡ unrecoverables ss ++ (countsOf s .unrecoverable ∷ [])
 unfolding unrecoverables
 unrecoverables-more [] s = refl
 unrecoverables-more (t ∷ ss) s = ap (λ (ns : List ℕ). countsOf t .unrecoverable ∷ ns) (unrecoverables-more ss s)
@@ -162,7 +174,8 @@ none-more n l = place-hit 0 n [] (omega (arith, l))
 pub place-within : (n : ℕ) (ns : List ℕ) → placeOf (greatest (n ∷ ns)) (n ∷ ns) < length (n ∷ ns)
 place-within n [] = rw (first-is-found n [] (of-nothing n)) (omega arith)
 place-within n (m ∷ ns) = by-less n (greatest (m ∷ ns))
-    (λ _ l. rw (greatest-later n (m ∷ ns) l, place-miss (greatest (m ∷ ns)) n (m ∷ ns) (λ e. omega (arith, e, l))) (omega (arith, place-within m ns)))
+    (λ _ l. rw (greatest-later n (m ∷ ns) l, place-miss (greatest (m ∷ ns)) n (m ∷ ns) (λ e. omega (arith, e, l)))
+    (omega (arith, place-within m ns)))
     (λ _ l. rw (first-is-found n (m ∷ ns) l) (omega arith))
 
 -- a place that is found stays, whatever comes after
@@ -178,12 +191,18 @@ place-stays g (n ∷ ns) ms l = by-test (eqb n g)
 place-at-end : (n : ℕ) (ns : List ℕ) → greatest ns < n → placeOf n (ns ++ (n ∷ [])) ≡ length ns
 place-at-end n [] l = place-hit n n [] refl
 place-at-end n (m ∷ ns) l =
-    place-miss n m (ns ++ (n ∷ [])) (λ e. omega (arith, e, below n m ns l)) ∙ ap (λ (p : ℕ). 1 + p) (place-at-end n ns (below n m ns l .1)) ∙ omega arith
+    place-miss n m (ns ++ (n ∷ [])) (λ e. omega (arith, e, below n m ns l))
+    ∙ ap (λ (p : ℕ). 1 + p) (place-at-end n ns (below n m ns l .1)) ∙ omega arith
 
-pub place-more : (ns : List ℕ) (n : ℕ) → pick (ltb (greatest ns) n) (length ns) (placeOf (greatest ns) ns) ≡ placeOf (greatest (ns ++ (n ∷ []))) (ns ++ (n ∷ []))
+pub place-more : (ns : List ℕ) (n : ℕ)
+    → pick (ltb (greatest ns) n) (length ns) (placeOf (greatest ns) ns)
+    ≡ placeOf (greatest (ns ++ (n ∷ []))) (ns ++ (n ∷ []))
 place-more ns n = by-less (greatest ns) n
-    (λ t l. pick-yes _ _ t ∙ sym (ap (λ (g : ℕ). placeOf g (ns ++ (n ∷ []))) (greatest-append ns n ∙ omega (arith, l)) ∙ place-at-end n ns l))
-    (λ t l. pick-no _ _ t ∙ sym (ap (λ (g : ℕ). placeOf g (ns ++ (n ∷ []))) (greatest-append ns n ∙ omega (arith, l)) ∙ stays ns l))
+    (λ t l. pick-yes _ _ t
+    ∙ sym (ap (λ (g : ℕ). placeOf g (ns ++ (n ∷ []))) (greatest-append ns n ∙ omega (arith, l))
+    ∙ place-at-end n ns l))
+    (λ t l. pick-no _ _ t
+    ∙ sym (ap (λ (g : ℕ). placeOf g (ns ++ (n ∷ []))) (greatest-append ns n ∙ omega (arith, l)) ∙ stays ns l))
   where
     stays : (ns : List ℕ) → n ≤ greatest ns → placeOf (greatest ns) (ns ++ (n ∷ [])) ≡ placeOf (greatest ns) ns
     stays [] l = none-more n l

@@ -31,13 +31,21 @@ module _ (s : List ℕ) (w a : ℕ) (inside : a < w) (long : w ≤ length s) whe
 
   goes-on : (c : ℕ) → drop (a + 1) (take w (set s a c)) ++ take (a + 1) (set s a c) ≡ later s w a ++ (c ∷ [])
   goes-on c =
-      rw (add-one a, take-set-lt w s a c inside, drop-set-lt (suc a) (take w s) a c (omega arith), take-suc-set s a c (omega arith))
+      rw (
+        add-one a,
+        take-set-lt w s a c inside,
+        drop-set-lt (suc a) (take w s) a c (omega arith),
+        take-suc-set s a c
+            (omega arith),
+      )
       (sym (append-assoc (drop (suc a) (take w s)) (take a s) (c ∷ [])))
 
   goes-around : (c : ℕ) → a + 1 ≡ w → drop 0 (take w (set s a c)) ++ take 0 (set s a c) ≡ later s w a ++ (c ∷ [])
   goes-around c e =
-      append-nil (take w (set s a c)) ∙ ap (λ (n : ℕ). take n (set s a c)) (sym e ∙ add-one a) ∙ take-suc-set s a c (omega arith)
-      ∙ ap (λ (l : List ℕ). l ++ take a s ++ (c ∷ [])) (sym (drop-of-length-le (take w s) {i = suc a} (rw (length-take-le w s long) (omega (arith, e)))))
+      append-nil (take w (set s a c)) ∙ ap (λ (n : ℕ). take n (set s a c)) (sym e ∙ add-one a)
+      ∙ take-suc-set s a c (omega arith)
+      ∙ ap (λ (l : List ℕ). l ++ take a s ++ (c ∷ []))
+      (sym (drop-of-length-le (take w s) {i = suc a} (rw (length-take-le w s long) (omega (arith, e)))))
 
 -- ---- a window after one code more
 module _ (w : Window) (is : Whole w) where
@@ -57,7 +65,13 @@ module _ (w : Window) (is : Whole w) where
   held-length : length (held w) ≡ w .width
   unfolding held
   held-length =
-      rw (length-append, length-drop, length-take-le (w .width) (w .codes) enough, length-take-le (w .oldest) (w .codes) (omega (arith, is .within, enough)))
+      rw (
+        length-append,
+        length-drop,
+        length-take-le (w .width) (w .codes) enough,
+        length-take-le (w .oldest) (w .codes)
+            (omega (arith, is .within, enough)),
+      )
       (omega (arith, is .within))
 
   -- what `counts_after` asks
@@ -67,11 +81,16 @@ module _ (w : Window) (is : Whole w) where
     λ h. rw (e, held-cons) (present test leaving rest h),
   )
 
-  pub can-count : Counted (w .counts .recoverable) (isRecoverable leaving) × (Counted (w .counts .unrecoverable) (isUnrecoverable leaving) × Counted (w .counts .others) (isOther leaving))
+  pub can-count : Counted (w .counts .recoverable) (isRecoverable leaving)
+      × (Counted (w .counts .unrecoverable) (isUnrecoverable leaving) × Counted (w .counts .others) (isOther leaving))
   unfolding countsOf
   can-count = (
     counted isRecoverable _ (ap (λ (n : Counts). n .recoverable) (is .counts)),
-    (counted isUnrecoverable _ (ap (λ (n : Counts). n .unrecoverable) (is .counts)), counted isOther _ (ap (λ (n : Counts). n .others) (is .counts))),
+    (
+      counted isUnrecoverable _ (ap (λ (n : Counts). n .unrecoverable) (is .counts)),
+      counted isOther _
+          (ap (λ (n : Counts). n .others) (is .counts)),
+    ),
   )
 
   abbrev Next : ℕ → Type 0
@@ -108,7 +127,9 @@ module _ (w : Window) (is : Whole w) where
         few = is .few;
         within = inside h;
         long = length-set (w .codes) (w .oldest) code ∙ is .long;
-        counts = e ∙ ap (λ (n : Counts). countsAfter n leaving code) (is .counts ∙ ap countsOf held-cons) ∙ counts-move leaving code rest ∙ ap countsOf (sym (new-held h));
+        counts =
+            e ∙ ap (λ (n : Counts). countsAfter n leaving code) (is .counts ∙ ap countsOf held-cons)
+            ∙ counts-move leaving code rest ∙ ap countsOf (sym (new-held h));
       };
       holds = new-held h ∙ ap (λ (l : List ℕ). drop 1 l ++ (code ∷ [])) (sym held-cons);
       width = refl;

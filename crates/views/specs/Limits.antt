@@ -1,4 +1,4 @@
--- The limits of a moving view, and the refusals that it alone gives (document 02, Wish 11).
+-- The limits of a moving view (document 02, request 11).
 -- Assumes nothing.
 use Prim.Native.Nat.{ℕ}
 
@@ -13,11 +13,3 @@ runLimit = 65535
 -- "For each full stretch .. write three bytes"
 abbrev pub stretchBytes : ℕ
 stretchBytes = 3
-
--- "18 a width outside 1 to 64"
-abbrev pub widthOutOfRange : ℕ
-widthOutOfRange = 18
-
--- "19 a run above 65,535"
-abbrev pub runTooLong : ℕ
-runTooLong = 19

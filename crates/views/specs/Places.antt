@@ -17,7 +17,8 @@ stretchAt width codes place = take width (drop place codes)
 unfoldable pub unrecoverableAt : ℕ → List ℕ → ℕ → ℕ
 unrecoverableAt width codes place = countsOf (stretchAt width codes place) .unrecoverable
 
--- "For each full stretch of that width, in run order, write three bytes": "Each stretch's counts equal a fresh count of it"
+-- "For each full stretch of that width, in run order, write three bytes": "Each stretch's counts equal a fresh count of
+-- it"
 abbrev pub EachIsFresh : ℕ → List ℕ → List ℕ → Type 0
 EachIsFresh width codes out =
     (place : ℕ) → place < stretchCount width (length codes)
@@ -26,8 +27,9 @@ EachIsFresh width codes out =
 -- "the first stretch with most codes 16": none has more, and each before it has less
 pub record LeastWithMost (width : ℕ) (codes : List ℕ) (place : ℕ) : Type 0 where
   pub is-one : place < stretchCount width (length codes)
-  pub most : (other : ℕ) → other < stretchCount width (length codes) → unrecoverableAt width codes other ≤ unrecoverableAt width codes place
-  pub least : (other : ℕ) → other < place → unrecoverableAt width codes other < unrecoverableAt width codes place
+  pub most : (other : ℕ) → other < stretchCount width (length codes)
+      → unrecoverableAt width codes other ≤ unrecoverableAt width codes place
+  pub min : (other : ℕ) → other < place → unrecoverableAt width codes other < unrecoverableAt width codes place
 
 -- "A run shorter than the width gives no stretches, and none as the first."
 unfoldable pub IsFirst : ℕ → List ℕ → First → Type 0

@@ -1,5 +1,5 @@
--- The moving view of a run of result records (document 02, Wish 11). "Take up to 65,535 result records (final code, motion, count) in tape order and a
--- width of 1 to 64."
+-- The moving view of a run of result records (document 02, request 11). "Take up to 65,535 result records (final code,
+-- motion, count) in tape order and a width of 1 to 64."
 -- Assumes nothing.
 use Prim.Native.Nat.{ℕ, _+_, _-_, _*_, max}
 use mathlib.Core.Bool.{Bool, not, _&&_}
@@ -7,11 +7,11 @@ use mathlib.Core.List.{List, [], _∷_, _++_}
 use lib.Dec.{eqb, ltb, leb}
 use lib.ListN.{length, take}
 use Rattle.common.specs.Pick.{pick}
-use Rattle.common.specs.Given.{given}
-use Rattle.common.specs.Refusals.{done, spaceShort}
+use Rattle.common.specs.Space.{overwrite}
+use Rattle.common.specs.Refusals.{done, spaceShort, widthOutOfRange, runTooLong}
 use Rattle.status.specs.declared.words.ResultRecord.{ResultRecord}
 use Rattle.operations.specs.Codes.{recoverable, unrecoverable}
-use Rattle.views.specs.Limits.{widthLimit, runLimit, stretchBytes, widthOutOfRange, runTooLong}
+use Rattle.views.specs.Limits.{widthLimit, runLimit, stretchBytes}
 use Rattle.views.specs.declared.counts.Counts.{Counts}
 use Rattle.views.specs.declared.view.First.{First}
 use Rattle.views.specs.declared.view.First.the-variants.{None, At}
@@ -51,7 +51,11 @@ tally test (c ∷ cs) = pick (test c) 1 0 + tally test cs
 -- "the number of codes 15, of codes 16, and of other nonzero codes"
 unfoldable pub countsOf : List ℕ → Counts
 countsOf codes =
-    record { recoverable = tally isRecoverable codes; unrecoverable = tally isUnrecoverable codes; others = tally isOther codes }
+    record {
+      recoverable = tally isRecoverable codes;
+      unrecoverable = tally isUnrecoverable codes;
+      others = tally isOther codes;
+    }
 
 -- ---- what is written
 
@@ -59,7 +63,8 @@ countsOf codes =
 unfoldable pub countBytes : Counts → List ℕ
 countBytes n = n .recoverable ∷ n .unrecoverable ∷ n .others ∷ []
 
--- "For each full stretch of that width, in run order, write three bytes"; "Each stretch's counts equal a fresh count of it"
+-- "For each full stretch of that width, in run order, write three bytes"; "Each stretch's counts equal a fresh count of
+-- it"
 unfoldable pub stretchesBytes : List (List ℕ) → List ℕ
 stretchesBytes [] = []
 stretchesBytes (s ∷ ss) = countBytes (countsOf s) ++ stretchesBytes ss
@@ -81,8 +86,8 @@ unfoldable pub placeOf : ℕ → List ℕ → ℕ
 placeOf n [] = 0
 placeOf n (m ∷ ms) = pick (eqb m n) 0 (1 + placeOf n ms)
 
--- "the first stretch with most codes 16, as the place of its first record from 0": stretch by stretch, so is that of its first record.
--- "A run shorter than the width gives no stretches, and none as the first."
+-- "the first stretch with most codes 16, as the place of its first record from 0": stretch by stretch, so is that of
+-- its first record. "A run shorter than the width gives no stretches, and none as the first."
 unfoldable pub firstMost : List ℕ → First
 firstMost [] = None
 firstMost (n ∷ ns) = At (placeOf (greatest (n ∷ ns)) (n ∷ ns))
@@ -103,10 +108,15 @@ viewRefusal width count room =
 unfoldable pub movingView : ℕ → List ℕ → ℕ → View
 movingView width codes room =
     pick (eqb (viewRefusal width (length codes) room) 0)
-    (record { refusal = done; stretches = length (stretches width codes); first = firstMost (unrecoverables (stretches width codes)) })
+    (record {
+      refusal = done;
+      stretches = length (stretches width codes);
+      first = firstMost (unrecoverables (stretches width codes));
+    })
     (record { refusal = viewRefusal width (length codes) room; stretches = 0; first = None })
 
 -- and what the lent space then holds
 unfoldable pub movingViewInto : ℕ → List ℕ → List ℕ → List ℕ
 movingViewInto width codes space =
-    pick (eqb (viewRefusal width (length codes) (length space)) 0) (given (stretchesBytes (stretches width codes)) space) space
+    pick (eqb (viewRefusal width (length codes) (length space)) 0)
+    (overwrite (stretchesBytes (stretches width codes)) space) space

@@ -7,9 +7,10 @@ use mathlib.Core.List.{List, [], _∷_, _++_}
 use lib.Dec.{eqb, ltb}
 use lib.ListN.{length, take, drop, replicate, set}
 use Rattle.common.specs.Pick.{pick}
-use Rattle.common.specs.Given.{given}
+use Rattle.common.specs.Space.{overwrite}
 use Rattle.views.specs.Limits.{widthLimit, stretchBytes}
-use Rattle.views.specs.View.{isRecoverable, isUnrecoverable, isOther, countsOf, stretches, stretchesBytes, unrecoverables, greatest, placeOf, viewRefusal}
+use Rattle.views.specs.View.{isRecoverable, isUnrecoverable, isOther, countsOf, stretches, stretchesBytes}
+use Rattle.views.specs.View.{unrecoverables, greatest, placeOf, viewRefusal}
 use Rattle.views.specs.declared.counts.Counts.{Counts}
 use Rattle.views.specs.declared.window.Window.{Window}
 use Rattle.views.specs.declared.view.View.{View}
@@ -93,7 +94,7 @@ pub record Gave (ss : List (List ℕ)) (space : List ℕ) (w : Window) (out : Li
   pub count : w .stretches ≡ length ss
   pub most : w .most ≡ greatest (unrecoverables ss)
   pub first : w .first ≡ placeOf (greatest (unrecoverables ss)) (unrecoverables ss)
-  pub gives : out ≡ given (stretchesBytes ss) space
+  pub gives : out ≡ overwrite (stretchesBytes ss) space
   pub room : stretchBytes * length ss ≤ length space
 
 -- a window after some codes: it holds the last of them, and gave every full stretch
@@ -122,4 +123,5 @@ openWindow width count room = record {
 
 -- what a window answers after the last record
 unfoldable pub viewOf : Window → View
-viewOf w = record { refusal = w .refusal; stretches = w .stretches; first = pick (eqb (w .stretches) 0) None (At (w .first)) }
+viewOf w =
+    record { refusal = w .refusal; stretches = w .stretches; first = pick (eqb (w .stretches) 0) None (At (w .first)) }

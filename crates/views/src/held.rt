@@ -2,7 +2,7 @@
 use crate::limits::RUN_LIMIT;
 use crate::view::View;
 use crate::view::moving_view;
-use common::least;
+use common::min;
 use status::words::ResultRecord;
 ghost use mathlib.Core.Path.{_≡_};
 ghost use lib.ListN.{length};
@@ -15,7 +15,7 @@ pub const HELD_LIMIT: usize = RUN_LIMIT + 1;
 fn held_end(count: usize) -> usize
     ensures { λ r. ⌜ r ≡ heldEnd count ⌝ }
 {
-    least(count, HELD_LIMIT)
+    min(count, HELD_LIMIT)
 }
 
 // The view of the first records of an array.

@@ -1,14 +1,14 @@
 // The view of a lent slice of records.
 use crate::counts::Counts;
 use crate::limits::RUN_LIMIT;
-use crate::limits::RUN_TOO_LONG;
 use crate::limits::STRETCH_BYTES;
 use crate::limits::WIDTH_LIMIT;
-use crate::limits::WIDTH_OUT_OF_RANGE;
 use crate::window::Window;
 use crate::window::step;
 use common::refusals::DONE;
+use common::refusals::RUN_TOO_LONG;
 use common::refusals::SPACE_SHORT;
+use common::refusals::WIDTH_OUT_OF_RANGE;
 use status::words::ResultRecord;
 ghost use mathlib.Core.Path.{_≡_};
 ghost use lib.ListN.{length};
@@ -92,8 +92,8 @@ fn view_of(window: Window) -> View
     }
 }
 
-// The one function over a lent slice of records; all that it does is done by the covered ones. A refused view has no records to take in, so that no
-// branch is needed here.
+// The one function over a lent slice of records; all that it does is done by the covered ones. A refused view has no
+// records to take in, so that no branch is needed here.
 pub fn moving_view(run: &[ResultRecord], width: usize, out: &mut [u8]) -> View
     ensures { λ r. ⌜ (r ≡ movingView width (codesOf (now (run .entry))) (length (now (out .entry))))
         × (now (out .exit) ≡ movingViewInto width (codesOf (now (run .entry))) (now (out .entry))) ⌝ }

@@ -10,7 +10,8 @@ ghost use lib.ListN.{length};
 ghost use Rattle.views.specs.Limits.{runLimit, stretchBytes};
 ghost use Rattle.views.specs.Window.{Whole, Shifted, placed, placedInto, After};
 
-// The last codes that were taken in, and what is counted of them; before the first, codes 0. They go around: the oldest is let out for the next.
+// The last codes that were taken in, and what is counted of them; before the first, codes 0. They go around: the oldest
+// is let out for the next.
 pub struct Window {
     pub codes: [u8; WIDTH_LIMIT],
     pub width: usize,
@@ -46,7 +47,8 @@ fn shifted(mut window: Window, code: u8) -> Window
 
 // Places the three bytes of a full stretch, and notes its place where it has more codes 16 than any before.
 fn placed(mut window: Window, out: &mut [u8]) -> Window
-    requires { ⌜ (window .stretches < runLimit) × (window .width ≤ window .taken → stretchBytes * window .stretches + stretchBytes ≤ length (now out)) ⌝ }
+    requires { ⌜ (window .stretches < runLimit)
+        × (window .width ≤ window .taken → stretchBytes * window .stretches + stretchBytes ≤ length (now out)) ⌝ }
     ensures { λ r. ⌜ (r ≡ placed window) × (now (out .exit) ≡ placedInto window (now (out .entry))) ⌝ }
 {
     if window.taken < window.width {
@@ -67,8 +69,11 @@ fn placed(mut window: Window, out: &mut [u8]) -> Window
 
 // One record more: its code is taken in, the oldest is let out, and a full stretch is given.
 pub fn step(out: &mut [u8], window: Window, code: u8) -> Window
-    requires { ⌜ Whole window × (window .taken < runLimit) × (window .stretches < runLimit) × (window .width ≤ window .taken + 1 → stretchBytes * window .stretches + stretchBytes ≤ length (now out)) ⌝ }
-    ensures { λ r. ⌜ ((width : ℕ) (codes space : List ℕ) → After width codes space window (now (out .entry)) → After width (codes ++ (code ∷ [])) space r (now (out .exit))) ⌝ }
+    requires { ⌜ Whole window × (window .taken < runLimit) × (window .stretches < runLimit)
+        × (window .width ≤ window .taken + 1 → stretchBytes * window .stretches + stretchBytes ≤ length (now out)) ⌝ }
+    ensures { λ r. ⌜
+        ((width : ℕ) (codes space : List ℕ) → After width codes space window (now (out .entry))
+        → After width (codes ++ (code ∷ [])) space r (now (out .exit))) ⌝ }
 {
     placed(shifted(window, code), out)
 }

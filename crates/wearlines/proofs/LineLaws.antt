@@ -4,9 +4,9 @@ use mathlib.Core.Path.{_≡_, ap, _∙_}
 use Prim.Native.Nat.{ℕ, _≤_}
 use mathlib.Core.List.{List}
 use lib.ListN.{length}
-use Rattle.lines.specs.Line.{partOf, partEnd, after}
-use Rattle.lines.proofs.FieldLaws.{part-within}
-use Rattle.joblines.specs.Print.{colon}
+use Rattle.text.specs.Fields.{partOf, partEnd, after}
+use Rattle.text.proofs.FieldLaws.{part-within}
+use Rattle.text.specs.Characters.{colon}
 use Rattle.wearlines.specs.Line.{fieldsLine, afterColon, recordLine}
 
 -- a part is no longer than what it stands in

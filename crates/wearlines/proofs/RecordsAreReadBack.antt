@@ -6,17 +6,17 @@ use native.Mathlib.Omega.{arith}
 use mathlib.Core.List.{List, _∷_, _++_}
 use Rattle.common.specs.Pick.{pick}
 use Rattle.status.specs.declared.words.ResultRecord.{ResultRecord}
-use Rattle.lines.specs.Digits.{isByte, byteOf, isDecimal, decimalOf}
-use Rattle.lines.specs.Limits.{byteLimit}
-use Rattle.lines.specs.Print.{byteText}
-use Rattle.joblines.specs.Limits.{decimalMost}
-use Rattle.joblines.specs.Print.{colon, decimalText, recordText}
+use Rattle.text.specs.Digits.{isByte, byteOf, isDecimal, decimalOf}
+use Rattle.text.specs.Limits.{byteLimit, decimalMost}
+use Rattle.text.specs.Print.{byteText, decimalText, recordText}
+use Rattle.text.specs.Characters.{colon}
 use Rattle.wearlines.specs.Limits.{countLimit}
 use Rattle.wearlines.specs.Line.{fieldsLine, recordLine}
 use Rattle.wearlines.specs.declared.line.RecordReading.{RecordReading}
 use Rattle.wearlines.specs.declared.line.RecordReading.the-variants.{OneRecord}
 use Rattle.wearlines.proofs.LineLaws.{record-cut}
-use Rattle.wearlines.proofs.DigitLaws.{part-of-digits, after-digits, byte-digits, byte-is, byte-back, decimal-digits, decimal-is, decimal-back}
+use Rattle.text.proofs.ReadBackLaws.{part-of-digits, after-digits, byte-digits, byte-is, byte-back, decimal-digits}
+use Rattle.text.proofs.ReadBackLaws.{decimal-is, decimal-back}
 
 module _ (r : ResultRecord) (code : r .code < 256) (motion : r .motion < 256) (count : r .count < 4294967296) where
   abbrev CC : List ℕ
@@ -28,7 +28,7 @@ module _ (r : ResultRecord) (code : r .code < 256) (motion : r .motion < 256) (c
   abbrev N : List ℕ
   N = decimalText decimalMost (r .count)
 
-  cut : fieldsLine CC M N ≡ recordLine (recordText r)
+  cut : fieldsLine CC M N ≡ recordLine (recordText (r .code) (r .motion) (r .count))
   unfolding recordText
   cut = record-cut (CC ++ (colon ∷ (M ++ (colon ∷ N)))) CC (M ++ (colon ∷ N)) M N
       (sym (part-of-digits 16 CC (M ++ (colon ∷ N)) (byte-digits (r .code) code)))
@@ -44,9 +44,14 @@ module _ (r : ResultRecord) (code : r .code < 256) (motion : r .motion < 256) (c
     count = decimal-back decimalMost (r .count) (omega (arith, count)) j;
   })
 
-  pub records-are-read-back : recordLine (recordText r) ≡ OneRecord r
+  pub records-are-read-back : recordLine (recordText (r .code) (r .motion) (r .count)) ≡ OneRecord r
   unfolding fieldsLine pick
   records-are-read-back =
       sym cut
-      ∙ rw (byte-is (r .code) code, decimal-is byteLimit 9 (r .motion) (omega (arith, motion)) (omega (arith, motion)), decimal-is countLimit 9 (r .count) (omega (arith, count)) (omega (arith, count)))
+      ∙ rw (
+        byte-is (r .code) code,
+        decimal-is byteLimit 9 (r .motion) (omega (arith, motion))
+            (omega (arith, motion)),
+        decimal-is countLimit 9 (r .count) (omega (arith, count)) (omega (arith, count)),
+      )
       values

@@ -3,7 +3,7 @@
 use mathlib.Core.Path.{_≡_}
 use Prim.Native.Nat.{ℕ}
 use mathlib.Core.List.{List, [], _∷_, _++_, append-assoc}
-use Rattle.lines.specs.Characters.{comma, lineFeed, noneSign, unreadableSign}
+use Rattle.text.specs.Characters.{comma, lineFeed, noneSign, unreadableSign}
 
 -- three numbers, behind a text
 pub numbers-text : (before a b c : List ℕ) {t1 t2 t3 t4 t5 t6 : List ℕ}

@@ -1,5 +1,5 @@
--- For the two functions that read a line of a wear log, two wrong answers that their contracts do not allow. The contract is `Post`, as the toolchain
--- reads it.
+-- For the two functions that read a line of a wear log, two wrong answers that their contracts do not allow. The
+-- contract is `Post`, as the toolchain reads it.
 -- Assumes nothing.
 use mathlib.Core.Path.{_≡_, sym, ap, _∙_}
 use mathlib.Core.Bool.{Bool, true, false, false≢true}
@@ -10,9 +10,9 @@ use Prim.Native.Nat.{ℕ}
 use native.Mathlib.Omega.{arith}
 use Rattle.common.specs.Pick.{pick}
 use Rattle.status.specs.declared.words.ResultRecord.{ResultRecord}
-use Rattle.lines.specs.Digits.{digitValue, isDigit, allDigits, isByte, decimalFrom, decimalOf, isDecimal}
-use Rattle.lines.specs.Line.{partOf}
-use Rattle.joblines.specs.Print.{colon}
+use Rattle.text.specs.Digits.{digitValue, isDigit, allDigits, isByte, decimalFrom, decimalOf, isDecimal}
+use Rattle.text.specs.Fields.{partOf}
+use Rattle.text.specs.Characters.{colon}
 use Rattle.wearlines.specs.Line.{fieldsLine, afterColon, recordLine, widthLine}
 use Rattle.wearlines.specs.declared.line.RecordReading.{RecordReading}
 use Rattle.wearlines.specs.declared.line.RecordReading.the-variants.{NoRecord, OneRecord}
@@ -38,13 +38,17 @@ widthOf (OneWidth width) = width
 
 module _ (κs : Lfts 1) (s : RefT (List ℕ)) (r : RecordReading) (allowed : record-reads.Post κs (s, tt) r (s, tt)) where
   -- small letters are read: 1f:0:0
-  pub read-record-reads-small-letters : now s ≡ 49 ∷ 102 ∷ colon ∷ 48 ∷ colon ∷ 48 ∷ [] → (x : ResultRecord) → r ≡ OneRecord x → ⊥
-  unfolding recordLine fieldsLine afterColon partOf isByte isDecimal decimalOf decimalFrom allDigits isDigit digitValue pick
+  pub read-record-reads-small-letters : now s ≡ 49 ∷ 102 ∷ colon ∷ 48 ∷ colon ∷ 48 ∷ [] → (x : ResultRecord)
+      → r ≡ OneRecord x → ⊥
+  unfolding recordLine fieldsLine afterColon partOf isByte isDecimal decimalOf decimalFrom allDigits isDigit
+      digitValue pick
   read-record-reads-small-letters says x e = false≢true (ap isNone (sym e ∙ allowed ∙ ap recordLine says))
 
   -- a motion of 256 is read: 00:256:0
-  pub read-record-reads-motion-256 : now s ≡ 48 ∷ 48 ∷ colon ∷ 50 ∷ 53 ∷ 54 ∷ colon ∷ 48 ∷ [] → (x : ResultRecord) → r ≡ OneRecord x → ⊥
-  unfolding recordLine fieldsLine afterColon partOf isByte isDecimal decimalOf decimalFrom allDigits isDigit digitValue pick
+  pub read-record-reads-motion-256 : now s ≡ 48 ∷ 48 ∷ colon ∷ 50 ∷ 53 ∷ 54 ∷ colon ∷ 48 ∷ [] → (x : ResultRecord)
+      → r ≡ OneRecord x → ⊥
+  unfolding recordLine fieldsLine afterColon partOf isByte isDecimal decimalOf decimalFrom allDigits isDigit
+      digitValue pick
   read-record-reads-motion-256 says x e = false≢true (ap isNone (sym e ∙ allowed ∙ ap recordLine says))
 
 -- ---- read_width
@@ -59,4 +63,5 @@ module _ (κs : Lfts 1) (s : RefT (List ℕ)) (r : WidthReading) (allowed : widt
   pub read-width-reads-65-as-64 : now s ≡ 54 ∷ 53 ∷ [] → r ≡ OneWidth 64 → ⊥
   unfolding widthLine isDecimal decimalOf decimalFrom allDigits isDigit digitValue pick
   read-width-reads-65-as-64 says e =
-      let right : _≡_ {A = ℕ} 64 65 = sym (ap widthOf e) ∙ ap widthOf (allowed ∙ ap widthLine says) in omega (arith, right)
+      let right : _≡_ {A = ℕ} 64 65 = sym (ap widthOf e) ∙ ap widthOf (allowed ∙ ap widthLine says) in
+      omega (arith, right)

@@ -1,7 +1,7 @@
 -- The limits of a wear log's line, and of the text that is printed of its view.
 -- Assumes nothing.
 use Prim.Native.Nat.{ℕ, _+_, _*_}
-use Rattle.joblines.specs.Limits.{decimalMost}
+use Rattle.text.specs.Limits.{decimalMost}
 
 -- a count has 32 bits
 abbrev pub countLimit : ℕ

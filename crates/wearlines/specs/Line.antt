@@ -1,5 +1,6 @@
--- What a line of a wear log says: the first is a width in decimal, each other a record as the jobs program prints it (document 02, Wish 8: "CC:M:N (code
--- in two hexadecimal digits, motion and count decimal)"). A line is given without its #0A.
+-- What a line of a wear log says: the first is a width in decimal, each other a record as the jobs program prints it
+-- (document 02, request 8: "CC:M:N (code in two hexadecimal digits, motion and count decimal)"). A line is given
+-- without its #0A.
 -- Assumes nothing.
 use Prim.Native.Nat.{ℕ, _+_}
 use mathlib.Core.Bool.{not, _&&_}
@@ -8,10 +9,10 @@ use lib.Dec.{eqb}
 use lib.ListN.{length}
 use Rattle.common.specs.Pick.{pick}
 use Rattle.status.specs.declared.words.ResultRecord.{ResultRecord}
-use Rattle.lines.specs.Limits.{byteLimit}
-use Rattle.lines.specs.Digits.{allDigits, isByte, byteOf, isDecimal, decimalOf}
-use Rattle.lines.specs.Line.{partOf, partEnd, after}
-use Rattle.joblines.specs.Print.{colon}
+use Rattle.text.specs.Limits.{byteLimit}
+use Rattle.text.specs.Digits.{allDigits, isByte, byteOf, isDecimal, decimalOf}
+use Rattle.text.specs.Fields.{partOf, partEnd, after}
+use Rattle.text.specs.Characters.{colon}
 use Rattle.views.specs.Limits.{widthLimit}
 use Rattle.wearlines.specs.Limits.{countLimit}
 use Rattle.wearlines.specs.declared.line.RecordReading.{RecordReading}
@@ -37,4 +38,6 @@ recordLine s = fieldsLine (partOf colon s) (partOf colon (afterColon s)) (afterC
 -- a width: one digit or more. One above the limit is refused whatever it is, so it is read as the least of them.
 unfoldable pub widthLine : List ℕ → WidthReading
 widthLine s =
-    pick (not (eqb (length s) 0) && allDigits 10 s) (OneWidth (pick (isDecimal widthLimit s) (decimalOf s) (widthLimit + 1))) NoWidth
+    pick (not (eqb (length s) 0) && allDigits 10 s)
+    (OneWidth (pick (isDecimal widthLimit s) (decimalOf s) (widthLimit + 1)))
+    NoWidth

@@ -2,14 +2,16 @@
 -- Assumes nothing.
 use Prim.Native.Nat.{ℕ}
 use mathlib.Core.List.{List, [], _∷_, _++_}
-use Rattle.lines.specs.Characters.{comma, lineFeed, noneSign, unreadableSign, zeroDigit}
-use Rattle.joblines.specs.Limits.{decimalMost}
-use Rattle.joblines.specs.Print.{decimalText}
+use Rattle.text.specs.Characters.{comma, lineFeed, noneSign, unreadableSign, zeroDigit}
+use Rattle.text.specs.Limits.{decimalMost}
+use Rattle.text.specs.Print.{decimalText}
 
--- three numbers: of a stretch its codes 15, its codes 16 and the others, and before the stretches 0, how many there are, and the first with most codes 16
+-- three numbers: of a stretch its codes 15, its codes 16 and the others, and before the stretches 0, how many there
+-- are, and the first with most codes 16
 unfoldable pub numbersText : ℕ → ℕ → ℕ → List ℕ
 numbersText a b c =
-    decimalText decimalMost a ++ (comma ∷ (decimalText decimalMost b ++ (comma ∷ (decimalText decimalMost c ++ (lineFeed ∷ [])))))
+    decimalText decimalMost a
+    ++ (comma ∷ (decimalText decimalMost b ++ (comma ∷ (decimalText decimalMost c ++ (lineFeed ∷ [])))))
 
 -- no stretch: 0,0,-
 unfoldable pub noStretchText : List ℕ

@@ -1,14 +1,14 @@
 // What a line of a wear log says.
 use crate::limits::COUNT_LIMIT;
-use lines::digits::all_digits;
-use lines::digits::byte_of;
-use lines::digits::decimal_of;
-use lines::digits::is_byte;
-use lines::digits::is_decimal;
-use lines::limits::BYTE_LIMIT;
-use lines::line::after;
-use lines::line::part_of;
 use status::words::ResultRecord;
+use text::digits::all_digits;
+use text::digits::byte_of;
+use text::digits::decimal_of;
+use text::digits::is_byte;
+use text::digits::is_decimal;
+use text::fields::after;
+use text::fields::part_of;
+use text::limits::BYTE_LIMIT;
 use views::limits::WIDTH_LIMIT;
 ghost use mathlib.Core.Path.{_≡_};
 ghost use Rattle.wearlines.specs.Line.{fieldsLine, recordLine, widthLine};

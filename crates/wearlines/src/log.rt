@@ -3,7 +3,7 @@ use crate::line::RecordReading;
 use crate::line::WidthReading;
 use crate::line::read_record;
 use crate::line::read_width;
-use common::least;
+use common::min;
 use status::words::ResultRecord;
 use views::held::HELD_LIMIT;
 use views::limits::RUN_LIMIT;
@@ -13,8 +13,8 @@ ghost use Rattle.views.specs.Held.{heldLimit};
 // A number of a line that is not counted further.
 const LINE_MOST: u32 = 4294967295;
 
-// What is known between two lines: how many lines there were, the width, how many records are held, and the number of the first line that cannot be
-// read, 0 where each can.
+// What is known between two lines: how many lines there were, the width, how many records are held, and the number of
+// the first line that cannot be read, 0 where each can.
 pub struct Progress {
     pub lines: u32,
     pub width: usize,
@@ -22,8 +22,8 @@ pub struct Progress {
     pub bad: u32,
 }
 
-// A line that was taken: what is known after it, and a record with its place in the array. A line without a record has a blank one for the place
-// where the next goes.
+// A line that was taken: what is known after it, and a record with its place in the array. A line without a record has
+// a blank one for the place where the next goes.
 pub struct Taken {
     pub progress: Progress,
     pub place: usize,
@@ -87,7 +87,8 @@ fn with_width(progress: Progress, width: usize) -> Progress
     }
 }
 
-// The next line has a record. Those that the array has no place for are not counted: one more than a run may have is told as well as many.
+// The next line has a record. Those that the array has no place for are not counted: one more than a run may have is
+// told as well as many.
 fn with_record(progress: Progress) -> Progress
     requires { ⌜ progress .count ≤ heldLimit ⌝ }
     ensures { λ r. ⌜ r .count ≤ heldLimit ⌝ }
@@ -95,7 +96,7 @@ fn with_record(progress: Progress) -> Progress
     Progress {
         lines: next_line(progress.lines),
         width: progress.width,
-        count: least(progress.count + 1, HELD_LIMIT),
+        count: min(progress.count + 1, HELD_LIMIT),
         bad: progress.bad,
     }
 }
@@ -113,9 +114,10 @@ fn take_width(progress: Progress, line: &[u8]) -> Progress
 
 fn take_record(progress: Progress, line: &[u8]) -> Taken
     requires { ⌜ progress .count ≤ heldLimit ⌝ }
-    ensures { λ r. ⌜ (r .progress .count ≤ heldLimit) × (r .place < heldLimit) ⌝ }
+    ensures counted { λ r. ⌜ r .progress .count ≤ heldLimit ⌝ }
+    ensures placed { λ r. ⌜ r .place < heldLimit ⌝ }
 {
-    let place = least(progress.count, RUN_LIMIT);
+    let place = min(progress.count, RUN_LIMIT);
     let reading = read_record(line);
     match reading {
         RecordReading::NoRecord => {
@@ -140,7 +142,8 @@ fn take_record(progress: Progress, line: &[u8]) -> Taken
 // One line: the first has the width, each other a record.
 pub fn take_line(progress: Progress, line: &[u8]) -> Taken
     requires { ⌜ progress .count ≤ heldLimit ⌝ }
-    ensures { λ r. ⌜ (r .progress .count ≤ heldLimit) × (r .place < heldLimit) ⌝ }
+    ensures counted { λ r. ⌜ r .progress .count ≤ heldLimit ⌝ }
+    ensures placed { λ r. ⌜ r .place < heldLimit ⌝ }
 {
     if progress.lines == 0 {
         let next = take_width(progress, line);

@@ -1,8 +1,8 @@
-// What is printed of the view of a wear log. The functions are of the kind of `lines::print`.
-use common::give;
-use joblines::limits::DECIMAL_MOST;
-use joblines::print::put_decimal;
-use lines::print::put;
+// What is printed of the view of a wear log. The functions are of the kind of `text::print`.
+use common::overwrite;
+use text::limits::DECIMAL_MOST;
+use text::print::put;
+use text::print::put_decimal;
 ghost use mathlib.Core.Path.{_≡_};
 ghost use Prim.Native.Nat.{_+_, _≤_};
 ghost use mathlib.Core.List.{_++_};
@@ -13,7 +13,8 @@ ghost use Rattle.wearlines.specs.Print.{numbersText, noStretchText, refu
 // Three numbers.
 pub fn put_numbers(a: u32, b: u32, c: u32, out: &mut [u8], at: usize) -> usize
     requires { ⌜ at + textMost ≤ length (now out) ⌝ }
-    ensures { λ r. ⌜ (r ≤ at + textMost) × (take r (now (out .exit)) ≡ take at (now (out .entry)) ++ numbersText a b c) ⌝ }
+    ensures ends { λ r. ⌜ r ≤ at + textMost ⌝ }
+    ensures text { λ r. ⌜ take r (now (out .exit)) ≡ take at (now (out .entry)) ++ numbersText a b c ⌝ }
 {
     let first = put_decimal(DECIMAL_MOST, a, out, at);
     let comma = put(b',', out, first);
@@ -26,17 +27,19 @@ pub fn put_numbers(a: u32, b: u32, c: u32, out: &mut [u8], at: usize) -> usize
 // No stretch.
 pub fn print_no_stretch(out: &mut [u8]) -> usize
     requires { ⌜ noStretchLength ≤ length (now out) ⌝ }
-    ensures { λ r. ⌜ (r ≡ noStretchLength) × (take r (now (out .exit)) ≡ noStretchText) ⌝ }
+    ensures ends { λ r. ⌜ r ≡ noStretchLength ⌝ }
+    ensures text { λ r. ⌜ take r (now (out .exit)) ≡ noStretchText ⌝ }
 {
     let text = [b'0', b',', b'0', b',', b'-', b'\n'];
-    give(&text, out);
+    overwrite(&text, out);
     text.len()
 }
 
 // A refusal.
 pub fn print_refused(refusal: u32, out: &mut [u8]) -> usize
     requires { ⌜ textMost ≤ length (now out) ⌝ }
-    ensures { λ r. ⌜ (r ≤ textMost) × (take r (now (out .exit)) ≡ refusedText refusal) ⌝ }
+    ensures ends { λ r. ⌜ r ≤ textMost ⌝ }
+    ensures text { λ r. ⌜ take r (now (out .exit)) ≡ refusedText refusal ⌝ }
 {
     let number = put_decimal(DECIMAL_MOST, refusal, out, 0);
     let first = put(b',', out, number);
@@ -49,7 +52,8 @@ pub fn print_refused(refusal: u32, out: &mut [u8]) -> usize
 // A line that cannot be read.
 pub fn print_bad_line(line: u32, out: &mut [u8]) -> usize
     requires { ⌜ textMost ≤ length (now out) ⌝ }
-    ensures { λ r. ⌜ (r ≤ textMost) × (take r (now (out .exit)) ≡ badLineText line) ⌝ }
+    ensures ends { λ r. ⌜ r ≤ textMost ⌝ }
+    ensures text { λ r. ⌜ take r (now (out .exit)) ≡ badLineText line ⌝ }
 {
     let sign = put(b'?', out, 0);
     let first = put(b',', out, sign);

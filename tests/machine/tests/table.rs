@@ -5,7 +5,7 @@ use machine::table::{self, entry, CODES, ROWS};
 use std::process::Command;
 
 /// The text that the program must print, as it is stored beside the program.
-const STORED: &[u8] = include_bytes!("../../../crates/table/stdout");
+const STORED: &[u8] = include_bytes!("../../../crates/table_main/stdout");
 
 #[test]
 fn the_stored_table_is_that_of_the_lists() {

@@ -1,4 +1,5 @@
--- `blockettes::xor` meets its contract. After i turns the first i bytes are those of the XOR and the rest stands as it was.
+-- `blockettes::xor` meets its contract. After i turns the first i bytes are those of the XOR and the rest stands as it
+-- was.
 -- Assumes nothing.
 use borrow.Author.Needs.{needs}
 use mathlib.Core.Path.{_≡_, ap, sym, _∙_}
@@ -20,8 +21,8 @@ Inv-loop into₀ from n i₀ into i =
 abbrev μ-loop : tie.MeasureT-loop
 μ-loop into₀ from n i₀ into i = n - i
 
-least-requires : tie.Need-least-requires Inv-loop μ-loop
-least-requires c κs = search needs
+min-requires : tie.Need-min-requires Inv-loop μ-loop
+min-requires c κs = search needs
 
 loop-holds : tie.Need-loop-holds Inv-loop μ-loop
 loop-holds c = search needs
@@ -54,7 +55,8 @@ loop-again c =
       simp length-set (l .inv .1),
       rw (l .inv .2)
           (written-more s (s ⊕ f) (l .i) 0 _
-          (⊕-at s f (l .i) in-s in-f ∙ ap (λ x. bitXor x (getD f (l .i) 0)) (sym (written-next s (s ⊕ f) (l .i) 0 in-t in-s))) in-t in-s),
+          (⊕-at s f (l .i) in-s in-f
+          ∙ ap (λ x. bitXor x (getD f (l .i) 0)) (sym (written-next s (s ⊕ f) (l .i) 0 in-t in-s))) in-t in-s),
     )
 
 same-length : tie.Need-same-length Inv-loop μ-loop
@@ -75,7 +77,7 @@ xor-spec =
     (tie.spec
     Inv-loop
     μ-loop
-    least-requires
+    min-requires
     loop-holds
     slice-read-into
     shared-slice-read-into

@@ -10,17 +10,17 @@ use Rattle.blockettes.specs.Blockettes.{blocketteAt}
 use Rattle.blockettes.proofs.xor_at.Statement.{statement}
 use Rattle.blockettes.proofs.xor_at.Tie as tie
 
-mul-least : tie.Need-mul-least
-mul-least c = search needs
+mul-min : tie.Need-mul-min
+mul-min c = search needs
 
-least-requires : tie.Need-least-requires
-least-requires c κs = search needs
+min-requires : tie.Need-min-requires
+min-requires c κs = search needs
 
-add-least : tie.Need-add-least
-add-least c = search needs
+add-min : tie.Need-add-min
+add-min c = search needs
 
-least-requires-2 : tie.Need-least-requires-2
-least-requires-2 c κs = search needs
+min-requires-2 : tie.Need-min-requires-2
+min-requires-2 c κs = search needs
 
 sub-xor : tie.Need-sub-xor
 sub-xor c = search needs
@@ -44,16 +44,17 @@ returns c =
     let l = m .before .before .before in
     let a = l .before .before .before .before .args in
     m .xor .ensures
-    ∙ ap (λ (x : List ℕ). a .into .now ⊕ x) (part-within (a .bytes .now) (256 * a .place) 256 _ _ (l .before .least .ensures) (l .least2 .ensures))
+    ∙ ap (λ (x : List ℕ). a .into .now ⊕ x)
+    (part-within (a .bytes .now) (256 * a .place) 256 _ _ (l .before .min .ensures) (l .min2 .ensures))
 
 pub xor-at-spec : {M : Type 1} → statement M
 xor-at-spec =
     tie.close
     (tie.spec
-    mul-least
-    least-requires
-    add-least
-    least-requires-2
+    mul-min
+    min-requires
+    add-min
+    min-requires-2
     sub-xor
     part-xor-start
     part-xor-end

@@ -13,7 +13,8 @@ use Rattle.common.proofs.clear.Tie as tie
 
 abbrev Inv-loop : tie.InvT-loop
 Inv-loop space₀ n i₀ space i =
-    (i ≤ length space₀) × (length space ≡ length space₀) × (space ≡ take i (replicate (length space₀) 0) ++ drop i space₀)
+    (i ≤ length space₀) × (length space ≡ length space₀)
+    × (space ≡ take i (replicate (length space₀) 0) ++ drop i space₀)
 
 abbrev μ-loop : tie.MeasureT-loop
 μ-loop space₀ n i₀ space i = length space₀ - i
@@ -38,7 +39,9 @@ loop-again c =
     let room : l .i < n = omega arith in (
       omega arith,
       simp length-set (l .inv .1),
-      rw (l .inv .2) (written-more s (replicate n 0) (l .i) 0 0 (getD-replicate n (l .i) 0 0 room) (simp length-replicate room) room),
+      rw (l .inv .2)
+          (written-more s (replicate n 0) (l .i) 0 0 (getD-replicate n (l .i) 0 0 room) (simp length-replicate room)
+          room),
     )
 
 same-length : tie.Need-same-length Inv-loop μ-loop
@@ -49,7 +52,13 @@ returns c =
     let l = c .before .loop in
     let s = c .before .before .args .space .now in
     let done : length s ≤ l .i = omega arith in
-    l .inv .2 ∙ simp (drop-of-length-le s done, take-all {A = ℕ} (l .i) (replicate (length s) 0) (simp length-replicate done), append-nil)
+    l .inv .2
+    ∙ simp (
+      drop-of-length-le s done,
+      take-all {A = ℕ} (l .i) (replicate (length s) 0)
+          (simp length-replicate done),
+      append-nil,
+    )
 
 pub clear-spec : {M : Type 1} → statement M
 clear-spec =

@@ -6,20 +6,20 @@ use Prim.Native.Nat.{ℕ, _≤_}
 use mathlib.Core.List.{List, _++_}
 use lib.ListN.{length, take, replicate, length-take}
 use native.Mathlib.Omega.{arith}
-use Rattle.common.specs.Given.{filled}
-use Rattle.common.proofs.GivenLaws.{given-all}
+use Rattle.common.specs.Space.{filled}
+use Rattle.common.proofs.SpaceLaws.{overwritten-all}
 use Rattle.common.proofs.Parts.{two-parts, second-length}
 use Rattle.common.proofs.put_filled.Statement.{statement}
 use Rattle.common.proofs.put_filled.Tie as tie
 
-slice-relend-prefix-give : tie.Need-slice-relend-prefix-give
-slice-relend-prefix-give c = search needs
+slice-relend-prefix-overwrite : tie.Need-slice-relend-prefix-overwrite
+slice-relend-prefix-overwrite c = search needs
 
-slice-aggregate-give : tie.Need-slice-aggregate-give
-slice-aggregate-give c = simp length-take (omega arith)
+slice-aggregate-overwrite : tie.Need-slice-aggregate-overwrite
+slice-aggregate-overwrite c = simp length-take (omega arith)
 
-give-requires : tie.Need-give-requires
-give-requires c κs = simp length-take (omega arith)
+overwrite-requires : tie.Need-overwrite-requires
+overwrite-requires c κs = simp length-take (omega arith)
 
 sub-clear : tie.Need-sub-clear
 sub-clear c = search needs
@@ -45,9 +45,10 @@ returns c =
     let bytes = e .args .bytes .now in
     let space = e .args .space .now in
     let n = length bytes in
-    let front = gv .give .last .1 .0 in
+    let front = gv .overwrite .last .1 .0 in
     let room : n ≤ length space = e .pre in
-    let is-front : front ≡ bytes = gv .give .ensures ∙ given-all bytes (take n space) (simp length-take (omega arith)) in
+    let is-front : front
+    ≡ bytes = gv .overwrite .ensures ∙ overwritten-all bytes (take n space) (simp length-take (omega arith)) in
     let so-many : length front ≡ n = ap (λ (x : List ℕ). length x) is-front in
     two-parts space front (cl .clear .last .0) n so-many
     ∙ ap₂ _++_ is-front (cl .clear .ensures ∙ ap (λ (k : ℕ). replicate k 0) (second-length space front n so-many room))
@@ -56,9 +57,9 @@ pub put-filled-spec : {M : Type 1} → statement M
 put-filled-spec =
     tie.close
     (tie.spec
-    slice-relend-prefix-give
-    slice-aggregate-give
-    give-requires
+    slice-relend-prefix-overwrite
+    slice-aggregate-overwrite
+    overwrite-requires
     sub-clear
     part-clear-start
     part-clear-end

@@ -1,5 +1,5 @@
--- What the contracts of the calls' own functions allow, as the toolchain reads them: exactly the machine's answer (`answers-are-steps`,
--- `steps-are-allowed`). And the functions meet them (`Meet`).
+-- What the contracts of the calls' own functions allow, as the toolchain reads them: exactly the machine's answer
+-- (`answers-are-steps`, `steps-are-allowed`). And the functions meet them (`Meet`).
 -- Assumes nothing.
 use mathlib.Core.Path.{_≡_, refl, ap, ap₂, _∙_}
 use mathlib.Core.List.{List, []}
@@ -13,7 +13,8 @@ use Rattle.controller.specs.declared.controller.Reply.{Reply}
 use Rattle.controller.specs.declared.controller.Transfer.{Transfer}
 use Rattle.controller.specs.Controller.{fresh}
 use Rattle.controller.specs.Records.{Answer, answered}
-use Rattle.controller.specs.Machine.{byteCall, takenCall, brokenCall, reportCall, dataCall, resultCall, tickCall, resetCall, handCall, Call, plain, step}
+use Rattle.controller.specs.Machine.{byteCall, takenCall, brokenCall, reportCall, dataCall, resultCall, tickCall}
+use Rattle.controller.specs.Machine.{resetCall, handCall, Call, plain, step}
 use Rattle.controller.specs.Machine.Call.{byte, taken, broken, report, hostData, result, tick, reset, hand}
 use Rattle.controller.proofs.controller.Controller.byte.Reads as byte-reads
 use Rattle.controller.proofs.controller.Controller.taken.Reads as taken-reads
@@ -80,8 +81,23 @@ pub record ResultLent (c : Controller) (r : Result) (space check : List ℕ) (an
   pub holds-space : now space-slice ≡ space
   pub holds-check : now check-slice ≡ check
   pub promise :
-      result-reads.Post lifetimes (c, (r .code, (r .mark, (r .late, (image-slice, (marks-slice, (space-slice, (check-slice, tt)))))))) transfer
-      (c, (r .code, (r .mark, (r .late, (image-slice, (marks-slice, (at-last space-slice (answer .space), (at-last check-slice (answer .check), tt))))))))
+      result-reads.Post lifetimes
+      (c, (r .code, (r .mark, (r .late, (image-slice, (marks-slice, (space-slice, (check-slice, tt)))))))) transfer (
+        c,
+        (
+          r .code,
+          (
+            r .mark,
+            (
+              r .late,
+              (
+                image-slice,
+                (marks-slice, (at-last space-slice (answer .space), (at-last check-slice (answer .check), tt))),
+              ),
+            ),
+          ),
+        ),
+      )
   pub same : answer ≡ answered transfer (answer .space) (answer .check)
 
 abbrev somewhere : List ℕ → RefT (List ℕ)
@@ -95,7 +111,8 @@ unfoldable pub Allows : Controller → Call → Answer → Type 0
 Allows c (byte b) = Plainly (λ (r : Reply). byte-reads.Post tt (c, (b, tt)) r (c, (b, tt)))
 Allows c taken = Plainly (λ (r : Reply). taken-reads.Post tt (c, tt) r (c, tt))
 Allows c broken = Plainly (λ (r : Reply). broken-reads.Post tt (c, tt) r (c, tt))
-Allows c (report drive bits) = Plainly (λ (r : Reply). report-reads.Post tt (c, (drive, (bits, tt))) r (c, (drive, (bits, tt))))
+Allows c (report drive bits) =
+    Plainly (λ (r : Reply). report-reads.Post tt (c, (drive, (bits, tt))) r (c, (drive, (bits, tt))))
 Allows c tick = Plainly (λ (r : Reply). tick-reads.Post tt (c, tt) r (c, tt))
 Allows c (hostData host space check) = DataLent c host space check
 Allows c (result r space check) = ResultLent c r space check
@@ -118,7 +135,8 @@ answers-are-steps c (hostData host space check) answer allowed =
 answers-are-steps c (result r space check) answer allowed =
     allowed .same
     ∙ allowed .promise
-    ∙ ap₂ (λ (i m : List ℕ). resultCall c (resultOf (r .code) (r .mark) (r .late) i m) (now (allowed .space-slice)) (now (allowed .check-slice)))
+    ∙ ap₂ (λ (i m : List ℕ). resultCall c (resultOf (r .code) (r .mark) (r .late) i m) (now (allowed .space-slice))
+    (now (allowed .check-slice)))
     (allowed .holds-image) (allowed .holds-marks)
     ∙ ap₂ (λ (s k : List ℕ). resultCall c r s k) (allowed .holds-space) (allowed .holds-check)
 answers-are-steps c reset answer allowed = allowed .same ∙ ap plain (allowed .promise)

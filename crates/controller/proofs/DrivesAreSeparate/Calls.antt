@@ -8,30 +8,32 @@ use lib.Dec.{eqb}
 use lib.ListN.{length, take}
 use borrow.Author.Tests.{eqb-true, eqb-false}
 use Rattle.common.specs.Pick.{pick}
-use Rattle.common.specs.Given.{given}
-use Rattle.common.proofs.GivenLaws.{given-front}
+use Rattle.common.specs.Space.{overwrite}
+use Rattle.common.proofs.SpaceLaws.{overwritten-front}
 use Rattle.common.proofs.PickLaws.{by-test, pick-yes, pick-no}
 use Rattle.operations.specs.declared.operation.Operation.{Operation}
-use Rattle.operations.specs.declared.operation.Operation.the-variants.{Read, CheckBytes, SuppliedCount, Write, Erase, Rewind, FastForward, SkipForward, SkipReverse, SearchForward, SearchReverse, WriteMark}
+use Rattle.operations.specs.declared.operation.Operation.the-variants.{Read, CheckBytes, SuppliedCount, Write, Erase}
+use Rattle.operations.specs.declared.operation.Operation.the-variants.{Rewind, FastForward, SkipForward, SkipReverse}
+use Rattle.operations.specs.declared.operation.Operation.the-variants.{SearchForward, SearchReverse, WriteMark}
 use Rattle.operations.specs.declared.decode.Decoded.{Decoded}
 use Rattle.operations.specs.Operation.{orderByte, sameOperation, isRead}
 use Rattle.records.specs.Image.{imageOf}
 use Rattle.records.specs.Place.{writtenBytes}
 use Rattle.status.specs.declared.drives.Drive.{Drive}
 use Rattle.status.specs.Drives.{driveOf, withReport, copyReport}
-use Rattle.status.specs.Strings.{orderOf}
+use Rattle.link.specs.Frames.{orderOf}
 use Rattle.operations.specs.declared.store.Store.{Store}
 use Rattle.link.specs.declared.state.Phase.the-variants.{GoOffered, DataAwaited, ResultAwaited}
 use Rattle.link.specs.declared.state.Body.{Body}
 use Rattle.controller.specs.declared.controller.Controller.{Controller}
 use Rattle.link.specs.State.{withSelected, currentDrive}
 use Rattle.operations.specs.Store.{askedFor, thrownAway, heldCount, suppliedCount}
-use Rattle.link.specs.Link.{yesToGo, noToGo}
 use Rattle.link.specs.Bytes.{ack}
 use Rattle.controller.specs.Controller.{carried}
-use Rattle.controller.specs.Stores.{orderMove}
+use Rattle.controller.specs.Stores.{orderMove, yesToGo, noToGo}
 use Rattle.transfers.specs.Data.{Host, recordBytes, writeImage, settleData}
-use Rattle.transfers.specs.Results.{Result, isGone, codeReported, recordCount, usedCount, verdictOf, deliveredBytes, delivered, fitting, resultGap, settleResult}
+use Rattle.transfers.specs.Results.{Result, isGone, codeReported, recordCount, usedCount, verdictOf, deliveredBytes}
+use Rattle.transfers.specs.Results.{delivered, fitting, resultGap, settleResult}
 use Rattle.controller.specs.Records.{wordsOf, withStatus, withAfter, dataDone, resultDone}
 use Rattle.controller.specs.Machine.{reportNoted, Call, plain}
 use Rattle.controller.specs.Machine.Call.{byte, report, hostData, result}
@@ -39,11 +41,16 @@ use Rattle.controller.specs.Lists.{asksFor, asksRead}
 use Rattle.controller.specs.Separation.{Output, isOf, awaitsGo, eventOf, ordersFor, bytesGiven, transferOf}
 use Rattle.controller.specs.Separation.Event.{reportCame, goAnswered, dataCame, resultCame}
 use Rattle.controller.specs.Separation.Output.{motion, image, delivery}
-use Rattle.controller.proofs.DrivesAreSeparate.OneDrive.{Hand, View, resting, handAfterGo, handAfterData, givenAtData, moved, driveAfterResult, givenAtResult, told, gives}
+use Rattle.controller.proofs.DrivesAreSeparate.OneDrive.{Hand, View, resting, handAfterGo, handAfterData}
+use Rattle.controller.proofs.DrivesAreSeparate.OneDrive.{givenAtData, moved, driveAfterResult, givenAtResult}
+use Rattle.controller.proofs.DrivesAreSeparate.OneDrive.{told, gives}
 use Rattle.controller.proofs.DrivesAreSeparate.OneDrive.Hand.{empty, goOffered, dataAwaited, resultAwaited}
 use Rattle.controller.proofs.Steps.Resting.{seen, go-refused-rests, ending-rests}
-use Rattle.controller.proofs.DrivesAreSeparate.Views.{Follows, Held, InHand, bare, does-follows, free-held, handIn, none-for, owned-follows, passes-follows, rests-view, viewOf}
-use Rattle.controller.proofs.DrivesAreSeparate.Stores.{ordered-other, ordered-own, other-number, other-view, own-number, own-view, set-other, set-own}
+use Rattle.controller.proofs.DrivesAreSeparate.Views.{Follows, Held, InHand, bare, does-follows, free-held}
+use Rattle.controller.proofs.DrivesAreSeparate.Views.{handIn, none-for, owned-follows, passes-follows}
+use Rattle.controller.proofs.DrivesAreSeparate.Views.{rests-view, viewOf}
+use Rattle.controller.proofs.DrivesAreSeparate.Stores.{ordered-other, ordered-own, other-number, other-view}
+use Rattle.controller.proofs.DrivesAreSeparate.Stores.{own-number, own-view, set-other, set-own}
 
 -- ---- a report
 
@@ -68,7 +75,8 @@ module _ (d : ℕ) (low : d ≤ 3) (last : Store) (c : Controller) (n r : ℕ) w
       (record {
         view =
             ap (λ (drive : Drive). record { drive = drive; hand = viewOf d last c .hand })
-            (set-other d low (withSelected (c .body) n) (withReport (driveOf (c .body .drives) n) r) within (eqb-false n d other));
+            (set-other d low (withSelected (c .body) n) (withReport (driveOf (c .body .drives) n) r) within
+            (eqb-false n d other));
         transfer = refl;
         quiet = refl;
       })
@@ -84,7 +92,8 @@ module _ (d : ℕ) (low : d ≤ 3) (last : Store) (b : Body) (store : Store) whe
       (value : ℕ)
       → eqb value ack ≡ true
       → Held last (b .selected) Write store
-      → Follows d (viewOf d last offered) last offered (record { call = byte value; answer = plain (carried (yesToGo b store)) })
+      → Follows d (viewOf d last offered) last offered
+      (record { call = byte value; answer = plain (carried (yesToGo b store)) })
   unfolding eventOf awaitsGo transferOf ordersFor told gives yesToGo handIn handAfterGo InHand
   go-taken-follows value accepts held =
       owned-follows d last offered _ _ (goAnswered (eqb value ack)) refl
@@ -92,7 +101,8 @@ module _ (d : ℕ) (low : d ≤ 3) (last : Store) (b : Body) (store : Store) whe
         done = refl;
         view =
             ap (λ (hand : Hand). record { drive = seen d b; hand = hand })
-            (pick-yes (dataAwaited (bare store)) empty own ∙ sym (ap₂ handAfterGo accepts (pick-yes (goOffered (bare store)) empty own)));
+            (pick-yes (dataAwaited (bare store)) empty own
+            ∙ sym (ap₂ handAfterGo accepts (pick-yes (goOffered (bare store)) empty own)));
         given = refl;
       })
       (λ other. record {
@@ -110,7 +120,8 @@ module _ (d : ℕ) (low : d ≤ 3) (last : Store) (b : Body) (store : Store) whe
       → eventOf d last offered call ≡ pick (isOf d last) (goAnswered accepts ∷ []) []
       → transferOf d last [] call ≡ []
       → accepts ≡ false
-      → Follows d (viewOf d last offered) last offered (record { call = call; answer = plain (carried (noToGo b store)) })
+      → Follows d (viewOf d last offered) last offered
+      (record { call = call; answer = plain (carried (noToGo b store)) })
   unfolding told gives handAfterGo bytesGiven
   go-refused-follows call accepts made nothing refuses =
       let rests = go-refused-rests b store in
@@ -119,10 +130,16 @@ module _ (d : ℕ) (low : d ≤ 3) (last : Store) (b : Body) (store : Store) whe
         done = refl;
         view =
             rests-view d low last b _ rests
-            ∙ sym (ap (λ (t : Bool). record { drive = seen d b; hand = handAfterGo t (viewOf d last offered .hand) }) refuses);
+            ∙ sym (ap (λ (t : Bool). record { drive = seen d b; hand = handAfterGo t (viewOf d last offered .hand) })
+            refuses);
         given = ap₂ (λ (l m : List Output). l ++ m) nothing (none-for d _ (rests .quiet));
       })
-      (λ other. record { view = rests-view d low last b _ rests ∙ sym (other-view d last offered _ other refl); transfer = nothing; quiet = none-for d _ (rests .quiet) })
+      (λ other.
+      record {
+        view = rests-view d low last b _ rests ∙ sym (other-view d last offered _ other refl);
+        transfer = nothing;
+        quiet = none-for d _ (rests .quiet);
+      })
       (free-held last _ _ (rests .free))
 
 -- ---- the data call
@@ -133,8 +150,10 @@ module _ (d : ℕ) (last : Store) (b : Body) (store : Store) (host : Host) (spac
 
   pub data-follows :
       Held last (b .selected) Write store
-      → Follows d (viewOf d last awaiting) last awaiting (record { call = hostData host space check; answer = dataDone b (currentDrive b) store host space check })
-  unfolding eventOf transferOf bytesGiven told gives dataDone settleData handIn handAfterData givenAtData writtenBytes thrownAway heldCount InHand orderMove
+      → Follows d (viewOf d last awaiting) last awaiting
+      (record { call = hostData host space check; answer = dataDone b (currentDrive b) store host space check })
+  unfolding eventOf transferOf bytesGiven told gives dataDone settleData handIn handAfterData givenAtData
+      writtenBytes thrownAway heldCount InHand orderMove
   data-follows held =
       let body = withStatus b (settleData (wordsOf b) (currentDrive b) store host .words) in
       let written = writeImage store host (currentDrive b .density) in
@@ -146,16 +165,20 @@ module _ (d : ℕ) (last : Store) (b : Body) (store : Store) (host : Host) (spac
       let hand = pick-yes (dataAwaited (bare store)) empty own in
       record {
         done = refl;
-        view = own-view d last next _ own (starts .view) ∙ sym (ap (λ (h : Hand). record { drive = seen d b; hand = handAfterData h }) hand);
+        view =
+            own-view d last next _ own (starts .view)
+            ∙ sym (ap (λ (h : Hand). record { drive = seen d b; hand = handAfterData h }) hand);
         given =
             ap₂ (λ (l m : List Output). l ++ m)
             (pick-yes _ [] own ∙ ap (λ (l : List ℕ). image l ∷ [])
-            (given-front written space ∙ ap (λ (n : ℕ). imageOf (recordBytes store host) (driveOf (b .drives) n .density)) e))
+            (overwritten-front written space
+            ∙ ap (λ (n : ℕ). imageOf (recordBytes store host) (driveOf (b .drives) n .density)) e))
             (starts .given)
             ∙ sym (ap (givenAtData d (seen d b) host) hand);
       })
       (λ other.
-      let leaves = ordered-other d store body Write (λ e. other-number d last (held .names) other (sym (held .selects) ∙ e)) in
+      let leaves = ordered-other d store body Write
+      (λ e. other-number d last (held .names) other (sym (held .selects) ∙ e)) in
       record {
         view = other-view d last next _ other (leaves .same) ∙ sym (other-view d last awaiting _ other refl);
         transfer = pick-no _ [] other;
@@ -168,7 +191,9 @@ module _ (d : ℕ) (last : Store) (b : Body) (store : Store) (host : Host) (spac
 -- a read's bytes depend on the drive's report and on nothing else of the state
 read-seen :
     (operation : Operation) (drive : Drive) (store : Store) (r : Result) (check : List ℕ) (space : ℕ)
-    → pick (isRead operation) (delivery (fitting (delivered drive operation store r check) space) ∷ []) [] ≡ pick (isRead operation) (delivery (fitting (delivered (copyReport drive) operation (bare store) r []) space) ∷ []) []
+    → pick (isRead operation) (delivery (fitting (delivered drive operation store r check) space) ∷ []) []
+    ≡ pick (isRead operation)
+    (delivery (fitting (delivered (copyReport drive) operation (bare store) r []) space) ∷ []) []
 unfolding deliveredBytes verdictOf isGone usedCount recordCount heldCount pick
 read-seen Read drive store r check space = refl
 read-seen CheckBytes drive store r check space = refl
@@ -183,14 +208,17 @@ read-seen SearchForward drive store r check space = refl
 read-seen SearchReverse drive store r check space = refl
 read-seen WriteMark drive store r check space = refl
 
-module _ (d : ℕ) (low : d ≤ 3) (last : Store) (b : Body) (operation : Operation) (store : Store) (r : Result) (space check : List ℕ) where
+module _ (d : ℕ) (low : d ≤ 3) (last : Store) (b : Body) (operation : Operation) (store : Store) (r : Result)
+    (space check : List ℕ) where
   abbrev moving : Controller
   moving = record { body = b; phase = ResultAwaited operation store }
 
   pub result-follows :
       Held last (b .selected) operation store
-      → Follows d (viewOf d last moving) last moving (record { call = result r space check; answer = resultDone b (currentDrive b) operation store r space check })
-  unfolding eventOf transferOf bytesGiven told gives resultDone settleResult verdictOf resultGap isGone codeReported heldCount handIn driveAfterResult givenAtResult asksFor asksRead
+      → Follows d (viewOf d last moving) last moving
+      (record { call = result r space check; answer = resultDone b (currentDrive b) operation store r space check })
+  unfolding eventOf transferOf bytesGiven told gives resultDone settleResult verdictOf resultGap isGone codeReported
+      heldCount handIn driveAfterResult givenAtResult asksFor asksRead
   result-follows held =
       let bytes = delivered (currentDrive b) operation store r check in
       let body = withAfter b (settleResult (wordsOf b) (currentDrive b) operation store r (length space) check) in
@@ -208,9 +236,11 @@ module _ (d : ℕ) (low : d ≤ 3) (last : Store) (b : Body) (operation : Operat
             ∙ sym (ap (λ (h : Hand). resting (driveAfterResult (seen d b) r h)) hand);
         given =
             ap₂ (λ (l m : List Output). l ++ m)
-            (ap₂ (λ (t : Bool) (asks : Decoded). pick (t && asksRead asks) (delivery (take (length fits) (given fits space)) ∷ []) []) own (held .asks)
+            (ap₂ (λ (t : Bool) (asks : Decoded). pick (t && asksRead asks)
+            (delivery (take (length fits) (overwrite fits space)) ∷ []) []) own (held .asks)
             ∙ ap (λ (l : List ℕ). pick (isRead operation) (delivery l ∷ []) [])
-            (given-front fits space ∙ ap (λ (n : ℕ). fitting (delivered (driveOf (b .drives) n) operation store r check) (length space)) e)
+            (overwritten-front fits space
+            ∙ ap (λ (n : ℕ). fitting (delivered (driveOf (b .drives) n) operation store r check) (length space)) e)
             ∙ read-seen operation (driveOf (b .drives) d) store r check (length space))
             (none-for d _ (rests .quiet))
             ∙ append-nil _

@@ -12,7 +12,7 @@ use Rattle.operations.specs.declared.store.Store.{Store}
 use Rattle.operations.specs.Store.{namesDrive}
 use Rattle.link.specs.declared.state.Phase.{Phase}
 use Rattle.link.specs.declared.state.Phase.the-variants.{Collecting, AckOffered}
-use Rattle.link.specs.declared.state.Turn.{Turn}
+use Rattle.link.specs.declared.state.Transition.{Transition}
 use Rattle.controller.specs.declared.controller.Controller.{Controller}
 use Rattle.link.specs.Bytes.{ack}
 use Rattle.controller.specs.Controller.{carried}
@@ -20,15 +20,22 @@ use Rattle.link.specs.State.{storeOf, offered}
 use Rattle.controller.specs.Stores.{carryOut}
 use Rattle.controller.specs.Records.{dataDone, resultDone}
 use Rattle.controller.specs.Machine.{dataIn, resultIn, Call, Exchange, plain, step}
-use Rattle.controller.specs.Machine.Call.{byte, taken, broken, report, hostData, result, tick, reset, hand}
+use Rattle.controller.specs.Machine.Call.{byte, taken, broken, tick, hand}
 use Rattle.controller.specs.Lists.{notRefused, holdsStore, bringsStore, storeBrought, carriesOut, lastStore}
-use Rattle.controller.specs.Separation.{isOf, storeEvent, awaitsGo, eventOf, bytesGiven, transferOf, isReset, resets, admits}
+use Rattle.controller.specs.Separation.{isOf, storeEvent, awaitsGo, eventOf, bytesGiven, transferOf, isReset}
+use Rattle.controller.specs.Separation.{resets, admits}
 use Rattle.controller.specs.Separation.Event.{goAnswered}
 use Rattle.controller.proofs.Steps.Resting.{by-free, Free, Rests}
-use Rattle.controller.proofs.Steps.{stated, exchanged, LinkCall, SaysNo, OfRefusals, OfLink, OfStores, OfHandings, OfNo, OfData, OfResults, OfResets, Kinds, data-for, result-for, by-step}
-use Rattle.controller.proofs.DrivesAreSeparate.Views.{viewOf, InHand, free-held, free-view, rests-view, none-for, Follows, refused-follows, passes-follows}
+use Rattle.controller.proofs.Steps.LinkCall.{byteCame, ticked, loadTaken}
+use Rattle.controller.proofs.Steps.SaysNo.{byteRefused}
+use Rattle.controller.proofs.Steps.{stated, exchanged, LinkCall, SaysNo, OfRefusals, OfLink, OfStores}
+use Rattle.controller.proofs.Steps.{OfHandings, OfNo, OfData, OfResults, OfResets, Kinds, data-for, result-for}
+use Rattle.controller.proofs.Steps.{by-step}
+use Rattle.controller.proofs.DrivesAreSeparate.Views.{viewOf, InHand, free-held, free-view, rests-view, none-for}
+use Rattle.controller.proofs.DrivesAreSeparate.Views.{Follows, refused-follows, passes-follows}
 use Rattle.controller.proofs.DrivesAreSeparate.Stores.{carried-event, carried-follows}
-use Rattle.controller.proofs.DrivesAreSeparate.Calls.{report-follows, go-taken-follows, go-refused-follows, data-follows, result-follows}
+use Rattle.controller.proofs.DrivesAreSeparate.Calls.{report-follows, go-taken-follows, go-refused-follows}
+use Rattle.controller.proofs.DrivesAreSeparate.Calls.{data-follows, result-follows}
 
 -- with nothing in hand no answer to GO is awaited
 free-goes : (phase : Phase) → Free phase → awaitsGo phase ≡ false
@@ -39,7 +46,8 @@ module _ (d : ℕ) (low : d ≤ 3) where
   -- what is claimed of a call: it is followed, whatever store came last
   abbrev Followed : Controller → Exchange → Type 0
   Followed c x =
-      (last : Store) → InHand last (c .body .selected) (c .phase) → admits c x ≡ true → Follows d (viewOf d last c) (lastStore last c x) c x
+      (last : Store) → InHand last (c .body .selected) (c .phase) → admits c x ≡ true
+      → Follows d (viewOf d last c) (lastStore last c x) c x
 
   -- a call that carries out no store
   kept :
@@ -48,7 +56,9 @@ module _ (d : ℕ) (low : d ≤ 3) where
       → Follows d (viewOf d last c) last c x
       → Follows d (viewOf d last c) (lastStore last c x) c x
   unfolding lastStore
-  kept c x last none = subst (λ (next : Store). Follows d (viewOf d last c) next c x) (sym (pick-no (storeBrought c (x .call)) last none))
+  kept c x last none =
+      subst (λ (next : Store). Follows d (viewOf d last c) next c x)
+      (sym (pick-no (storeBrought c (x .call)) last none))
 
   refusals-case : OfRefusals Followed
   unfolding carriesOut notRefused
@@ -58,7 +68,7 @@ module _ (d : ℕ) (low : d ≤ 3) where
 
   -- with nothing in hand before and after, a call is no event of the drive
   rest-follows :
-      (c : Controller) (call : Call) (t : Turn) (last : Store)
+      (c : Controller) (call : Call) (t : Transition) (last : Store)
       → Free (c .phase)
       → Rests (c .body) t
       → eventOf d last c call ≡ []
@@ -67,26 +77,29 @@ module _ (d : ℕ) (low : d ≤ 3) where
   unfolding bytesGiven
   rest-follows c call t last free rests made nothing =
       passes-follows d last c _ _ made
-      (record { view = rests-view d low last (c .body) t rests ∙ sym (free-view d last c free); transfer = nothing; quiet = none-for d (t .action) (rests .quiet) })
+      (record {
+        view = rests-view d low last (c .body) t rests ∙ sym (free-view d last c free);
+        transfer = nothing;
+        quiet = none-for d (t .action) (rests .quiet);
+      })
       (free-held last _ _ (rests .free))
 
   link-case : OfLink Followed
-  unfolding LinkCall eventOf transferOf holdsStore lastStore carriesOut bringsStore storeBrought notRefused pick
-  link-case c (byte value) t free rests strings none last held admitted =
-      rest-follows c (byte value) t last free rests (pick-no (goAnswered (eqb value ack) ∷ []) [] (ap (λ (go : Bool). go && isOf d last) (free-goes (c .phase) free))) refl
-  link-case c broken t free rests strings none last held admitted =
-      rest-follows c broken t last free rests (pick-no (goAnswered false ∷ []) [] (ap (λ (go : Bool). go && isOf d last) (free-goes (c .phase) free))) refl
-  link-case c tick t free rests strings none last held admitted = rest-follows c tick t last free rests refl refl
-  link-case c taken t (free, load) rests strings none last held admitted =
+  unfolding eventOf transferOf holdsStore lastStore carriesOut bringsStore storeBrought notRefused pick
+  link-case c call t (byteCame value) free rests strings none last held admitted =
+      rest-follows c (byte value) t last free rests
+      (pick-no (goAnswered (eqb value ack) ∷ []) []
+      (ap (λ (go : Bool). go && isOf d last) (free-goes (c .phase) free))) refl
+  link-case c call t LinkCall.linkBroke free rests strings none last held admitted =
+      rest-follows c broken t last free rests
+      (pick-no (goAnswered false ∷ []) [] (ap (λ (go : Bool). go && isOf d last) (free-goes (c .phase) free))) refl
+  link-case c call t ticked free rests strings none last held admitted = rest-follows c tick t last free rests refl refl
+  link-case c call t (loadTaken load) free rests strings none last held admitted =
       let x : Exchange = exchanged taken (plain (carried t)) in
       let none = ap not load in
       kept c x last none
-      (rest-follows c taken t last free rests (pick-no (storeEvent last ∷ []) [] (ap (λ (t : Bool). t && isOf d last) none)) refl)
-  link-case c (report drive r) t links rests strings none last held admitted = absurd links
-  link-case c (hostData host space check) t links rests strings none last held admitted = absurd links
-  link-case c (result r space check) t links rests strings none last held admitted = absurd links
-  link-case c reset t links rests strings none last held admitted = absurd links
-  link-case c (hand store) t links rests strings none last held admitted = absurd links
+      (rest-follows c taken t last free rests
+      (pick-no (storeEvent last ∷ []) [] (ap (λ (t : Bool). t && isOf d last) none)) refl)
 
   stores-case : OfStores Followed
   unfolding lastStore carriesOut bringsStore storeBrought notRefused holdsStore offered admits Free transferOf
@@ -97,7 +110,9 @@ module _ (d : ℕ) (low : d ≤ 3) where
       let holds = ap not lead in
       let (names, keeps) = both-hold (namesDrive taking) (not (resets taking)) (sym (pick-yes _ _ holds) ∙ admitted) in
       subst (λ (next : Store). Follows d (viewOf d last c) next c x) (sym (pick-yes taking last holds))
-      (subst (λ v. Follows d v taking c x) (sym (free-view d last c tt)) (carried-follows d low c taking taken (carried-event d taking c holds) (λ bytes. refl) names (not-true (resets taking) keeps)))
+      (subst (λ v. Follows d v taking c x) (sym (free-view d last c tt))
+      (carried-follows d low c taking taken (carried-event d taking c holds) (λ bytes. refl) names
+      (not-true (resets taking) keeps)))
 
   handings-case : OfHandings Followed
   unfolding lastStore carriesOut bringsStore storeBrought notRefused admits Free eventOf transferOf pick
@@ -109,26 +124,23 @@ module _ (d : ℕ) (low : d ≤ 3) where
       (carried-follows d low c store (hand store) refl (λ bytes. refl) names (not-true (resets store) keeps))
 
   no-case : OfNo Followed
-  unfolding SaysNo InHand eventOf awaitsGo transferOf lastStore carriesOut bringsStore storeBrought notRefused pick
-  no-case b held (byte value) refuses last mine admitted = go-refused-follows d low last b held (byte value) (eqb value ack) refl refl refuses
-  no-case b held broken refuses last mine admitted = go-refused-follows d low last b held broken false refl refl refl
-  no-case b held taken refuses last mine admitted = absurd refuses
-  no-case b held (report drive r) refuses last mine admitted = absurd refuses
-  no-case b held (hostData host space check) refuses last mine admitted = absurd refuses
-  no-case b held (result r space check) refuses last mine admitted = absurd refuses
-  no-case b held tick refuses last mine admitted = absurd refuses
-  no-case b held reset refuses last mine admitted = absurd refuses
-  no-case b held (hand store) refuses last mine admitted = absurd refuses
+  unfolding InHand eventOf awaitsGo transferOf lastStore carriesOut bringsStore storeBrought notRefused pick
+  no-case b held call (byteRefused value refuses) last mine admitted =
+      go-refused-follows d low last b held (byte value) (eqb value ack) refl refl refuses
+  no-case b held call SaysNo.linkBroke last mine admitted =
+      go-refused-follows d low last b held broken false refl refl refl
 
   writes-case : OfData Followed
   unfolding dataIn dataDone InHand lastStore carriesOut bringsStore storeBrought notRefused pick
   writes-case b held host space check =
-      data-for Followed refusals-case b held _ host space check (λ last mine admitted. data-follows d last b held host space check mine)
+      data-for Followed refusals-case b held _ host space check
+      (λ last mine admitted. data-follows d last b held host space check mine)
 
   results-case : OfResults Followed
   unfolding resultIn resultDone InHand lastStore carriesOut bringsStore storeBrought notRefused pick
   results-case b operation held r space check =
-      result-for Followed refusals-case b held _ operation r space check (λ good last mine admitted. result-follows d low last b operation held r space check mine)
+      result-for Followed refusals-case b held _ operation r space check
+      (λ good last mine admitted. result-follows d low last b operation held r space check mine)
 
   -- a reset is not admitted
   resets-case : OfResets Followed

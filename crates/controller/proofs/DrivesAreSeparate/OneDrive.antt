@@ -1,5 +1,6 @@
--- The machine of one drive: what a drive does is a function of its own history alone. Its state is the drive's record, without the reviewed
--- copy, and what its last store has in hand. A means of the proof of separation, and no part of what is claimed.
+-- The machine of one drive: what a drive does is a function of its own history alone. Its state is the drive's record,
+-- without the reviewed copy, and what its last store has in hand. A means of the proof of separation, and no part of
+-- what is claimed.
 -- Assumes nothing.
 use Prim.Native.Nat.{ℕ}
 use mathlib.Core.Bool.{Bool, true, false, _||_}
@@ -15,7 +16,7 @@ use Rattle.operations.specs.Test.{mayMove}
 use Rattle.records.specs.Image.{imageOf}
 use Rattle.status.specs.declared.drives.Drive.{Drive}
 use Rattle.status.specs.Drives.{withGap, withReport, copyReport, withTrack, withDensity, withGuard}
-use Rattle.status.specs.Strings.{orderOf}
+use Rattle.link.specs.Frames.{orderOf}
 use Rattle.operations.specs.declared.store.Store.{Store}
 use Rattle.transfers.specs.Data.{Host, recordBytes}
 use Rattle.transfers.specs.Results.{Result, verdictOf, delivered, fitting, resultGap}
@@ -40,7 +41,8 @@ resting drive = record { drive = drive; hand = empty }
 
 -- a store without its address
 abbrev pub operand : ℕ → ℕ → ℕ → ℕ → Store
-operand first second third fourth = record { address = 0; first = first; second = second; third = third; fourth = fourth }
+operand first second third fourth =
+    record { address = 0; first = first; second = second; third = third; fourth = fourth }
 
 -- ---- a store
 
@@ -55,7 +57,11 @@ begins drive store (Enable enable) = resting drive
 begins drive store (Guard guard) = resting (copyReport (withGuard drive guard))
 begins drive store (Density density) = resting (copyReport (withDensity drive density))
 begins drive store (Operate operation) =
-    record { drive = drive; hand = pick (mayMove (moveOf operation) (drive .report) (drive .guard) (drive .gap)) (handFor operation store) empty }
+    record {
+      drive = drive;
+      hand =
+          pick (mayMove (moveOf operation) (drive .report) (drive .guard) (drive .gap)) (handFor operation store) empty;
+    }
 
 abbrev orderTo : ℕ → Drive → Operation → Store → List Output
 orderTo d drive operation store =
@@ -74,7 +80,8 @@ givenAtStore d drive store (Enable enable) = []
 givenAtStore d drive store (Guard guard) = []
 givenAtStore d drive store (Density density) = []
 givenAtStore d drive store (Operate operation) =
-    pick (mayMove (moveOf operation) (drive .report) (drive .guard) (drive .gap)) (firstOrder d drive store operation) []
+    pick (mayMove (moveOf operation) (drive .report) (drive .guard) (drive .gap)) (firstOrder d drive store operation)
+    []
 
 -- ---- GO, data and result
 
@@ -92,7 +99,8 @@ handAfterData (goOffered store) = empty
 handAfterData (resultAwaited operation store) = empty
 
 unfoldable pub givenAtData : ℕ → Drive → Host → Hand → List Output
-givenAtData d drive host (dataAwaited store) = image (imageOf (recordBytes store host) (drive .density)) ∷ orderTo d drive Write store
+givenAtData d drive host (dataAwaited store) =
+    image (imageOf (recordBytes store host) (drive .density)) ∷ orderTo d drive Write store
 givenAtData d drive host empty = []
 givenAtData d drive host (goOffered store) = []
 givenAtData d drive host (resultAwaited operation store) = []
@@ -119,7 +127,8 @@ givenAtResult drive r space (dataAwaited store) = []
 unfoldable pub told : View → Event → View
 told v (reportCame r) = record { drive = copyReport (withReport (v .drive) r); hand = v .hand }
 told v (storeCame operation first second third fourth) =
-    begins (v .drive) (operand first second third fourth) (inDensity (v .drive .density) (decodeOf operation first fourth))
+    begins (v .drive) (operand first second third fourth)
+    (inDensity (v .drive .density) (decodeOf operation first fourth))
 told v (goAnswered answer) = record { drive = v .drive; hand = handAfterGo answer (v .hand) }
 told v (dataCame host) = record { drive = v .drive; hand = handAfterData (v .hand) }
 told v (resultCame r space) = resting (driveAfterResult (v .drive) r (v .hand))
@@ -127,7 +136,8 @@ told v (resultCame r space) = resting (driveAfterResult (v .drive) r (v .hand))
 unfoldable pub gives : ℕ → View → Event → List Output
 gives d v (reportCame r) = []
 gives d v (storeCame operation first second third fourth) =
-    givenAtStore d (v .drive) (operand first second third fourth) (inDensity (v .drive .density) (decodeOf operation first fourth))
+    givenAtStore d (v .drive) (operand first second third fourth)
+    (inDensity (v .drive .density) (decodeOf operation first fourth))
 gives d v (goAnswered answer) = []
 gives d v (dataCame host) = givenAtData d (v .drive) host (v .hand)
 gives d v (resultCame r space) = givenAtResult (v .drive) r space (v .hand)

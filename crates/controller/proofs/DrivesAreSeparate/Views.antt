@@ -7,25 +7,27 @@ use mathlib.Core.List.{List, [], _∷_, _++_, append-nil}
 use lib.Dec.{eqb}
 use borrow.Author.Tests.{eq-eqb}
 use Rattle.common.specs.Pick.{pick}
-use Rattle.common.specs.Given.{given}
+use Rattle.common.specs.Space.{overwrite}
 use Rattle.common.proofs.PickLaws.{by-test, pick-both, pick-yes, pick-no}
 use Rattle.operations.specs.declared.operation.Operation.{Operation}
 use Rattle.operations.specs.declared.operation.Operation.the-variants.{Write}
 use Rattle.operations.specs.declared.decode.Decoded.the-variants.{Operate}
 use Rattle.operations.specs.declared.store.Store.{Store}
 use Rattle.link.specs.declared.state.Phase.{Phase}
-use Rattle.link.specs.declared.state.Phase.the-variants.{Collecting, AckOffered, Sending, GoOffered, DataAwaited, ResultAwaited, EndOffered}
 use Rattle.link.specs.declared.state.Body.{Body}
+use Rattle.link.specs.State.{whenInHand}
 use Rattle.controller.specs.declared.controller.Controller.{Controller}
 use Rattle.link.specs.declared.state.Action.{Action}
 use Rattle.link.specs.declared.state.Action.the-variants.{Nothing, Byte, Text, Order}
-use Rattle.link.specs.declared.state.Turn.{Turn}
+use Rattle.link.specs.declared.state.Transition.{Transition}
 use Rattle.operations.specs.Store.{namesDrive, namedDrive, askedFor}
 use Rattle.controller.specs.Controller.{carried, refused}
 use Rattle.controller.specs.Machine.{Call, Exchange}
 use Rattle.controller.specs.Lists.{notRefused}
-use Rattle.controller.specs.Separation.{Event, Output, isOf, eventOf, eventsOf, ordersFor, bytesGiven, transferOf, outputsOf}
-use Rattle.controller.proofs.DrivesAreSeparate.OneDrive.{Hand, View, resting, operand, told, gives, toldAll, givesAll}
+use Rattle.controller.specs.Separation.{Event, Output, isOf, eventOf, eventsOf, ordersFor, bytesGiven, transferOf}
+use Rattle.controller.specs.Separation.{outputsOf}
+use Rattle.controller.proofs.DrivesAreSeparate.OneDrive.{Hand, View, resting, operand, told, gives, toldAll}
+use Rattle.controller.proofs.DrivesAreSeparate.OneDrive.{givesAll}
 use Rattle.controller.proofs.DrivesAreSeparate.OneDrive.Hand.{empty, goOffered, dataAwaited, resultAwaited}
 use Rattle.controller.proofs.Steps.Resting.{by-free, seen, Free, NoOrder, Rests}
 
@@ -36,13 +38,9 @@ abbrev pub bare : Store → Store
 bare store = operand (store .first) (store .second) (store .third) (store .fourth)
 
 unfoldable pub handIn : Phase → Hand
-handIn (Collecting s) = empty
-handIn (AckOffered s) = empty
-handIn (Sending s) = empty
-handIn (EndOffered interrupt) = empty
-handIn (GoOffered store) = goOffered (bare store)
-handIn (DataAwaited store) = dataAwaited (bare store)
-handIn (ResultAwaited operation store) = resultAwaited operation (bare store)
+handIn =
+    whenInHand (λ store. goOffered (bare store)) (λ store. dataAwaited (bare store))
+    (λ operation store. resultAwaited operation (bare store)) empty
 
 -- what is in hand is the drive's if the last store named it
 abbrev pub viewOf : ℕ → Store → Controller → View
@@ -57,13 +55,7 @@ pub record Held (last : Store) (selected : ℕ) (operation : Operation) (store :
   pub asks : askedFor last ≡ Operate operation
 
 unfoldable pub InHand : Store → ℕ → Phase → Type 0
-InHand last selected (Collecting s) = Unit
-InHand last selected (AckOffered s) = Unit
-InHand last selected (Sending s) = Unit
-InHand last selected (EndOffered interrupt) = Unit
-InHand last selected (GoOffered store) = Held last selected Write store
-InHand last selected (DataAwaited store) = Held last selected Write store
-InHand last selected (ResultAwaited operation store) = Held last selected operation store
+InHand last selected = whenInHand (Held last selected Write) (Held last selected Write) (Held last selected) Unit
 
 -- where nothing is in hand
 pub free-held : (last : Store) (selected : ℕ) (phase : Phase) → Free phase → InHand last selected phase
@@ -82,10 +74,11 @@ free-view d last c free =
 pub rests-view :
     (d : ℕ)
     → d ≤ 3
-    → (last : Store) (b : Body) (t : Turn)
+    → (last : Store) (b : Body) (t : Transition)
     → Rests b t
     → viewOf d last (carried t .controller) ≡ resting (seen d b)
-rests-view d low last b t rests = free-view d last (carried t .controller) (rests .free) ∙ ap resting (rests .same .drive d low)
+rests-view d low last b t rests =
+    free-view d last (carried t .controller) (rests .free) ∙ ap resting (rests .same .drive d low)
 
 -- no order at all is none for the drive
 pub none-for : (d : ℕ) (action : Action) → NoOrder action → ordersFor d action ≡ []
@@ -97,7 +90,8 @@ none-for d (Order order) none = absurd none
 
 -- ---- a call follows
 
--- With v seen of drive d before, call x and its answer show what the machine of one drive does; `store` is the store it belongs to.
+-- With v seen of drive d before, call x and its answer show what the machine of one drive does; `store` is the store it
+-- belongs to.
 pub record Follows (d : ℕ) (v : View) (store : Store) (c : Controller) (x : Exchange) : Type 0 where
   pub view : viewOf d store (x .answer .reply .controller) ≡ toldAll v (eventsOf d store c x)
   pub given : outputsOf d store x ≡ givesAll d v (eventsOf d store c x)
@@ -109,13 +103,19 @@ module _ (d : ℕ) (store : Store) (c : Controller) (call : Call) where
       (number bytes : ℕ) (space check : List ℕ)
       → eqb number 0 ≡ false
       → InHand store (c .body .selected) (c .phase)
-      → Follows d (viewOf d store c) store c (record { call = call; answer = record { reply = refused number c; bytes = bytes; space = space; check = check } })
+      → Follows d (viewOf d store c) store c
+      (record {
+        call = call;
+        answer = record { reply = refused number c; bytes = bytes; space = space; check = check };
+      })
   unfolding eventsOf outputsOf notRefused toldAll givesAll ordersFor
   refused-follows number bytes space check refusal held =
       let none = pick-no (eventOf d store c call) [] refusal in
       record {
         view = ap (toldAll (viewOf d store c)) (sym none);
-        given = ap (λ (l : List Output). l ++ []) (pick-no (transferOf d store _ call) [] refusal) ∙ ap (givesAll d (viewOf d store c)) (sym none);
+        given =
+            ap (λ (l : List Output). l ++ []) (pick-no (transferOf d store _ call) [] refusal)
+            ∙ ap (givesAll d (viewOf d store c)) (sym none);
         held = held;
       }
 
@@ -143,7 +143,8 @@ module _ (d : ℕ) (store : Store) (c : Controller) (v : View) (x : Exchange) wh
       record {
         view = passes .view ∙ ap (toldAll v) (sym none);
         given =
-            ap₂ (λ (l m : List Output). l ++ m) (ap (λ (l : List Output). pick test l []) (passes .transfer) ∙ pick-both test []) (passes .quiet)
+            ap₂ (λ (l m : List Output). l ++ m)
+            (ap (λ (l : List Output). pick test l []) (passes .transfer) ∙ pick-both test []) (passes .quiet)
             ∙ ap (givesAll d v) (sym none);
         held = held;
       }
@@ -162,7 +163,8 @@ module _ (d : ℕ) (store : Store) (c : Controller) (v : View) (x : Exchange) wh
       record {
         view = does .view ∙ ap (toldAll v) (sym one);
         given =
-            ap (λ (l : List Output). l ++ ordersFor d (x .answer .reply .action)) (pick-yes (transferOf d store _ (x .call)) [] test)
+            ap (λ (l : List Output). l ++ ordersFor d (x .answer .reply .action))
+            (pick-yes (transferOf d store _ (x .call)) [] test)
             ∙ does .given ∙ sym (append-nil (gives d v event)) ∙ ap (givesAll d v) (sym one);
         held = held;
       }

@@ -12,15 +12,17 @@ use Rattle.link.specs.declared.state.Kind.the-variants.{Load, Secondary, Comple
 use Rattle.link.specs.declared.state.Send.{Send}
 use Rattle.link.specs.declared.state.Body.{Body}
 use Rattle.link.specs.declared.state.Action.{Action}
+use Rattle.link.specs.declared.state.Phase.the-variants.{Collecting}
 use Rattle.link.specs.declared.state.Handed.the-variants.{NoneHanded}
-use Rattle.link.specs.declared.state.Turn.{Turn}
+use Rattle.link.specs.declared.state.Transition.{Transition}
 use Rattle.link.specs.Bytes.{ack, nack, loadLead, storeLead, mostNoes}
 use Rattle.link.specs.State.{review, idle}
 use Rattle.link.specs.Completion.{sendWord, sendInterrupt, complete}
-use Rattle.link.specs.Link.{wholeLength, appendByte, isGoodString, firstByte, lastByte, nextByte, yesToSend, giveUp, noToSend, collectByte, answerToSend, tickAfterReview, idleTick}
+use Rattle.link.specs.Link.{wholeLength, appendByte, isGoodString, firstByte, lastByte, nextByte, yesToSend, giveUp}
+use Rattle.link.specs.Link.{noToSend, collectByte, answerToSend, tickAfterReview, idleTick}
 use Rattle.link.specs.Loads.{carryOutLoad}
 
-abbrev pub Unhanded : Turn → Type 0
+abbrev pub Unhanded : Transition → Type 0
 Unhanded t = t .handed ≡ NoneHanded
 
 pub idle-unhanded : (b : Body) (action : Action) → Unhanded (idle b action)
@@ -33,11 +35,14 @@ sent-unhanded b kind lead word = refl
 
 interrupts-unhanded : (b : Body) → Unhanded (sendInterrupt b)
 unfolding sendInterrupt
-interrupts-unhanded b = pick-by Unhanded (b .outcome .counted) (λ counted. sent-unhanded b Secondary _ _) (λ none. sent-unhanded b Completion _ _)
+interrupts-unhanded b =
+    pick-by Unhanded (b .outcome .counted) (λ counted. sent-unhanded b Secondary _ _)
+    (λ none. sent-unhanded b Completion _ _)
 
 pub completed-unhanded : (b : Body) (interrupt : Bool) → Unhanded (complete b interrupt)
 unfolding complete
-completed-unhanded b interrupt = pick-by Unhanded interrupt (λ asked. interrupts-unhanded _) (λ silent. idle-unhanded b _)
+completed-unhanded b interrupt =
+    pick-by Unhanded interrupt (λ asked. interrupts-unhanded _) (λ silent. idle-unhanded b _)
 
 pub byte-unhanded : (b : Body) (s : Collected) (value : ℕ) → Unhanded (collectByte b s value)
 unfolding collectByte firstByte nextByte lastByte
@@ -69,13 +74,16 @@ send-unhanded b value s =
     pick-by Unhanded (eqb value ack) (λ yes. said-yes-unhanded b (s .kind))
     (λ no. pick-by Unhanded (eqb (s .noes) mostNoes) (λ most. given-up-unhanded b (s .kind)) (λ again. refl))
 
-pub tick-unhanded : (b : Body) (s : Collected) → Unhanded (idleTick b s)
+pub tick-unhanded : (b : Body) (s : Collected) → Unhanded (idleTick b (Collecting s))
 unfolding idleTick tickAfterReview
 tick-unhanded b s =
-    let reviewed = review b in pick-by Unhanded (reviewed .changed && reviewed .enable) (λ sends. sent-unhanded reviewed Change _ _) (λ quiet. refl)
+    let reviewed = review b in
+    pick-by Unhanded (reviewed .changed && reviewed .enable) (λ sends. sent-unhanded reviewed Change _ _)
+    (λ quiet. refl)
 
 pub loaded-unhanded : (b : Body) (address : ℕ) → Unhanded (carryOutLoad b address)
 unfolding carryOutLoad
 loaded-unhanded b address =
     pick-by Unhanded (eqb (address / 16 % 8) 6) (λ six. idle-unhanded b _)
-    (λ other. pick-by Unhanded (eqb (address / 16 % 8) 7) (λ seven. idle-unhanded b _) (λ sends. sent-unhanded b Load _ _))
+    (λ other. pick-by Unhanded (eqb (address / 16 % 8) 7) (λ seven. idle-unhanded b _)
+    (λ sends. sent-unhanded b Load _ _))

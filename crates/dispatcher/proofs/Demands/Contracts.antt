@@ -1,5 +1,5 @@
--- What the contracts of the dispatcher's calls allow, as the toolchain reads them: exactly the answer of a step (`answers-are-steps`, `steps-are-allowed`). And
--- the functions meet them (`Meet`).
+-- What the contracts of the dispatcher's calls allow, as the toolchain reads them: exactly the answer of a step
+-- (`answers-are-steps`, `steps-are-allowed`). And the functions meet them (`Meet`).
 -- Assumes nothing.
 use mathlib.Core.Path.{_≡_, refl, sym, ap, ap₂, _∙_}
 use mathlib.Core.Bool.{Bool, true, false}
@@ -89,8 +89,23 @@ pub record ResultLent (d : Dispatcher) (r : Result) (space check : List ℕ) (an
   pub holds-space : now space-slice ≡ space
   pub holds-check : now check-slice ≡ check
   pub promise :
-      result-reads.Post lifetimes (d, (r .code, (r .mark, (r .late, (image-slice, (marks-slice, (space-slice, (check-slice, tt)))))))) transfer
-      (d, (r .code, (r .mark, (r .late, (image-slice, (marks-slice, (at-last space-slice (answer .space), (at-last check-slice (answer .check), tt))))))))
+      result-reads.Post lifetimes
+      (d, (r .code, (r .mark, (r .late, (image-slice, (marks-slice, (space-slice, (check-slice, tt)))))))) transfer (
+        d,
+        (
+          r .code,
+          (
+            r .mark,
+            (
+              r .late,
+              (
+                image-slice,
+                (marks-slice, (at-last space-slice (answer .space), (at-last check-slice (answer .check), tt))),
+              ),
+            ),
+          ),
+        ),
+      )
   pub same : answer ≡ answered transfer (answer .space) (answer .check)
 
 abbrev somewhere : List ℕ → RefT (List ℕ)
@@ -104,7 +119,8 @@ unfoldable pub PassedAllows : Dispatcher → machine.Call → Answer → Type 0
 PassedAllows d (machine.byte b) = Plainly (λ (r : Dispatched). byte-reads.Post tt (d, (b, tt)) r (d, (b, tt)))
 PassedAllows d machine.taken = Plainly (λ (r : Dispatched). taken-reads.Post tt (d, tt) r (d, tt))
 PassedAllows d machine.broken = Plainly (λ (r : Dispatched). broken-reads.Post tt (d, tt) r (d, tt))
-PassedAllows d (machine.report drive bits) = Plainly (λ (r : Dispatched). report-reads.Post tt (d, (drive, (bits, tt))) r (d, (drive, (bits, tt))))
+PassedAllows d (machine.report drive bits) =
+    Plainly (λ (r : Dispatched). report-reads.Post tt (d, (drive, (bits, tt))) r (d, (drive, (bits, tt))))
 PassedAllows d machine.tick = Plainly (λ (r : Dispatched). tick-reads.Post tt (d, tt) r (d, tt))
 PassedAllows d (machine.hostData host space check) = DataLent d host space check
 PassedAllows d (machine.result r space check) = ResultLent d r space check
@@ -113,7 +129,8 @@ PassedAllows d (machine.hand store) = λ (answer : Answer). ⊥
 
 -- what the contract of a call's own function allows as its answer
 unfoldable pub Allows : Dispatcher → Call → Answer → Type 0
-Allows d (queue job store) = Plainly (λ (r : Dispatched). queue-reads.Post tt (d, (job, (store, tt))) r (d, (job, (store, tt))))
+Allows d (queue job store) =
+    Plainly (λ (r : Dispatched). queue-reads.Post tt (d, (job, (store, tt))) r (d, (job, (store, tt))))
 Allows d hand = Plainly (λ (r : Dispatched). hand-reads.Post tt (d, tt) r (d, tt))
 Allows d (passed call) = PassedAllows d call
 
@@ -125,8 +142,9 @@ unfolding pick
 by-sound true a b = refl
 by-sound false a b = refl
 
-passed-plain : (d : Dispatcher) (reply : Reply) → plain (dispatcher.passed d reply) ≡ dispatcher.passedAnswer d (machine.plain reply) [] []
-unfolding dispatcher.passed dispatcher.passedAnswer
+passed-plain : (d : Dispatcher) (reply : Reply)
+    → plain (dispatcher.passOn d reply) ≡ dispatcher.passedAnswer d (machine.plain reply) [] []
+unfolding dispatcher.passOn dispatcher.passedAnswer
 passed-plain d reply = by-sound (areSound (d .queues)) _ _
 
 -- an allowed answer is that of a step
@@ -134,22 +152,30 @@ pub answers-are-steps : (d : Dispatcher) (call : Call) (answer : Answer) → All
 unfolding Allows PassedAllows step machine.step lentSpace lentCheck
 answers-are-steps d (queue job store) answer allowed = allowed .same ∙ ap plain (allowed .promise)
 answers-are-steps d hand answer allowed = allowed .same ∙ ap plain (allowed .promise)
-answers-are-steps d (passed (machine.byte b)) answer allowed = allowed .same ∙ ap plain (allowed .promise) ∙ passed-plain d _
-answers-are-steps d (passed machine.taken) answer allowed = allowed .same ∙ ap plain (allowed .promise) ∙ passed-plain d _
-answers-are-steps d (passed machine.broken) answer allowed = allowed .same ∙ ap plain (allowed .promise) ∙ passed-plain d _
-answers-are-steps d (passed (machine.report drive r)) answer allowed = allowed .same ∙ ap plain (allowed .promise) ∙ passed-plain d _
-answers-are-steps d (passed machine.tick) answer allowed = allowed .same ∙ ap plain (allowed .promise) ∙ passed-plain d _
-answers-are-steps d (passed machine.reset) answer allowed = allowed .same ∙ ap plain (allowed .promise) ∙ passed-plain d _
+answers-are-steps d (passed (machine.byte b)) answer allowed =
+    allowed .same ∙ ap plain (allowed .promise) ∙ passed-plain d _
+answers-are-steps d (passed machine.taken) answer allowed =
+    allowed .same ∙ ap plain (allowed .promise) ∙ passed-plain d _
+answers-are-steps d (passed machine.broken) answer allowed =
+    allowed .same ∙ ap plain (allowed .promise) ∙ passed-plain d _
+answers-are-steps d (passed (machine.report drive r)) answer allowed =
+    allowed .same ∙ ap plain (allowed .promise) ∙ passed-plain d _
+answers-are-steps d (passed machine.tick) answer allowed =
+    allowed .same ∙ ap plain (allowed .promise) ∙ passed-plain d _
+answers-are-steps d (passed machine.reset) answer allowed =
+    allowed .same ∙ ap plain (allowed .promise) ∙ passed-plain d _
 answers-are-steps d (passed (machine.hand store)) answer allowed = absurd allowed
 answers-are-steps d (passed (machine.hostData host space check)) answer allowed =
     allowed .same
     ∙ allowed .promise
-    ∙ ap (λ (h : Host). dispatcher.dataCall d h (now (allowed .space-slice)) (now (allowed .check-slice))) (allowed .holds-host)
+    ∙ ap (λ (h : Host). dispatcher.dataCall d h (now (allowed .space-slice)) (now (allowed .check-slice)))
+    (allowed .holds-host)
     ∙ ap₂ (λ (s k : List ℕ). dispatcher.dataCall d host s k) (allowed .holds-space) (allowed .holds-check)
 answers-are-steps d (passed (machine.result r space check)) answer allowed =
     allowed .same
     ∙ allowed .promise
-    ∙ ap₂ (λ (i m : List ℕ). dispatcher.resultCall d (resultOf (r .code) (r .mark) (r .late) i m) (now (allowed .space-slice)) (now (allowed .check-slice)))
+    ∙ ap₂ (λ (i m : List ℕ). dispatcher.resultCall d (resultOf (r .code) (r .mark) (r .late) i m)
+    (now (allowed .space-slice)) (now (allowed .check-slice)))
     (allowed .holds-image) (allowed .holds-marks)
     ∙ ap₂ (λ (s k : List ℕ). dispatcher.resultCall d r s k) (allowed .holds-space) (allowed .holds-check)
 
@@ -170,14 +196,21 @@ IsCall (passed machine.reset) = Unit
 -- the answer of its step is allowed
 pub steps-are-allowed : (d : Dispatcher) (call : Call) → IsCall call → Allows d call (step d call)
 unfolding Allows PassedAllows IsCall step machine.step lentSpace lentCheck
-steps-are-allowed d (queue job store) is = record { reply = dispatcher.queueCall d job store; promise = refl; same = refl }
+steps-are-allowed d (queue job store) is =
+    record { reply = dispatcher.queueCall d job store; promise = refl; same = refl }
 steps-are-allowed d hand is = record { reply = dispatcher.handCall d; promise = refl; same = refl }
-steps-are-allowed d (passed (machine.byte b)) is = record { reply = dispatcher.byteCall d b; promise = refl; same = sym (passed-plain d _) }
-steps-are-allowed d (passed machine.taken) is = record { reply = dispatcher.takenCall d; promise = refl; same = sym (passed-plain d _) }
-steps-are-allowed d (passed machine.broken) is = record { reply = dispatcher.brokenCall d; promise = refl; same = sym (passed-plain d _) }
-steps-are-allowed d (passed (machine.report drive bits)) is = record { reply = dispatcher.reportCall d drive bits; promise = refl; same = sym (passed-plain d _) }
-steps-are-allowed d (passed machine.tick) is = record { reply = dispatcher.tickCall d; promise = refl; same = sym (passed-plain d _) }
-steps-are-allowed d (passed machine.reset) is = record { reply = dispatcher.resetCall d; promise = refl; same = sym (passed-plain d _) }
+steps-are-allowed d (passed (machine.byte b)) is =
+    record { reply = dispatcher.byteCall d b; promise = refl; same = sym (passed-plain d _) }
+steps-are-allowed d (passed machine.taken) is =
+    record { reply = dispatcher.takenCall d; promise = refl; same = sym (passed-plain d _) }
+steps-are-allowed d (passed machine.broken) is =
+    record { reply = dispatcher.brokenCall d; promise = refl; same = sym (passed-plain d _) }
+steps-are-allowed d (passed (machine.report drive bits)) is =
+    record { reply = dispatcher.reportCall d drive bits; promise = refl; same = sym (passed-plain d _) }
+steps-are-allowed d (passed machine.tick) is =
+    record { reply = dispatcher.tickCall d; promise = refl; same = sym (passed-plain d _) }
+steps-are-allowed d (passed machine.reset) is =
+    record { reply = dispatcher.resetCall d; promise = refl; same = sym (passed-plain d _) }
 steps-are-allowed d (passed (machine.hand store)) is = absurd is
 steps-are-allowed d (passed (machine.hostData host space check)) is =
     record {

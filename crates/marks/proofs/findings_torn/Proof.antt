@@ -22,7 +22,8 @@ put-torn-marks-requires : tie.Need-put-torn-marks-requires
 put-torn-marks-requires c κs = simp length-take (omega (arith, c .before .before .pre))
 
 -- as many marks are put as came
-put-length : (c : tie.After-put-torn-marks) → length (c .put-torn-marks .last .1 .0) ≡ length (c .before .before .before .args .marks .now)
+put-length : (c : tie.After-put-torn-marks)
+    → length (c .put-torn-marks .last .1 .0) ≡ length (c .before .before .before .args .marks .now)
 put-length c = ap (λ (x : List ℕ). length x) (c .put-torn-marks .ensures) ∙ torn-length _
 
 array-share-prefix-seen : tie.Need-array-share-prefix-seen
@@ -38,7 +39,8 @@ returns : tie.Need-returns
 returns c =
     let p = c .before .before .before in
     c .findings-of .ensures
-    ∙ ap (λ (x : List ℕ). findingsOf x) (take-at (p .put-torn-marks .last .1 .0) _ _ (put-length p) ∙ p .put-torn-marks .ensures)
+    ∙ ap (λ (x : List ℕ). findingsOf x)
+    (take-at (p .put-torn-marks .last .1 .0) _ _ (put-length p) ∙ p .put-torn-marks .ensures)
 
 pub findings-torn-spec : {M : Type 1} → statement M
 findings-torn-spec =

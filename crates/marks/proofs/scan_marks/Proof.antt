@@ -1,5 +1,5 @@
--- `marks::scan_marks` meets its contract. Before each turn the scan of the marks that are left, from what was found so far, is
--- the scan of all. A lemma for each case of the definition's clause says what a turn does to it.
+-- `marks::scan_marks` meets its contract. Before each turn the scan of the marks that are left, from what was found so
+-- far, is the scan of all. A lemma for each case of the definition's clause says what a turn does to it.
 -- Assumes nothing.
 use borrow.Author.Needs.{needs}
 use borrow.Author.Tests.{eq-eqb, ne-eqb, lt-ltb, le-ltb}
@@ -23,35 +23,46 @@ module _ (marks : List ℕ) (at odd even : ℕ) (below : at < length marks) wher
   after = simp length-drop (omega arith)
 
   -- a good blockette is passed
-  scan-good : getD marks at 0 ≡ 15 → scanFrom (drop (at + 1) marks) (at + 1) (length marks) odd even ≡ scanFrom (drop at marks) at (length marks) odd even
+  scan-good : getD marks at 0 ≡ 15
+      → scanFrom (drop (at + 1) marks) (at + 1) (length marks) odd even
+      ≡ scanFrom (drop at marks) at (length marks) odd even
   unfolding scanFrom isError pick
   scan-good good = rw (add-one, drop-cons marks at 0, eq-eqb _ _ good)
 
   module _ (bad : getD marks at 0 ≡ 15 → ⊥) where
     module _ (parity : (length marks - 1 - at) % 2 ≡ 1) where
       -- the first odd error
-      scan-odd-first : length marks ≤ odd → scanFrom (drop (at + 1) marks) (at + 1) (length marks) at even ≡ scanFrom (drop at marks) at (length marks) odd even
+      scan-odd-first : length marks ≤ odd
+          → scanFrom (drop (at + 1) marks) (at + 1) (length marks) at even
+          ≡ scanFrom (drop at marks) at (length marks) odd even
       unfolding scanFrom isError pick
-      scan-odd-first none = rw (add-one, drop-cons marks at 0, ne-eqb _ _ bad, after, eq-eqb _ _ parity, le-ltb _ _ none)
+      scan-odd-first none =
+          rw (add-one, drop-cons marks at 0, ne-eqb _ _ bad, after, eq-eqb _ _ parity, le-ltb _ _ none)
 
       -- the second
-      scan-odd-second : odd < length marks → scanFrom (drop at marks) at (length marks) odd even ≡ record { odd = odd; even = even; stop = at }
+      scan-odd-second : odd < length marks
+          → scanFrom (drop at marks) at (length marks) odd even ≡ record { odd = odd; even = even; stop = at }
       unfolding scanFrom isError pick
       scan-odd-second one = rw (drop-cons marks at 0, ne-eqb _ _ bad, after, eq-eqb _ _ parity, lt-ltb _ _ one)
 
     module _ (parity : (length marks - 1 - at) % 2 ≡ 1 → ⊥) where
       -- the first even error
-      scan-even-first : length marks ≤ even → scanFrom (drop (at + 1) marks) (at + 1) (length marks) odd at ≡ scanFrom (drop at marks) at (length marks) odd even
+      scan-even-first : length marks ≤ even
+          → scanFrom (drop (at + 1) marks) (at + 1) (length marks) odd at
+          ≡ scanFrom (drop at marks) at (length marks) odd even
       unfolding scanFrom isError pick
-      scan-even-first none = rw (add-one, drop-cons marks at 0, ne-eqb _ _ bad, after, ne-eqb _ _ parity, le-ltb _ _ none)
+      scan-even-first none =
+          rw (add-one, drop-cons marks at 0, ne-eqb _ _ bad, after, ne-eqb _ _ parity, le-ltb _ _ none)
 
       -- the second
-      scan-even-second : even < length marks → scanFrom (drop at marks) at (length marks) odd even ≡ record { odd = odd; even = even; stop = at }
+      scan-even-second : even < length marks
+          → scanFrom (drop at marks) at (length marks) odd even ≡ record { odd = odd; even = even; stop = at }
       unfolding scanFrom isError pick
       scan-even-second one = rw (drop-cons marks at 0, ne-eqb _ _ bad, after, ne-eqb _ _ parity, lt-ltb _ _ one)
 
 abbrev Inv-loop : tie.InvT-loop
-Inv-loop marks end odd₀ even₀ at₀ odd even at = (at ≤ length marks) × (scanFrom (drop at marks) at (length marks) odd even ≡ scanMarks marks)
+Inv-loop marks end odd₀ even₀ at₀ odd even at =
+    (at ≤ length marks) × (scanFrom (drop at marks) at (length marks) odd even ≡ scanMarks marks)
 
 abbrev μ-loop : tie.MeasureT-loop
 μ-loop marks end odd₀ even₀ at₀ odd even at = length marks - at
@@ -79,9 +90,13 @@ loop-again c =
     let below : l .at < length marks = omega arith in (
       omega arith,
       ⊎-elim
-          (λ w. rw (w .3, w .4) (scan-odd-first marks (l .at) (l .odd) (l .even) below (w .0 .taken) (omega arith) (omega arith) ∙ l .inv .1))
+          (λ w. rw (w .3, w .4)
+          (scan-odd-first marks (l .at) (l .odd) (l .even) below (w .0 .taken) (omega arith) (omega arith)
+          ∙ l .inv .1))
           (⊎-elim
-          (λ w. rw (w .3, w .4) (scan-even-first marks (l .at) (l .odd) (l .even) below (w .0 .taken) (omega arith) (omega arith) ∙ l .inv .1))
+          (λ w. rw (w .3, w .4)
+          (scan-even-first marks (l .at) (l .odd) (l .even) below (w .0 .taken) (omega arith) (omega arith)
+          ∙ l .inv .1))
           (λ w. rw (w .1, w .2) (scan-good marks (l .at) (l .odd) (l .even) below (w .0 .left) ∙ l .inv .1)))
           (c .if2 .came),
     )
@@ -99,14 +114,16 @@ returns-2 c =
     let l = c .before .before .before .before .before .loop in
     let marks = c .before .before .before .before .before .before .args .marks .now in
     let below : l .at < length marks = omega arith in
-    sym (scan-odd-second marks (l .at) (l .odd) (l .even) below (c .before .before .if2 .taken) (omega arith) (omega arith)) ∙ l .inv .1
+    sym (scan-odd-second marks (l .at) (l .odd) (l .even) below (c .before .before .if2 .taken) (omega arith)
+    (omega arith)) ∙ l .inv .1
 
 returns-3 : tie.Need-returns-3 Inv-loop μ-loop
 returns-3 c =
     let l = c .before .before .before .before .before .loop in
     let marks = c .before .before .before .before .before .before .args .marks .now in
     let below : l .at < length marks = omega arith in
-    sym (scan-even-second marks (l .at) (l .odd) (l .even) below (c .before .before .if2 .taken) (omega arith) (omega arith)) ∙ l .inv .1
+    sym (scan-even-second marks (l .at) (l .odd) (l .even) below (c .before .before .if2 .taken) (omega arith)
+    (omega arith)) ∙ l .inv .1
 
 pub scan-marks-spec : {M : Type 1} → statement M
 scan-marks-spec =

@@ -34,7 +34,9 @@ returns : tie.Need-returns
 unfolding clashAt
 returns c =
     let a = c .before .before .before .before .before .before .before .before .before .args in
-    either-none (bad (a .first-marks .now) (a .place)) (bad (a .second-marks .now) (a .place)) _ (sym (ap₂ (λ (a b : Bool). a || b) (c .before .before .before .is-error .ensures) (c .before .is-error2 .ensures)) ∙ c .if1 .taken)
+    either-none (bad (a .first-marks .now) (a .place)) (bad (a .second-marks .now) (a .place)) _
+    (sym (ap₂ (λ (a b : Bool). a || b) (c .before .before .before .is-error .ensures)
+    (c .before .is-error2 .ensures)) ∙ c .if1 .taken)
 
 mul-start : tie.Need-mul-start
 mul-start c = search needs
@@ -42,26 +44,26 @@ mul-start c = search needs
 add-end : tie.Need-add-end
 add-end c = search needs
 
-sub-same-bytes : tie.Need-sub-same-bytes
-sub-same-bytes c = search needs
+sub-same-blockettes : tie.Need-sub-same-blockettes
+sub-same-blockettes c = search needs
 
-part-same-bytes-start : tie.Need-part-same-bytes-start
-part-same-bytes-start c = search needs
+part-same-blockettes-start : tie.Need-part-same-blockettes-start
+part-same-blockettes-start c = search needs
 
-part-same-bytes-end : tie.Need-part-same-bytes-end
-part-same-bytes-end c = search needs
+part-same-blockettes-end : tie.Need-part-same-blockettes-end
+part-same-blockettes-end c = search needs
 
-sub-same-bytes-2 : tie.Need-sub-same-bytes-2
-sub-same-bytes-2 c = search needs
+sub-same-blockettes-2 : tie.Need-sub-same-blockettes-2
+sub-same-blockettes-2 c = search needs
 
-part-same-bytes-start-2 : tie.Need-part-same-bytes-start-2
-part-same-bytes-start-2 c = search needs
+part-same-blockettes-start-2 : tie.Need-part-same-blockettes-start-2
+part-same-blockettes-start-2 c = search needs
 
-part-same-bytes-end-2 : tie.Need-part-same-bytes-end-2
-part-same-bytes-end-2 c = search needs
+part-same-blockettes-end-2 : tie.Need-part-same-blockettes-end-2
+part-same-blockettes-end-2 c = search needs
 
-same-bytes-requires : tie.Need-same-bytes-requires
-same-bytes-requires c κs = search needs
+same-blockettes-requires : tie.Need-same-blockettes-requires
+same-blockettes-requires c κs = search needs
 
 returns-2 : tie.Need-returns-2
 unfolding clashAt blocketteAt
@@ -70,8 +72,12 @@ returns-2 c =
     let a = t .before .before .before .before .before .before .before .before .before .args in
     let place = a .place in
     let size : 256 * place + 256 - 256 * place ≡ 256 = omega arith in
-    ap not (c .same-bytes .ensures ∙ ap (λ (k : ℕ). sameBytes (take k (drop (256 * place) (a .first .now))) (take k (drop (256 * place) (a .second .now)))) size)
-    ∙ neither-rest (bad (a .first-marks .now) (a .place)) (bad (a .second-marks .now) (a .place)) _ (sym (ap₂ (λ (a b : Bool). a || b) (t .before .before .before .is-error .ensures) (t .before .is-error2 .ensures)) ∙ t .if1 .left)
+    ap not (c .same-blockettes .ensures
+    ∙ ap (λ (k : ℕ). sameBytes (take k (drop (256 * place) (a .first .now)))
+    (take k (drop (256 * place) (a .second .now)))) size)
+    ∙ neither-rest (bad (a .first-marks .now) (a .place)) (bad (a .second-marks .now) (a .place)) _
+    (sym (ap₂ (λ (a b : Bool). a || b) (t .before .before .before .is-error .ensures)
+    (t .before .is-error2 .ensures)) ∙ t .if1 .left)
 
 pub clash-at-spec : {M : Type 1} → statement M
 clash-at-spec =
@@ -84,11 +90,11 @@ clash-at-spec =
     returns
     mul-start
     add-end
-    sub-same-bytes
-    part-same-bytes-start
-    part-same-bytes-end
-    sub-same-bytes-2
-    part-same-bytes-start-2
-    part-same-bytes-end-2
-    same-bytes-requires
+    sub-same-blockettes
+    part-same-blockettes-start
+    part-same-blockettes-end
+    sub-same-blockettes-2
+    part-same-blockettes-start-2
+    part-same-blockettes-end-2
+    same-blockettes-requires
     returns-2)

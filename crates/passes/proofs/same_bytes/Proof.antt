@@ -1,8 +1,9 @@
--- `passes::same_bytes` meets its contract. Before each turn the bytes so far, and those that are left, are the same if and only if all are.
+-- `passes::same_bytes` meets its contract. Before each turn the bytes so far, and those that are left, are the same if
+-- and only if all are.
 -- Assumes nothing.
 use borrow.Author.Needs.{needs}
-use mathlib.Core.Path.{_≡_, refl, sym, _∙_}
-use mathlib.Core.Bool.{Bool, true, false, _&&_}
+use mathlib.Core.Path.{_≡_, sym, _∙_}
+use mathlib.Core.Bool.{Bool, _&&_, and-true, and-assoc}
 use mathlib.Core.List.{List}
 use Prim.Native.Nat.{ℕ, suc, _+_, _≤_, _<_, _-_}
 use native.Mathlib.Numerals.{add-one}
@@ -14,25 +15,18 @@ use Rattle.passes.specs.Passes.{sameBytes}
 use Rattle.passes.proofs.same_bytes.Statement.{statement}
 use Rattle.passes.proofs.same_bytes.Tie as tie
 
--- tests joined
-joined : (x y z : Bool) → ((x && y) && z) ≡ (x && (y && z))
-joined true y z = refl
-joined false y z = refl
-
-and-true : (x : Bool) → (x && true) ≡ x
-and-true true = refl
-and-true false = refl
-
 -- a byte more
 next : (a b : List ℕ) (at : ℕ) (same : Bool) → at < length a → at < length b
-    → ((same && eqb (getD a at 0) (getD b at 0)) && sameBytes (drop (at + 1) a) (drop (at + 1) b)) ≡ (same && sameBytes (drop at a) (drop at b))
+    → ((same && eqb (getD a at 0) (getD b at 0)) && sameBytes (drop (at + 1) a) (drop (at + 1) b))
+    ≡ (same && sameBytes (drop at a) (drop at b))
 unfolding sameBytes
 next a b at same first second =
     rw (add-one, drop-cons a at 0 first, drop-cons b at 0 second)
-    (joined same (eqb (getD a at 0) (getD b at 0)) (sameBytes (drop (suc at) a) (drop (suc at) b)))
+    (and-assoc same (eqb (getD a at 0) (getD b at 0)) (sameBytes (drop (suc at) a) (drop (suc at) b)))
 
 -- no byte is left
-ends : (a b : List ℕ) (at : ℕ) (same : Bool) → length a ≤ at → length b ≤ at → (same && sameBytes (drop at a) (drop at b)) ≡ same
+ends : (a b : List ℕ) (at : ℕ) (same : Bool) → length a ≤ at → length b ≤ at
+    → (same && sameBytes (drop at a) (drop at b)) ≡ same
 unfolding sameBytes
 ends a b at same first second = rw (drop-of-length-le a first, drop-of-length-le b second) (and-true same)
 

@@ -1,5 +1,6 @@
--- What the contracts of the C functions that are lent space allow, as the toolchain reads them (`Post`): of the strings handed in, the refusal, and
--- what the space holds afterwards, with slices at any place and of any lifetime. And the functions meet their contracts (`Meet`).
+-- What the contracts of the C functions that are lent space allow, as the toolchain reads them (`Post`): of the strings
+-- handed in, the refusal, and what the space holds afterwards, with slices at any place and of any lifetime. And the
+-- functions meet their contracts (`Meet`).
 -- Assumes nothing.
 use mathlib.Core.Path.{_≡_, refl, sym, ap, ap₂, subst, _∙_}
 use mathlib.Core.Bool.{true, not}
@@ -11,7 +12,7 @@ use native.Mathlib.Omega.{arith}
 use lib.ListN.{length, take}
 use lib.Seq.{take-at}
 use borrow.Author.Tests.{le-ltb, ltb-false}
-use Rattle.common.specs.Given.{given}
+use Rattle.common.specs.Space.{overwrite}
 use Rattle.common.proofs.PickLaws.{pick-no, not-refused, where-done}
 use Rattle.passes.specs.Passes.{mergedMarks}
 use Rattle.passes.proofs.MergedLaws.{marks-length}
@@ -45,7 +46,8 @@ use Rattle.records.proofs.interface.ctc_scan.Statement as scan-statemen
 
 -- ---- what the contracts allow
 
-pub record BuildAllows (bytes : List ℕ) (density place : ℕ) (space : List ℕ) (refusal : ℕ) (after : List ℕ) : Type 0 where
+pub record BuildAllows (bytes : List ℕ) (density place : ℕ) (space : List ℕ) (refusal : ℕ)
+    (after : List ℕ) : Type 0 where
   pub lifetimes : Lfts 2
   pub bytes-slice : RefT (List ℕ)
   pub space-slice : RefT (List ℕ)
@@ -68,7 +70,8 @@ pub record RestoreAllows (image marks space : List ℕ) (refusal : ℕ) (after :
       (image-slice, (marks-slice, (at-last space-slice after, tt)))
 
 -- two passes, and both spaces before and after
-pub record MergeAllows (first second : Pass) (image marks : List ℕ) (refusal : ℕ) (imageAfter marksAfter : List ℕ) : Type 0 where
+pub record MergeAllows (first second : Pass) (image marks : List ℕ) (refusal : ℕ)
+    (imageAfter marksAfter : List ℕ) : Type 0 where
   pub lifetimes : Lfts 6
   pub first-slice : RefT (List ℕ)
   pub first-marks-slice : RefT (List ℕ)
@@ -81,8 +84,15 @@ pub record MergeAllows (first second : Pass) (image marks : List ℕ) (refusal :
   pub holds-image : now image-slice ≡ image
   pub holds-marks : now marks-slice ≡ marks
   pub promise :
-      merge-reads.Post lifetimes (first-slice, (first-marks-slice, (second-slice, (second-marks-slice, (image-slice, (marks-slice, tt)))))) refusal
-      (first-slice, (first-marks-slice, (second-slice, (second-marks-slice, (at-last image-slice imageAfter, (at-last marks-slice marksAfter, tt))))))
+      merge-reads.Post lifetimes
+      (first-slice, (first-marks-slice, (second-slice, (second-marks-slice, (image-slice, (marks-slice, tt))))))
+      refusal (
+        first-slice,
+        (
+          first-marks-slice,
+          (second-slice, (second-marks-slice, (at-last image-slice imageAfter, (at-last marks-slice marksAfter, tt)))),
+        ),
+      )
 
 pub record ScanAllows (marks space : List ℕ) (refusal : ℕ) (after : List ℕ) : Type 0 where
   pub lifetimes : Lfts 2
@@ -90,18 +100,24 @@ pub record ScanAllows (marks space : List ℕ) (refusal : ℕ) (after : List ℕ
   pub space-slice : RefT (List ℕ)
   pub holds-marks : now marks-slice ≡ marks
   pub holds-space : now space-slice ≡ space
-  pub promise : scan-reads.Post lifetimes (marks-slice, (space-slice, tt)) refusal (marks-slice, (at-last space-slice after, tt))
+  pub promise : scan-reads.Post lifetimes (marks-slice, (space-slice, tt)) refusal
+      (marks-slice, (at-last space-slice after, tt))
 
 -- an allowed answer is that of the definitions
 pub builds-are-defined : (bytes : List ℕ) (density place : ℕ) (space : List ℕ) (refusal : ℕ) (after : List ℕ)
     → BuildAllows bytes density place space refusal after
-    → (refusal ≡ buildRefusal (length bytes) density place (length space)) × (after ≡ buildInto bytes density place space)
+    → (refusal ≡ buildRefusal (length bytes) density place (length space))
+    × (after ≡ buildInto bytes density place space)
 builds-are-defined bytes density place space refusal after allowed = (
-  allowed .promise .0 ∙ ap₂ (λ (b s : List ℕ). buildRefusal (length b) density place (length s)) (allowed .holds-bytes) (allowed .holds-space),
-  allowed .promise .1 ∙ ap₂ (λ (b s : List ℕ). buildInto b density place s) (allowed .holds-bytes) (allowed .holds-space),
+  allowed .promise .0
+      ∙ ap₂ (λ (b s : List ℕ). buildRefusal (length b) density place (length s)) (allowed .holds-bytes)
+      (allowed .holds-space),
+  allowed .promise .1
+      ∙ ap₂ (λ (b s : List ℕ). buildInto b density place s) (allowed .holds-bytes) (allowed .holds-space),
 )
 
-pub restores-are-defined : (image marks space : List ℕ) (refusal : ℕ) (after : List ℕ) → RestoreAllows image marks space refusal after
+pub restores-are-defined : (image marks space : List ℕ) (refusal : ℕ) (after : List ℕ)
+    → RestoreAllows image marks space refusal after
     → (refusal ≡ restoreRefusal image marks (length space)) × (after ≡ restoreInto image marks space)
 restores-are-defined image marks space refusal after allowed =
     let i = allowed .holds-image in
@@ -114,13 +130,15 @@ restores-are-defined image marks space refusal after allowed =
           ∙ ap (λ (l : List ℕ). restoreInto l marks space) i,
     )
 
-pub record MergeDefined (first second : Pass) (image marks : List ℕ) (refusal : ℕ) (imageAfter marksAfter : List ℕ) : Type 0 where
+pub record MergeDefined (first second : Pass) (image marks : List ℕ) (refusal : ℕ)
+    (imageAfter marksAfter : List ℕ) : Type 0 where
   pub answer : refusal ≡ mergeRefusal first second (length image) (length marks)
   pub image-after : imageAfter ≡ mergeImageInto first second image (length marks)
   pub marks-after : marksAfter ≡ mergeMarksInto first second (length image) marks
 
 pub merges-are-defined : (first second : Pass) (image marks : List ℕ) (refusal : ℕ) (imageAfter marksAfter : List ℕ)
-    → MergeAllows first second image marks refusal imageAfter marksAfter → MergeDefined first second image marks refusal imageAfter marksAfter
+    → MergeAllows first second image marks refusal imageAfter marksAfter
+    → MergeDefined first second image marks refusal imageAfter marksAfter
 merges-are-defined first second image marks refusal imageAfter marksAfter allowed =
     let i = allowed .holds-image in
     let m = allowed .holds-marks in
@@ -152,7 +170,8 @@ abbrev somewhere : List ℕ → RefT (List ℕ)
 somewhere bytes = record { ptr = (0, 0); name = 0; now = bytes }
 
 pub builds-are-allowed : (bytes : List ℕ) (density place : ℕ) (space : List ℕ)
-    → BuildAllows bytes density place space (buildRefusal (length bytes) density place (length space)) (buildInto bytes density place space)
+    → BuildAllows bytes density place space (buildRefusal (length bytes) density place (length space))
+    (buildInto bytes density place space)
 builds-are-allowed bytes density place space =
     record {
       lifetimes = ([], ([], tt));
@@ -178,7 +197,8 @@ restores-are-allowed image marks space =
     }
 
 pub merges-are-allowed : (first second : Pass) (image marks : List ℕ)
-    → MergeAllows first second image marks (mergeRefusal first second (length image) (length marks)) (mergeImageInto first second image (length marks))
+    → MergeAllows first second image marks (mergeRefusal first second (length image) (length marks))
+    (mergeImageInto first second image (length marks))
     (mergeMarksInto first second (length image) marks)
 merges-are-allowed first second image marks =
     record {
@@ -199,57 +219,69 @@ merges-are-allowed first second image marks =
 -- ---- the builder's answer 0
 
 -- what is known of it in GCR, of the record that is written
-module _ (bytes : List ℕ) (density place : ℕ) (space after : List ℕ) (gcr : density ≡ 0 → ⊥) (allowed : BuildAllows bytes density place space 0 after) where
+module _ (bytes : List ℕ) (density place : ℕ) (space after : List ℕ) (gcr : density ≡ 0 → ⊥)
+    (allowed : BuildAllows bytes density place space 0 after) where
   pub built-within : length (builtBytes bytes place) ≤ limit
   unfolding buildRefusal
   built-within =
-      let few = ltb-false _ _ (not-refused _ _ _ (λ r. omega arith) (sym (builds-are-defined bytes density place space 0 after allowed .0)) .0) in
+      let few = ltb-false _ _
+      (not-refused _ _ _ (λ r. omega arith)
+      (sym (builds-are-defined bytes density place space 0 after allowed .0)) .0) in
       rw (written-length bytes place 0 (length bytes)) few
 
   -- its image stands at the start of the space
   pub built-image : take (imageLength (length bytes) density) after ≡ imageOf (builtBytes bytes place) 1
-  unfolding buildInto given
+  unfolding buildInto overwrite
   built-image =
       let promised = builds-are-defined bytes density place space 0 after allowed in
-      let long = image-length (builtBytes bytes place) density ∙ ap (λ (n : ℕ). imageLength n density) (written-length bytes place 0 (length bytes)) in
-      ap (λ (l : List ℕ). take (imageLength (length bytes) density) l) (promised .1 ∙ where-done _ _ _ (sym (promised .0)))
+      let long = image-length (builtBytes bytes place) density
+      ∙ ap (λ (n : ℕ). imageLength n density) (written-length bytes place 0 (length bytes)) in
+      ap (λ (l : List ℕ). take (imageLength (length bytes) density) l)
+      (promised .1 ∙ where-done _ _ _ (sym (promised .0)))
       ∙ take-at (imageOf (builtBytes bytes place) density) _ (imageLength (length bytes) density) long
       ∙ image-alike density gcr (builtBytes bytes place)
 
 -- and it gives that answer where the bytes are within the limit, the image fits, and the place is one of theirs or none
-pub builds-within : (bytes : List ℕ) (density place : ℕ) (space : List ℕ) → length bytes ≤ limit → imageLength (length bytes) density ≤ length space
-    → isPlace (length bytes) place ≡ true → BuildAllows bytes density place space 0 (buildInto bytes density place space)
+pub builds-within : (bytes : List ℕ) (density place : ℕ) (space : List ℕ) → length bytes ≤ limit
+    → imageLength (length bytes) density ≤ length space
+    → isPlace (length bytes) place ≡ true
+    → BuildAllows bytes density place space 0 (buildInto bytes density place space)
 unfolding buildRefusal
 builds-within bytes density place space within room is-place =
     let c = length bytes in
     let accepted : buildRefusal c density place (length space) ≡ 0 =
-    pick-no 9 _ (le-ltb limit c within) ∙ pick-no 11 _ (le-ltb (length space) (imageLength c density) room) ∙ pick-no 15 0 (ap not is-place)
+    pick-no 9 _ (le-ltb limit c within) ∙ pick-no 11 _ (le-ltb (length space) (imageLength c density) room)
+    ∙ pick-no 15 0 (ap not is-place)
     in
-    subst (λ (r : ℕ). BuildAllows bytes density place space r (buildInto bytes density place space)) accepted (builds-are-allowed bytes density place space)
+    subst (λ (r : ℕ). BuildAllows bytes density place space r (buildInto bytes density place space)) accepted
+    (builds-are-allowed bytes density place space)
 
 -- ---- merging's answer 0
 
 module _ (first second : Pass) (image marks imageAfter marksAfter : List ℕ)
     (allowed : MergeAllows first second image marks 0 imageAfter marksAfter) where
   -- the merged marks stand at the start of their space
-  pub marks-left : marksAfter ≡ given (mergedMarks (first .marks) (second .marks)) marks
+  pub marks-left : marksAfter ≡ overwrite (mergedMarks (first .marks) (second .marks)) marks
   unfolding mergeMarksInto
   marks-left =
       let promised = merges-are-defined first second image marks 0 imageAfter marksAfter allowed in
       promised .marks-after ∙ where-done _ _ _ (sym (promised .answer))
 
   pub merged-marks-left : take (length (first .marks)) marksAfter ≡ mergedMarks (first .marks) (second .marks)
-  unfolding given
+  unfolding overwrite
   merged-marks-left =
       ap (λ (l : List ℕ). take (length (first .marks)) l) marks-left
-      ∙ take-at (mergedMarks (first .marks) (second .marks)) _ (length (first .marks)) (marks-length (first .marks) (second .marks))
+      ∙ take-at (mergedMarks (first .marks) (second .marks)) _ (length (first .marks))
+      (marks-length (first .marks) (second .marks))
 
   -- and the merged image at the start of its own
-  pub merged-image-left : length (mergedImage first second) ≡ length (first .image) → take (length (first .image)) imageAfter ≡ mergedImage first second
-  unfolding mergeImageInto given
+  pub merged-image-left : length (mergedImage first second) ≡ length (first .image)
+      → take (length (first .image)) imageAfter ≡ mergedImage first second
+  unfolding mergeImageInto overwrite
   merged-image-left long =
       let promised = merges-are-defined first second image marks 0 imageAfter marksAfter allowed in
-      ap (λ (l : List ℕ). take (length (first .image)) l) (promised .image-after ∙ where-done _ _ _ (sym (promised .answer)))
+      ap (λ (l : List ℕ). take (length (first .image)) l)
+      (promised .image-after ∙ where-done _ _ _ (sym (promised .answer)))
       ∙ take-at (mergedImage first second) _ (length (first .image)) long
 
 -- ---- the functions

@@ -29,11 +29,13 @@ with-result-requires c κs = search needs
 told-of-requires : tie.Need-told-of-requires
 told-of-requires c κs = search needs
 
-slice-aggregate-give : tie.Need-slice-aggregate-give
-slice-aggregate-give c = search needs
+slice-aggregate-overwrite : tie.Need-slice-aggregate-overwrite
+slice-aggregate-overwrite c = search needs
 
-give-requires : tie.Need-give-requires
-give-requires c κs = le-trans (c .before .before .told-of .ensures) (c .before .before .before .before .before .before .before .before .before .before .before .before .before .before .if1 .left)
+overwrite-requires : tie.Need-overwrite-requires
+overwrite-requires c κs =
+    le-trans (c .before .before .told-of .ensures)
+    (c .before .before .before .before .before .before .before .before .before .before .before .before .before .before .if1 .left)
 
 same-length-3 : tie.Need-same-length-3
 same-length-3 c = search needs
@@ -59,8 +61,8 @@ trial-write-spec =
     returns-2
     with-result-requires
     told-of-requires
-    slice-aggregate-give
-    give-requires
+    slice-aggregate-overwrite
+    overwrite-requires
     same-length-3
     same-length-4
     same-length-5

@@ -2,7 +2,7 @@
 -- Assumes nothing.
 use mathlib.Core.Path.{_∙_}
 use borrow.Author.Needs.{needs}
-use Rattle.lines.proofs.FieldLaws.{field-fits}
+use Rattle.text.proofs.FieldLaws.{field-fits}
 use Rattle.contestlines.proofs.LineLaws.{numbers-cut}
 use Rattle.contestlines.proofs.line.read_fields.Statement.{statement}
 use Rattle.contestlines.proofs.line.read_fields.Tie as tie
@@ -29,11 +29,14 @@ returns c =
     let rest = stores .before in
     let writes = rest .before in
     c .read-numbers .ensures
-    ∙ numbers-cut _ _ (writes .field-of .result .now) (rest .after .result .now) (stores .field-of2 .result .now) (spoilings .after2 .result .now)
+    ∙ numbers-cut _ _ (writes .field-of .result .now) (rest .after .result .now) (stores .field-of2 .result .now)
+    (spoilings .after2 .result .now)
     (writes .field-of .ensures)
     (rest .after .ensures)
     (stores .field-of2 .ensures)
     (spoilings .after2 .ensures)
 
 pub read-fields-spec : {M : Type 1} → statement M
-read-fields-spec = tie.close (tie.spec field-of-requires after-requires field-of-requires-2 after-requires-2 read-numbers-requires returns)
+read-fields-spec =
+    tie.close
+    (tie.spec field-of-requires after-requires field-of-requires-2 after-requires-2 read-numbers-requires returns)

@@ -37,8 +37,12 @@ cast-n c = search needs
 
 decimal-of-requires-3 : tie.Need-decimal-of-requires-3
 decimal-of-requires-3 c κs =
-    let fields = both-hold (c .before .before .before .before .before .is-decimal .result) _ (c .before .before .if1 .taken) .1 in
-    (omega arith, sym (c .before .before .before .is-decimal3 .ensures) ∙ both-hold (c .before .before .before .before .is-decimal2 .result) _ fields .1)
+    let fields = both-hold (c .before .before .before .before .before .is-decimal .result) _
+    (c .before .before .if1 .taken) .1 in (
+      omega arith,
+      sym (c .before .before .before .is-decimal3 .ensures)
+          ∙ both-hold (c .before .before .before .before .is-decimal2 .result) _ fields .1,
+    )
 
 cast-f : tie.Need-cast-f
 cast-f c = search needs

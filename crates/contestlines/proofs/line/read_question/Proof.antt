@@ -37,7 +37,8 @@ returns-2 c =
     let second = c .before .before .before in
     let first = second .before .before in
     let line = first .before .before .args .line .now in
-    simp (le-ltb _ _ (first .if1 .left), eq-eqb _ _ (second .if2 .taken)) (c .read-gap .ensures ∙ ap (gapLine _) (rest-all line (first .if1 .left)))
+    simp (le-ltb _ _ (first .if1 .left), eq-eqb _ _ (second .if2 .taken))
+    (c .read-gap .ensures ∙ ap (gapLine _) (rest-all line (first .if1 .left)))
 
 returns-3 : tie.Need-returns-3
 unfolding questionOf pick

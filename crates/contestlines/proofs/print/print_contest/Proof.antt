@@ -3,7 +3,7 @@
 use mathlib.Core.Path.{_∙_}
 use native.Mathlib.Omega.{arith}
 use borrow.Author.Needs.{needs}
-use Rattle.lines.specs.Print.{refusalText}
+use Rattle.text.specs.Print.{refusalText}
 use Rattle.contestlines.specs.Print.{contestText}
 use Rattle.contestlines.proofs.LineLaws.{contest-text}
 use Rattle.contestlines.proofs.print.print_contest.Statement.{statement}
@@ -27,8 +27,8 @@ put-requires-2 c κs = search needs
 put-requires-3 : tie.Need-put-requires-3
 put-requires-3 c κs = search needs
 
-first-sign-requires : tie.Need-first-sign-requires
-first-sign-requires c κs = search needs
+opening-sign-requires : tie.Need-opening-sign-requires
+opening-sign-requires c κs = search needs
 
 put-requires-4 : tie.Need-put-requires-4
 put-requires-4 c κs = search needs
@@ -60,14 +60,15 @@ returns c =
         comma .put .ensures .0,
         number .put-refusal .ensures .0,
       ),
-      contest-text (refusalText (refusal .refusal-of .result)) (sign .verdict-sign .result) (store .first-sign .result)
+      contest-text (refusalText (refusal .refusal-of .result)) (sign .verdict-sign .result)
+          (store .opening-sign .result)
           (number .put-refusal .ensures .1)
           (comma .put .ensures .1)
           (verdict .put2 .ensures .1)
           (second .put3 .ensures .1)
           (first .put4 .ensures .1)
           (last .put5 .ensures .1)
-          ∙ simp (refusal .refusal-of .ensures, sign .verdict-sign .ensures, store .first-sign .ensures),
+          ∙ simp (refusal .refusal-of .ensures, sign .verdict-sign .ensures, store .opening-sign .ensures),
     )
 
 pub print-contest-spec : {M : Type 1} → statement M
@@ -80,7 +81,7 @@ print-contest-spec =
     verdict-sign-requires
     put-requires-2
     put-requires-3
-    first-sign-requires
+    opening-sign-requires
     put-requires-4
     put-requires-5
     same-length

@@ -2,23 +2,23 @@
 -- Assumes nothing.
 use mathlib.Core.Path.{refl}
 use borrow.Author.Needs.{needs}
-use Rattle.common.proofs.GivenLaws.{given-front}
+use Rattle.common.proofs.SpaceLaws.{overwritten-front}
 use Rattle.contestlines.specs.Print.{contestUnreadableText}
 use Rattle.contestlines.proofs.print.print_contest_unreadable.Statement.{statement}
 use Rattle.contestlines.proofs.print.print_contest_unreadable.Tie as tie
 
-slice-aggregate-give : tie.Need-slice-aggregate-give
-slice-aggregate-give c = search needs
+slice-aggregate-overwrite : tie.Need-slice-aggregate-overwrite
+slice-aggregate-overwrite c = search needs
 
-give-requires : tie.Need-give-requires
-give-requires c κs = search needs
+overwrite-requires : tie.Need-overwrite-requires
+overwrite-requires c κs = search needs
 
 same-length : tie.Need-same-length
 same-length c = search needs
 
 returns : tie.Need-returns
 unfolding contestUnreadableText
-returns c = (refl, rw (c .before .before .give .ensures) (given-front contestUnreadableText _))
+returns c = (refl, rw (c .before .before .overwrite .ensures) (overwritten-front contestUnreadableText _))
 
 pub print-contest-unreadable-spec : {M : Type 1} → statement M
-print-contest-unreadable-spec = tie.close (tie.spec slice-aggregate-give give-requires same-length returns)
+print-contest-unreadable-spec = tie.close (tie.spec slice-aggregate-overwrite overwrite-requires same-length returns)

@@ -16,8 +16,8 @@ print-contest-unreadable-requires c κs = search needs
 enum-known-question : tie.Need-enum-known-question
 enum-known-question c = search needs
 
-answer-of-requires : tie.Need-answer-of-requires
-answer-of-requires c κs = search needs
+solve-requires : tie.Need-solve-requires
+solve-requires c κs = search needs
 
 print-contest-requires : tie.Need-print-contest-requires
 print-contest-requires c κs = search needs
@@ -39,7 +39,7 @@ unfolding questionText
 returns-2 c =
     let p = c .before .before .print-contest in
     let answer = c .before .before .before .before in
-    (p .ensures .0, p .ensures .1 ∙ simp (answer .answer-of .ensures, answer .before .before .question .given .1))
+    (p .ensures .0, p .ensures .1 ∙ simp (answer .solve .ensures, answer .before .before .question .given .1))
 
 pub print-question-spec : {M : Type 1} → statement M
 print-question-spec =
@@ -48,7 +48,7 @@ print-question-spec =
     enum-told
     print-contest-unreadable-requires
     enum-known-question
-    answer-of-requires
+    solve-requires
     print-contest-requires
     same-length
     returns

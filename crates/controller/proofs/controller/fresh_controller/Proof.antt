@@ -16,7 +16,9 @@ nothing-collected-requires c κs = search needs
 
 returns : tie.Need-returns
 unfolding fresh
-returns c = simp (c .nothing-collected .ensures, c .before .start-body .ensures, c .before .before .fresh-drives .ensures)
+returns c =
+    simp (c .nothing-collected .ensures, c .before .start-body .ensures, c .before .before .fresh-drives .ensures)
 
 pub fresh-controller-spec : {M : Type 1} → statement M
-fresh-controller-spec = tie.close (tie.spec fresh-drives-requires start-body-requires nothing-collected-requires returns)
+fresh-controller-spec =
+    tie.close (tie.spec fresh-drives-requires start-body-requires nothing-collected-requires returns)

@@ -8,7 +8,9 @@ use types.Run.{OneOf, miss}
 use denote.Enum.Declared.{tagOf}
 use Rattle.common.specs.Pick.{pick}
 use Rattle.operations.specs.declared.operation.Operation.{Operation}
-use Rattle.operations.specs.declared.operation.Operation.the-variants.{Read, CheckBytes, SuppliedCount, Write, Erase, Rewind, FastForward, SkipForward, SkipReverse, SearchForward, SearchReverse, WriteMark}
+use Rattle.operations.specs.declared.operation.Operation.the-variants.{Read, CheckBytes, SuppliedCount, Write, Erase}
+use Rattle.operations.specs.declared.operation.Operation.the-variants.{Rewind, FastForward, SkipForward, SkipReverse}
+use Rattle.operations.specs.declared.operation.Operation.the-variants.{SearchForward, SearchReverse, WriteMark}
 use Rattle.operations.proofs.operation.Operation.{the-type}
 use Rattle.operations.specs.declared.store.Store.{Store}
 use Rattle.link.specs.declared.state.Body.{Body}
@@ -60,7 +62,8 @@ returns c = simp (c .offer-go .ensures, c .before .enum-told .given .1, c .befor
 
 returns-2 : tie.Need-returns-2
 unfolding begin pick
-returns-2 c = simp (c .await-check-bytes .ensures, c .before .enum-told2 .given .1, c .before .before .before .past-test .ensures)
+returns-2 c =
+    simp (c .await-check-bytes .ensures, c .before .enum-told2 .given .1, c .before .before .before .past-test .ensures)
 
 returns-3 : tie.Need-returns-3
 returns-3 c =

@@ -9,13 +9,12 @@ use Rattle.controller.proofs.stores.end_operation.Tie as tie
 offers-end-requires : tie.Need-offers-end-requires
 offers-end-requires c κs = search needs
 
-asks-interrupt-requires : tie.Need-asks-interrupt-requires
-asks-interrupt-requires c κs = search needs
+offer-end-requires : tie.Need-offer-end-requires
+offer-end-requires c κs = search needs
 
 returns : tie.Need-returns
 unfolding endOperation pick
-returns c =
-    simp (c .before .asks-interrupt .ensures, c .before .before .if1 .taken, ← c .before .before .before .offers-end .ensures)
+returns c = simp (c .offer-end .ensures, c .before .if1 .taken, ← c .before .before .offers-end .ensures)
 
 settle-requires : tie.Need-settle-requires
 settle-requires c κs = search needs
@@ -25,4 +24,4 @@ unfolding endOperation pick
 returns-2 c = simp (c .settle .ensures, c .before .if1 .left, ← c .before .before .offers-end .ensures)
 
 pub end-operation-spec : {M : Type 1} → statement M
-end-operation-spec = tie.close (tie.spec offers-end-requires asks-interrupt-requires returns settle-requires returns-2)
+end-operation-spec = tie.close (tie.spec offers-end-requires offer-end-requires returns settle-requires returns-2)

@@ -55,7 +55,8 @@ returns-3 c = simp (c .settle .ensures, c .before .with-flags .ensures, c .befor
 
 returns-4 : tie.Need-returns-4
 unfolding follow
-returns-4 c = simp (c .settle2 .ensures, c .before .with-current-drive .ensures, c .before .before .before .course3 .given .1)
+returns-4 c =
+    simp (c .settle2 .ensures, c .before .with-current-drive .ensures, c .before .before .before .course3 .given .1)
 
 returns-5 : tie.Need-returns-5
 unfolding follow

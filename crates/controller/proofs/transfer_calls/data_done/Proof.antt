@@ -1,4 +1,5 @@
--- `controller::transfer_calls::data_done` meets its contract: what is settled for the drive is put into the body, and the move is ordered.
+-- `controller::transfer_calls::data_done` meets its contract: what is settled for the drive is put into the body, and
+-- the move is ordered.
 -- Assumes nothing.
 use borrow.Author.Needs.{needs}
 use mathlib.Core.Path.{_≡_, ap, _∙_}
@@ -7,7 +8,7 @@ use Rattle.transfers.specs.declared.after.Words.{Words}
 use Rattle.transfers.specs.declared.after.Written.{Written}
 use Rattle.transfers.specs.Data.{hostOf, settleData}
 use Rattle.link.specs.declared.state.Body.{Body}
-use Rattle.link.specs.declared.state.Turn.{Turn}
+use Rattle.link.specs.declared.state.Transition.{Transition}
 use Rattle.controller.specs.Controller.{carried}
 use Rattle.controller.specs.Stores.{orderMove}
 use Rattle.controller.specs.Records.{withStatus, dataDone}
@@ -45,10 +46,12 @@ returns c =
     let n = d .before .before .before in
     let a = n .before .before .before .before .args in
     let host = hostOf (a .host .now) (a .place) in
-    let settled = d .settle-data .ensures .0 ∙ ap (λ (words : Words). settleData words (a .drive) (a .store) host) (n .words-of .ensures) in
+    let settled = d .settle-data .ensures .0
+    ∙ ap (λ (words : Words). settleData words (a .drive) (a .store) host) (n .words-of .ensures) in
     let left = w .with-status .ensures ∙ ap (λ (x : Written). withStatus (a .b) (x .words)) settled in
     let moves = o .order-move .ensures ∙ ap (λ (x : Body). orderMove x Write (a .store)) left in
-    answer-alike _ _ _ _ _ _ _ _ (c .carried .ensures ∙ ap (λ (x : Turn). carried x) moves) (ap (λ (x : Written). x .bytes) settled)
+    answer-alike _ _ _ _ _ _ _ _ (c .carried .ensures ∙ ap (λ (x : Transition). carried x) moves)
+    (ap (λ (x : Written). x .bytes) settled)
     (d .settle-data .ensures .1 .0) (d .settle-data .ensures .1 .1)
 
 pub data-done-spec : {M : Type 1} → statement M

@@ -1,4 +1,5 @@
--- `controller::transfer_calls::result_done` meets its contract: what is settled for the drive is put into the body, and the operation ends.
+-- `controller::transfer_calls::result_done` meets its contract: what is settled for the drive is put into the body, and
+-- the operation ends.
 -- Assumes nothing.
 use borrow.Author.Needs.{needs}
 use mathlib.Core.Path.{_≡_, ap, _∙_}
@@ -7,7 +8,7 @@ use Rattle.transfers.specs.declared.after.Words.{Words}
 use Rattle.transfers.specs.declared.after.After.{After}
 use Rattle.transfers.specs.Results.{resultWith, settleResult}
 use Rattle.link.specs.declared.state.Body.{Body}
-use Rattle.link.specs.declared.state.Turn.{Turn}
+use Rattle.link.specs.declared.state.Transition.{Transition}
 use Rattle.controller.specs.Controller.{carried}
 use Rattle.controller.specs.Stores.{endOperation}
 use Rattle.controller.specs.Records.{withAfter, resultDone}
@@ -45,10 +46,13 @@ returns c =
     let n = d .before .before .before in
     let a = n .before .before .before .before .before .args in
     let r = resultWith (a .ending) (a .image .now) (a .marks .now) in
-    let settled = d .settle-result .ensures .0 ∙ ap (λ (words : Words). settleResult words (a .drive) (a .operation) (a .store) r (length (a .space .now)) (a .check .now)) (n .words-of .ensures) in
+    let settled = d .settle-result .ensures .0
+    ∙ ap (λ (words : Words). settleResult words (a .drive) (a .operation) (a .store) r (length (a .space .now))
+    (a .check .now)) (n .words-of .ensures) in
     let left = w .with-after .ensures ∙ ap (λ (x : After). withAfter (a .b) x) settled in
     let ends = e .end-operation .ensures ∙ ap (λ (x : Body). endOperation x (a .operation) (a .store)) left in
-    answer-alike _ _ _ _ _ _ _ _ (c .carried .ensures ∙ ap (λ (x : Turn). carried x) ends) (ap (λ (x : After). x .bytes) settled)
+    answer-alike _ _ _ _ _ _ _ _ (c .carried .ensures ∙ ap (λ (x : Transition). carried x) ends)
+    (ap (λ (x : After). x .bytes) settled)
     (d .settle-result .ensures .1 .0) (d .settle-result .ensures .1 .1)
 
 pub result-done-spec : {M : Type 1} → statement M

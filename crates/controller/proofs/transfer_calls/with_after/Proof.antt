@@ -17,7 +17,9 @@ with-current-drive-requires : tie.Need-with-current-drive-requires
 with-current-drive-requires c κs = search needs
 
 returns : tie.Need-returns
-returns c = simp (c .with-current-drive .ensures, c .before .with-status .ensures, c .before .before .before .with-gap .ensures, c .before .before .before .before .drive-of .ensures)
+returns c =
+    simp (c .with-current-drive .ensures, c .before .with-status .ensures, c .before .before .before .with-gap .ensures, c .before .before .before .before .drive-of .ensures)
 
 pub with-after-spec : {M : Type 1} → statement M
-with-after-spec = tie.close (tie.spec drive-of-requires with-gap-requires with-status-requires with-current-drive-requires returns)
+with-after-spec =
+    tie.close (tie.spec drive-of-requires with-gap-requires with-status-requires with-current-drive-requires returns)

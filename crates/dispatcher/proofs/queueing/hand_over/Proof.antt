@@ -1,4 +1,5 @@
--- `dispatcher::queueing::hand_over` meets its contract: the controller's reply to the store, beside the queues without it.
+-- `dispatcher::queueing::hand_over` meets its contract: the controller's reply to the store, beside the queues without
+-- it.
 -- Assumes nothing.
 use borrow.Author.Needs.{needs}
 use mathlib.Core.Path.{_≡_, ap, ap₂, _∙_}
@@ -6,7 +7,7 @@ use Rattle.operations.specs.declared.store.Store.{Store}
 use Rattle.controller.specs.declared.controller.Reply.{Reply}
 use Rattle.controller.specs.Machine as machine
 use Rattle.queues.specs.declared.jobs.Queues.{Queues}
-use Rattle.dispatcher.specs.Dispatcher.{beside, handOver}
+use Rattle.dispatcher.specs.Dispatcher.{withQueues, handOver}
 use Rattle.dispatcher.proofs.queueing.hand_over.Statement.{statement}
 use Rattle.dispatcher.proofs.queueing.hand_over.Tie as tie
 
@@ -19,16 +20,17 @@ served-requires c κs = search needs
 hand-requires : tie.Need-hand-requires
 hand-requires c κs = search needs
 
-beside-requires : tie.Need-beside-requires
-beside-requires c κs = search needs
+with-queues-requires : tie.Need-with-queues-requires
+with-queues-requires c κs = search needs
 
 returns : tie.Need-returns
 unfolding handOver
 returns c =
     let controller = c .before .before .before .before .before .args .d .controller in
-    c .beside .ensures
-    ∙ ap₂ (λ (q : Queues) (r : Reply). beside q r) (c .before .before .before .served .ensures)
-    (c .before .hand .ensures ∙ ap (λ (s : Store). machine.handCall controller s) (c .before .before .before .before .next-store .ensures))
+    c .with-queues .ensures
+    ∙ ap₂ (λ (q : Queues) (r : Reply). withQueues q r) (c .before .before .before .served .ensures)
+    (c .before .hand .ensures
+    ∙ ap (λ (s : Store). machine.handCall controller s) (c .before .before .before .before .next-store .ensures))
 
 pub hand-over-spec : {M : Type 1} → statement M
-hand-over-spec = tie.close (tie.spec next-store-requires served-requires hand-requires beside-requires returns)
+hand-over-spec = tie.close (tie.spec next-store-requires served-requires hand-requires with-queues-requires returns)

@@ -1,4 +1,5 @@
--- `dispatcher::queueing::queue_refusal` meets its contract: at each return the tests that led there say which case holds.
+-- `dispatcher::queueing::queue_refusal` meets its contract: at each return the tests that led there say which case
+-- holds.
 -- Assumes nothing.
 use borrow.Author.Needs.{needs}
 use borrow.Author.Tests.{le-leb, lt-leb}
@@ -65,4 +66,6 @@ returns-4 c =
     )
 
 pub queue-refusal-spec : {M : Type 1} → statement M
-queue-refusal-spec = tie.close (tie.spec is-whole-requires returns names-drive-requires is-reset-store-requires returns-2 queue-of-requires returns-3 returns-4)
+queue-refusal-spec =
+    tie.close
+    (tie.spec is-whole-requires returns names-drive-requires is-reset-store-requires returns-2 queue-of-requires returns-3 returns-4)

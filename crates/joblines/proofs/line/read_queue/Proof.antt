@@ -1,7 +1,7 @@
 -- `joblines::line::read_queue` meets its contract: its fields are cut off one after the other.
 -- Assumes nothing.
 use mathlib.Core.Path.{_∙_}
-use Rattle.lines.proofs.FieldLaws.{field-fits}
+use Rattle.text.proofs.FieldLaws.{field-fits}
 use Rattle.joblines.proofs.LineLaws.{store-cut}
 use borrow.Author.Needs.{needs}
 use Rattle.joblines.proofs.line.read_queue.Statement.{statement}
@@ -29,7 +29,8 @@ returns c bytes marks =
     let rest = address .before in
     let job = rest .before in
     c .read-store .ensures bytes marks
-    ∙ store-cut (job .before .before .args .s .now) (job .field-of .result .now) (rest .after .result .now) (address .field-of2 .result .now)
+    ∙ store-cut (job .before .before .args .s .now) (job .field-of .result .now) (rest .after .result .now)
+    (address .field-of2 .result .now)
     (operand .after2 .result .now)
     (job .field-of .ensures)
     (rest .after .ensures)

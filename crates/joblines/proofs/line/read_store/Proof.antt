@@ -20,7 +20,11 @@ is-operand-requires : tie.Need-is-operand-requires
 is-operand-requires c κs = search needs
 
 decimal-of-requires : tie.Need-decimal-of-requires
-decimal-of-requires c κs = (omega arith, sym (c .before .before .before .is-decimal .ensures) ∙ both-hold (c .before .before .before .is-decimal .result) _ (c .if1 .taken) .0)
+decimal-of-requires c κs = (
+  omega arith,
+  sym (c .before .before .before .is-decimal .ensures)
+      ∙ both-hold (c .before .before .before .is-decimal .result) _ (c .if1 .taken) .0,
+)
 
 cast-number : tie.Need-cast-number
 cast-number c = search needs
@@ -28,8 +32,11 @@ cast-number c = search needs
 store-of-requires : tie.Need-store-of-requires
 store-of-requires c κs =
     let fields = both-hold (c .before .before .before .before .is-decimal .result) _ (c .before .if1 .taken) .1 in
-    let both = both-hold (c .before .before .before .is-byte .result) _ fields in
-    (sym (c .before .before .before .is-byte .ensures) ∙ both .0, sym (c .before .before .is-operand .ensures) ∙ both .1)
+    let both = both-hold (c .before .before .before .is-byte .result) _ fields in (
+      sym (c .before .before .before .is-byte .ensures) ∙ both .0,
+      sym (c .before .before .is-operand .ensures)
+          ∙ both .1,
+    )
 
 returns : tie.Need-returns
 unfolding storeLine jobLineRead pick

@@ -2,7 +2,7 @@
 -- Assumes nothing.
 use mathlib.Core.Path.{_≡_, refl, _∙_}
 use native.Mathlib.Omega.{arith}
-use Rattle.lines.specs.Digits.{bytesOf}
+use Rattle.text.specs.Digits.{bytesOf}
 use Rattle.joblines.specs.Line.{storeOf}
 use Rattle.joblines.proofs.LineLaws.{operand-length, operand-bytes}
 use borrow.Author.Needs.{needs}

@@ -1,6 +1,8 @@
--- `joblines::play::answer_job_line` meets its contract: it is read, and the call that it says is made and its answer printed.
+-- `joblines::play::answer_job_line` meets its contract: it is read, and the call that it says is made and its answer
+-- printed.
 -- Assumes nothing.
 use mathlib.Core.Path.{_∙_}
+use native.Mathlib.Omega.{arith}
 use Rattle.joblines.specs.Line.{jobLineRead}
 use Rattle.joblines.specs.Play.{jobLineLeft}
 use borrow.Author.Needs.{needs}
@@ -41,9 +43,11 @@ returns : tie.Need-returns
 unfolding jobLineLeft jobLineRead
 returns c =
     let t = c .before .before .answer-reply in
-    let q = c .before .before .before .before .before .before in
-    let e = q .before .before in
-    (t .ensures .0, t .ensures .1 _ ∙ simp (q .queue .ensures, ← e .before .before .read-job-line .ensures, e .reading .given .1))
+    let q = c .before .before .before .before in
+    let e = q .before .before in (
+      omega (arith, t .ensures .0),
+      t .ensures .1 _ _ ∙ simp (q .queue .ensures, ← e .before .before .read-job-line .ensures, e .reading .given .1),
+    )
 
 same-length-2 : tie.Need-same-length-2
 same-length-2 c = search needs
@@ -52,9 +56,11 @@ returns-2 : tie.Need-returns-2
 unfolding jobLineLeft jobLineRead
 returns-2 c =
     let t = c .before .before .answer-reply2 in
-    let q = c .before .before .before .before .before .before in
-    let e = q .before in
-    (t .ensures .0, t .ensures .1 _ ∙ simp (q .hand .ensures, ← e .before .before .read-job-line .ensures, e .enum-told .given .1))
+    let q = c .before .before .before .before in
+    let e = q .before in (
+      omega (arith, t .ensures .0),
+      t .ensures .1 _ _ ∙ simp (q .hand .ensures, ← e .before .before .read-job-line .ensures, e .enum-told .given .1),
+    )
 
 same-length-3 : tie.Need-same-length-3
 same-length-3 c = search needs

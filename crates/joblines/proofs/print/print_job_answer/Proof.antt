@@ -1,7 +1,8 @@
 -- `joblines::print::print_job_answer` meets its contract: one text after the other.
 -- Assumes nothing.
 use native.Mathlib.Omega.{arith}
-use Rattle.lines.specs.Print.{headText, bytesText}
+use Rattle.text.specs.Print.{bytesText}
+use Rattle.lines.specs.Print.{headText}
 use Rattle.joblines.specs.Print.{handedText, jobAnswerText}
 use Rattle.joblines.proofs.TextLaws.{job-answer-text}
 use borrow.Author.Needs.{needs}

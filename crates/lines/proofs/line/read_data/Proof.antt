@@ -5,9 +5,9 @@ use mathlib.Core.Bool.{true}
 use native.Mathlib.Omega.{arith}
 use Rattle.common.specs.Pick.{pick}
 use Rattle.lines.specs.Limits.{hostLimit}
-use Rattle.lines.specs.Digits.{isBytes}
+use Rattle.text.specs.Digits.{isBytes}
 use Rattle.lines.specs.Line.{dataLine, callRead, lineRead}
-use Rattle.lines.proofs.DigitLaws.{is-bytes-length, bytes-given}
+use Rattle.text.proofs.DigitLaws.{is-bytes-length, bytes-overwritten}
 use borrow.Author.Needs.{needs}
 use Rattle.lines.proofs.line.read_data.Statement.{statement}
 use Rattle.lines.proofs.line.read_data.Tie as tie
@@ -25,7 +25,13 @@ returns : tie.Need-returns
 unfolding dataLine lineRead callRead pick
 returns c marks =
     let a = c .before .before .before .before .before .args in
-    simp (c .put-bytes-of .ensures, bytes-given (a .s .now) (a .bytes .now), ← c .before .before .before .is-bytes .ensures, c .before .before .if1 .taken)
+    simp (
+      c .put-bytes-of .ensures,
+      bytes-overwritten (a .s .now)
+          (a .bytes .now),
+      ← c .before .before .before .is-bytes .ensures,
+      c .before .before .if1 .taken,
+    )
 
 returns-2 : tie.Need-returns-2
 unfolding dataLine lineRead callRead pick

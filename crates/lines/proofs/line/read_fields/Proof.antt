@@ -4,10 +4,12 @@ use mathlib.Core.Path.{_≡_, sym, _∙_}
 use mathlib.Core.Bool.{true}
 use native.Mathlib.Omega.{arith}
 use Rattle.common.specs.Pick.{pick}
-use Rattle.lines.specs.Limits.{hostLimit, imageLimit, marksLimit, byteLimit, flagLimit}
-use Rattle.lines.specs.Digits.{isByte, isBytes, isDecimal}
+use Rattle.text.specs.Limits.{byteLimit}
+use Rattle.lines.specs.Limits.{hostLimit, imageLimit, marksLimit, flagLimit}
+use Rattle.text.specs.Digits.{isByte, isBytes, isDecimal}
 use Rattle.lines.specs.Line.{fieldsLine, callRead, lineRead}
-use Rattle.lines.proofs.DigitLaws.{and-six, is-bytes-length, bytes-given}
+use Rattle.lines.proofs.LineLaws.{and-six}
+use Rattle.text.proofs.DigitLaws.{is-bytes-length, bytes-overwritten}
 use borrow.Author.Needs.{needs}
 use Rattle.lines.proofs.line.read_fields.Statement.{statement}
 use Rattle.lines.proofs.line.read_fields.Tie as tie
@@ -97,8 +99,8 @@ returns c =
       c .before .before .before .decimal-of .ensures .0,
       c .before .before .before .before .put-bytes-of2 .ensures,
       c .before .before .before .before .before .before .put-bytes-of .ensures,
-      bytes-given (a .image .now) (a .bytes .now),
-      bytes-given (a .errors .now) (a .marks .now),
+      bytes-overwritten (a .image .now) (a .bytes .now),
+      bytes-overwritten (a .errors .now) (a .marks .now),
       h .0,
       h .1,
       h .2,

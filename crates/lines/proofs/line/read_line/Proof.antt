@@ -21,7 +21,9 @@ read-bare-requires c κs = search needs
 
 returns : tie.Need-returns
 unfolding lineOf pick
-returns c = simp (lt-ltb _ _ (c .before .before .before .if1 .taken), eq-eqb _ _ (c .before .before .if2 .taken)) (c .read-bare .ensures _ _)
+returns c =
+    simp (lt-ltb _ _ (c .before .before .before .if1 .taken), eq-eqb _ _ (c .before .before .if2 .taken))
+    (c .read-bare .ensures _ _)
 
 returns-2 : tie.Need-returns-2
 unfolding lineOf lineRead pick
@@ -50,8 +52,10 @@ unfolding lineOf pick
 returns-3 c =
     let second = c .before .before .before .before .before in
     let line = second .before .before .before .before .args .line .now in
-    let all : take (length line - 2) (drop 2 line) ≡ drop 2 line = take-all (length line - 2) (drop 2 line) (simp length-drop (omega arith)) in
-    simp (le-ltb _ _ (second .before .before .if1 .left), eq-eqb _ _ (second .if3 .taken)) (c .read-call .ensures ∙ ap (callLine _) all)
+    let all : take (length line - 2) (drop 2 line)
+    ≡ drop 2 line = take-all (length line - 2) (drop 2 line) (simp length-drop (omega arith)) in
+    simp (le-ltb _ _ (second .before .before .if1 .left), eq-eqb _ _ (second .if3 .taken))
+    (c .read-call .ensures ∙ ap (callLine _) all)
 
 returns-4 : tie.Need-returns-4
 unfolding lineOf lineRead pick

@@ -3,9 +3,10 @@
 use mathlib.Core.Path.{_≡_, sym, _∙_}
 use native.Mathlib.Omega.{arith}
 use Rattle.common.specs.Pick.{pick}
-use Rattle.lines.specs.Line.{fieldOf, afterField, reportLine, plainLine, callRead, lineRead}
+use Rattle.text.specs.Fields.{fieldOf, afterField}
+use Rattle.lines.specs.Line.{reportLine, plainLine, callRead, lineRead}
 use Rattle.common.proofs.PickLaws.{both-hold}
-use Rattle.lines.proofs.FieldLaws.{field-fits, after-is}
+use Rattle.text.proofs.FieldLaws.{field-fits, after-is}
 use borrow.Author.Needs.{needs}
 use Rattle.lines.proofs.line.read_report.Statement.{statement}
 use Rattle.lines.proofs.line.read_report.Tie as tie
@@ -23,13 +24,19 @@ is-byte-requires : tie.Need-is-byte-requires
 is-byte-requires c κs = search needs
 
 decimal-of-requires : tie.Need-decimal-of-requires
-decimal-of-requires c κs = (omega arith, sym (c .before .before .is-decimal .ensures) ∙ both-hold (c .before .before .is-decimal .result) _ (c .if1 .taken) .0)
+decimal-of-requires c κs = (
+  omega arith,
+  sym (c .before .before .is-decimal .ensures)
+      ∙ both-hold (c .before .before .is-decimal .result) _ (c .if1 .taken) .0,
+)
 
 cast-number : tie.Need-cast-number
 cast-number c = search needs
 
 byte-of-requires : tie.Need-byte-of-requires
-byte-of-requires c κs = sym (c .before .before .is-byte .ensures) ∙ both-hold (c .before .before .before .is-decimal .result) _ (c .before .if1 .taken) .1
+byte-of-requires c κs =
+    sym (c .before .before .is-byte .ensures)
+    ∙ both-hold (c .before .before .before .is-decimal .result) _ (c .before .if1 .taken) .1
 
 returns : tie.Need-returns
 unfolding reportLine lineRead callRead plainLine pick

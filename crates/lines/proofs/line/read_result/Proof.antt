@@ -1,7 +1,8 @@
 -- `lines::line::read_result` meets its contract: its fields are cut off one after the other.
 -- Assumes nothing.
 use mathlib.Core.Path.{_∙_}
-use Rattle.lines.proofs.FieldLaws.{field-fits, result-cut}
+use Rattle.text.proofs.FieldLaws.{field-fits}
+use Rattle.lines.proofs.LineLaws.{result-cut}
 use borrow.Author.Needs.{needs}
 use Rattle.lines.proofs.line.read_result.Statement.{statement}
 use Rattle.lines.proofs.line.read_result.Tie as tie
@@ -42,7 +43,8 @@ read-fields-requires c κs = search needs
 returns : tie.Need-returns
 returns c =
     c .read-fields .ensures
-    ∙ result-cut (c .before .before .before .before .before .before .before .before .before .before .before .before .before .before .args .s .now)
+    ∙ result-cut
+    (c .before .before .before .before .before .before .before .before .before .before .before .before .before .before .args .s .now)
     (c .before .before .before .before .before .before .before .before .before .before .before .before .field-of .result .now)
     (c .before .before .before .before .before .before .before .before .before .before .before .after .result .now)
     (c .before .before .before .before .before .before .before .before .before .before .field-of2 .result .now)

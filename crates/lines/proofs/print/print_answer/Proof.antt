@@ -1,7 +1,8 @@
 -- `lines::print::print_answer` meets its contract: one text after the other.
 -- Assumes nothing.
 use native.Mathlib.Omega.{arith}
-use Rattle.lines.specs.Print.{headText, bytesText, answerText}
+use Rattle.text.specs.Print.{bytesText}
+use Rattle.lines.specs.Print.{headText, answerText}
 use Rattle.lines.proofs.TextLaws.{answer-text}
 use borrow.Author.Needs.{needs}
 use Rattle.lines.proofs.print.print_answer.Statement.{statement}

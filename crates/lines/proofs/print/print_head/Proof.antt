@@ -2,7 +2,8 @@
 -- Assumes nothing.
 use mathlib.Core.Path.{_∙_}
 use native.Mathlib.Omega.{arith}
-use Rattle.lines.specs.Print.{refusalText, actionText, headText}
+use Rattle.text.specs.Print.{refusalText}
+use Rattle.lines.specs.Print.{actionText, headText}
 use Rattle.lines.proofs.TextLaws.{head-text}
 use borrow.Author.Needs.{needs}
 use Rattle.lines.proofs.print.print_head.Statement.{statement}

@@ -4,8 +4,9 @@
 use mathlib.Core.Path.{sym, _∙_}
 use native.Mathlib.Omega.{arith}
 use mathlib.Core.List.{append-nil}
-use Rattle.lines.specs.Print.{bytesText, actionBytes}
-use Rattle.lines.proofs.TextLaws.{bytes-text-one}
+use Rattle.text.specs.Print.{bytesText}
+use Rattle.lines.specs.Print.{actionBytes}
+use Rattle.text.proofs.TextLaws.{bytes-text-one}
 use borrow.Author.Needs.{needs}
 use Rattle.lines.proofs.print.put_action.Statement.{statement}
 use Rattle.lines.proofs.print.put_action.Tie as tie
@@ -42,7 +43,8 @@ returns-2 : tie.Need-returns-2
 unfolding actionBytes
 returns-2 c = (
   omega (arith, c .before .before .put-byte .ensures .0),
-  c .before .before .put-byte .ensures .1 ∙ simp (c .before .before .before .before .before .action .given .1, bytes-text-one),
+  c .before .before .put-byte .ensures .1
+      ∙ simp (c .before .before .before .before .before .action .given .1, bytes-text-one),
 )
 
 same-length-2 : tie.Need-same-length-2

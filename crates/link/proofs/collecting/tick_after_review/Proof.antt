@@ -20,17 +20,17 @@ returns c = simp (
   c .before .before .if1 .taken,
 )
 
-keep-collecting-requires : tie.Need-keep-collecting-requires
-keep-collecting-requires c κs = search needs
+keep-phase-requires : tie.Need-keep-phase-requires
+keep-phase-requires c κs = search needs
 
 returns-2 : tie.Need-returns-2
 unfolding tickAfterReview pick
 returns-2 c = simp (
-  c .keep-collecting .ensures,
+  c .keep-phase .ensures,
   c .before .if1 .left,
 )
 
 pub tick-after-review-spec : {M : Type 1} → statement M
 tick-after-review-spec =
     tie.close
-    (tie.spec primary-now-requires send-word-requires returns keep-collecting-requires returns-2)
+    (tie.spec primary-now-requires send-word-requires returns keep-phase-requires returns-2)

@@ -7,7 +7,8 @@ use mathlib.Core.List.{[], _∷_}
 use denote.Enum.Declared.{tagOf}
 use types.Run.{OneOf, miss}
 use Rattle.link.specs.declared.state.Phase.{Phase}
-use Rattle.link.specs.declared.state.Phase.the-variants.{Collecting, AckOffered, Sending, GoOffered, DataAwaited, ResultAwaited, EndOffered}
+use Rattle.link.specs.declared.state.Phase.the-variants.{Collecting, AckOffered, Sending, GoOffered, DataAwaited}
+use Rattle.link.specs.declared.state.Phase.the-variants.{ResultAwaited, EndOffered}
 use Rattle.link.proofs.state.Phase.{the-type}
 use Rattle.link.specs.Damaged.{soundPhase}
 use Rattle.link.proofs.damaged.sound_phase.Statement.{statement}

@@ -40,7 +40,14 @@ returns-6 : tie.Need-returns-6
 unfolding loadWord pick
 returns-6 c =
     let r = c .before .match .rest in
-    simp (ne-eqb _ _ (r .0 .0 .0 .0 .1), ne-eqb _ _ (r .0 .0 .0 .1), ne-eqb _ _ (r .0 .0 .1), ne-eqb _ _ (r .0 .1), ne-eqb _ _ (r .1))
+    simp (
+      ne-eqb _ _ (r .0 .0 .0 .0 .1),
+      ne-eqb _ _ (r .0 .0 .0 .1),
+      ne-eqb _ _ (r .0 .0 .1),
+      ne-eqb _ _
+          (r .0 .1),
+      ne-eqb _ _ (r .1),
+    )
 
 pub load-word-spec : {M : Type 1} → statement M
 load-word-spec =

@@ -1,4 +1,5 @@
--- `operations::after::gap_of` meets its contract: at each return the move and the test that led there say which case holds.
+-- `operations::after::gap_of` meets its contract: at each return the move and the test that led there say which case
+-- holds.
 -- Assumes nothing.
 use borrow.Author.Needs.{needs}
 use Rattle.common.specs.Pick.{pick}

@@ -1,5 +1,5 @@
--- `operations::answers::answer_of` meets its contract: the table's rule is a test of every entry, row by row, which antt computes; and no list
--- has a code above 31.
+-- `operations::answers::answer_of` meets its contract: the table's rule is a test of every entry, row by row, which
+-- antt computes; and no list has a code above 31.
 -- Assumes nothing.
 use mathlib.Core.Path.{_≡_, refl}
 use Prim.Native.Nat.{ℕ, zero, suc, _+_, _-_, _/_, _%_, _≤_, _<_}
@@ -12,9 +12,13 @@ use borrow.Author.Needs.{needs}
 use borrow.Author.Tests.{ne-eqb}
 use Rattle.common.specs.Pick.{pick}
 use Rattle.operations.specs.declared.operation.Operation.{Operation}
-use Rattle.operations.specs.declared.operation.Operation.the-variants.{Read, CheckBytes, SuppliedCount, Write, Erase, Rewind, FastForward, SkipForward, SkipReverse, SearchForward, SearchReverse, WriteMark}
+use Rattle.operations.specs.declared.operation.Operation.the-variants.{Read, CheckBytes, SuppliedCount, Write}
+use Rattle.operations.specs.declared.operation.Operation.the-variants.{Erase, Rewind, FastForward, SkipForward}
+use Rattle.operations.specs.declared.operation.Operation.the-variants.{SkipReverse, SearchForward, SearchReverse}
+use Rattle.operations.specs.declared.operation.Operation.the-variants.{WriteMark}
 use Rattle.operations.specs.Operation.{numberOf}
-use Rattle.operations.specs.Answers.{forwardCodes, reverseCodes, endCodes, suppliedCodes, listedCodes, trailingCodes, clearCodes, isIn, answerOf}
+use Rattle.operations.specs.Answers.{forwardCodes, reverseCodes, endCodes, suppliedCodes, listedCodes}
+use Rattle.operations.specs.Answers.{trailingCodes, clearCodes, isIn, answerOf}
 use Rattle.operations.proofs.Table.{both, both-left, both-right, every, at}
 use Rattle.operations.proofs.answers.answer_of.Statement.{statement}
 use Rattle.operations.proofs.answers.answer_of.Tie as tie
@@ -62,10 +66,13 @@ digit operation code x = eqb x (48 + answerOf operation code)
 ruled : Operation → Bool
 ruled operation =
     both (leb (numberOf operation) 11)
-    (both (allBelow (listedCodes operation)) (both (allBelow (clearCodes operation)) (both (eqb (length (rowFor operation)) 32) (every (digit operation) 0 (rowFor operation)))))
+    (both (allBelow (listedCodes operation))
+    (both (allBelow (clearCodes operation))
+    (both (eqb (length (rowFor operation)) 32) (every (digit operation) 0 (rowFor operation)))))
 
 every-row : (operation : Operation) → T (ruled operation)
-unfolding ruled digit table pick answerOf isIn listedCodes forwardCodes reverseCodes endCodes suppliedCodes trailingCodes clearCodes
+unfolding ruled digit table pick answerOf isIn listedCodes forwardCodes reverseCodes endCodes suppliedCodes
+    trailingCodes clearCodes
 every-row Read = tt
 every-row CheckBytes = tt
 every-row SuppliedCount = tt
@@ -103,7 +110,9 @@ module _ (operation : Operation) where
 
   clear-below : T (allBelow (clearCodes operation))
   unfolding ruled
-  clear-below = both-left (allBelow (clearCodes operation)) digits (both-right (allBelow (listedCodes operation)) _ (both-right below _ (every-row operation)))
+  clear-below =
+      both-left (allBelow (clearCodes operation)) digits
+      (both-right (allBelow (listedCodes operation)) _ (both-right below _ (every-row operation)))
 
   -- what stands in its row at a code
   module _ (n code : ℕ) (e : n ≡ numberOf operation) (h : code ≤ 31) where
@@ -111,9 +120,12 @@ module _ (operation : Operation) where
     unfolding ruled digit
     entry =
         let this = rowFor operation in
-        let here = both-right (allBelow (clearCodes operation)) digits (both-right (allBelow (listedCodes operation)) _ (both-right below _ (every-row operation))) in
-        let long : length this ≡ 32 = eqb→eq (length this) 32 (both-left (eqb (length this) 32) (every (digit operation) 0 this) here) in
-        let there = at (digit operation) 0 this (both-right (eqb (length this) 32) (every (digit operation) 0 this) here) code (omega arith) in
+        let here = both-right (allBelow (clearCodes operation)) digits
+        (both-right (allBelow (listedCodes operation)) _ (both-right below _ (every-row operation))) in
+        let long : length this
+        ≡ 32 = eqb→eq (length this) 32 (both-left (eqb (length this) 32) (every (digit operation) 0 this) here) in
+        let there = at (digit operation) 0 this
+        (both-right (eqb (length this) 32) (every (digit operation) 0 this) here) code (omega arith) in
         rw e (eqb→eq (getD this code 0) (48 + answerOf operation code) there)
 
     is-digit : 48 ≤ getD (getD table n []) code 0
@@ -149,13 +161,15 @@ sub-result : tie.Need-sub-result
 unfolding table
 sub-result c =
     let given = c .before .before .before .args in
-    is-digit (given .operation) (c .before .number-of .result) (given .code) (c .before .number-of .ensures) (c .before .before .if1 .left)
+    is-digit (given .operation) (c .before .number-of .result) (given .code) (c .before .number-of .ensures)
+    (c .before .before .if1 .left)
 
 returns-2 : tie.Need-returns-2
 unfolding table
 returns-2 c =
     let given = c .before .before .before .args in
-    value (given .operation) (c .before .number-of .result) (given .code) (c .before .number-of .ensures) (c .before .before .if1 .left)
+    value (given .operation) (c .before .number-of .result) (given .code) (c .before .number-of .ensures)
+    (c .before .before .if1 .left)
 
 pub answer-of-spec : {M : Type 1} → statement M
 answer-of-spec =

@@ -1,4 +1,5 @@
--- `operations::decode::control_of` meets its contract: at each return the arm that led there says how every test of the definition ends.
+-- `operations::decode::control_of` meets its contract: at each return the arm that led there says how every test of the
+-- definition ends.
 -- Assumes nothing.
 use native.Mathlib.Nat.{le-of-suc-le-suc}
 use borrow.Author.Tests.{le-leb, lt-leb, ne-eqb}

@@ -8,14 +8,16 @@ use denote.Enum.Declared.{tagOf}
 use types.Run.{OneOf, miss}
 use Rattle.common.specs.Pick.{pick}
 use Rattle.operations.specs.declared.decode.Decoded.{Decoded}
-use Rattle.operations.specs.declared.decode.Decoded.the-variants.{Reset, Code, Track, Enable, Guard, Density, Operate}
+use Rattle.operations.specs.declared.decode.Decoded.the-variants.{Reset, Code, Track, Enable, Guard, Density}
+use Rattle.operations.specs.declared.decode.Decoded.the-variants.{Operate}
 use Rattle.operations.proofs.decode.Decoded.{the-type}
 use Rattle.operations.specs.Decode.{inDensity}
 use Rattle.operations.proofs.decode.in_density.Statement.{statement}
 use Rattle.operations.proofs.decode.in_density.Tie as tie
 
 -- what is no operation
-others : (density : ℕ) (asked : Decoded) → OneOf (0 ∷ 1 ∷ 2 ∷ 3 ∷ 4 ∷ 5 ∷ []) (tagOf the-type asked) → asked ≡ inDensity density asked
+others : (density : ℕ) (asked : Decoded) → OneOf (0 ∷ 1 ∷ 2 ∷ 3 ∷ 4 ∷ 5 ∷ []) (tagOf the-type asked)
+    → asked ≡ inDensity density asked
 unfolding inDensity
 others density (Operate operation) key = absurd (miss (0 ∷ 1 ∷ 2 ∷ 3 ∷ 4 ∷ 5 ∷ []) 6 tt key)
 others density Reset key = refl

@@ -1,4 +1,5 @@
--- `operations::decode::read_of` meets its contract: at each return the arm that led there says how every test of the definition ends.
+-- `operations::decode::read_of` meets its contract: at each return the arm that led there says how every test of the
+-- definition ends.
 -- Assumes nothing.
 use borrow.Author.Tests.{ne-eqb}
 use Rattle.common.specs.Pick.{pick}

@@ -6,14 +6,15 @@ use mathlib.Core.Bool.{true}
 use mathlib.Core.List.{[], _∷_}
 use denote.Enum.Declared.{tagOf}
 use types.Run.{OneOf, miss}
-use Rattle.operations.specs.declared.operation.Move.{Move}
-use Rattle.operations.specs.declared.operation.Move.the-variants.{Still, Forward, Reverse, Rewinding, Winding, Writing, Erasing}
-use Rattle.operations.proofs.operation.Move.{the-type}
+use Rattle.operations.specs.declared.operation.Motion.{Motion}
+use Rattle.operations.specs.declared.operation.Motion.the-variants.{Still, Forward, Reverse, Rewinding, Winding}
+use Rattle.operations.specs.declared.operation.Motion.the-variants.{Writing, Erasing}
+use Rattle.operations.proofs.operation.Motion.{the-type}
 use Rattle.operations.specs.Operation.{movesTape}
 use Rattle.operations.proofs.operation.moves_tape.Statement.{statement}
 use Rattle.operations.proofs.operation.moves_tape.Tie as tie
 
-unless-still : (move : Move) → OneOf (1 ∷ 2 ∷ 3 ∷ 4 ∷ 5 ∷ 6 ∷ []) (tagOf the-type move) → true ≡ movesTape move
+unless-still : (move : Motion) → OneOf (1 ∷ 2 ∷ 3 ∷ 4 ∷ 5 ∷ 6 ∷ []) (tagOf the-type move) → true ≡ movesTape move
 unfolding movesTape
 unless-still Still e = absurd (miss (1 ∷ 2 ∷ 3 ∷ 4 ∷ 5 ∷ 6 ∷ []) 0 tt e)
 unless-still Forward e = refl

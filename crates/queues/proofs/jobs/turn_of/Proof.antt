@@ -79,4 +79,6 @@ returns-5 c =
     )
 
 pub turn-of-spec : {M : Type 1} → statement M
-turn-of-spec = tie.close (tie.spec add-first add-second add-third waits-requires returns waits-requires-2 returns-2 waits-requires-3 returns-3 waits-requires-4 returns-4 returns-5)
+turn-of-spec =
+    tie.close
+    (tie.spec add-first add-second add-third waits-requires returns waits-requires-2 returns-2 waits-requires-3 returns-3 waits-requires-4 returns-4 returns-5)

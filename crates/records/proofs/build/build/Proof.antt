@@ -7,7 +7,7 @@ use Prim.Native.Nat.{ℕ, _≤_}
 use mathlib.Core.List.{List, _++_}
 use lib.ListN.{length, take, drop, length-take}
 use borrow.Author.Tests.{ltb-false}
-use Rattle.common.specs.Given.{given, filled}
+use Rattle.common.specs.Space.{overwrite, filled}
 use Rattle.common.proofs.PickLaws.{not-refused, where-refused, where-done}
 use Rattle.records.specs.Count.{limit}
 use Rattle.records.specs.Image.{imageLength, imageOf}
@@ -18,7 +18,8 @@ use Rattle.records.proofs.build.build.Statement.{statement}
 use Rattle.records.proofs.build.build.Tie as tie
 
 -- what is known where the call is not refused
-fits : (c density place space : ℕ) → buildRefusal c density place space ≡ 0 → (c ≤ limit) × (imageLength c density ≤ space)
+fits : (c density place space : ℕ) → buildRefusal c density place space ≡ 0
+    → (c ≤ limit) × (imageLength c density ≤ space)
 unfolding buildRefusal
 fits c density place space e =
     let l = not-refused _ _ _ (λ r. omega arith) e in
@@ -30,7 +31,8 @@ accepted : (c : tie.Else1) → let a = c .before .before .before .before .args i
 accepted c = fits _ _ _ _ (sym (c .before .build-refusal .ensures) ∙ c .if1 .left)
 
 -- the image fits
-room : (i : tie.After-image-length) → i .image-length .result ≤ length (i .before .before .before .before .before .args .image .now)
+room : (i : tie.After-image-length)
+    → i .image-length .result ≤ length (i .before .before .before .before .before .args .image .now)
 room i = rw (i .image-length .ensures) (accepted (i .before) .1)
 
 build-refusal-requires : tie.Need-build-refusal-requires
@@ -69,7 +71,7 @@ same-length : tie.Need-same-length
 same-length c = search needs
 
 returns-2 : tie.Need-returns-2
-unfolding buildInto given
+unfolding buildInto overwrite
 returns-2 c =
     let p = c .before .before in
     let a = p .before .before .before in
@@ -80,8 +82,10 @@ returns-2 c =
     let place = e .place in
     let density = e .density in
     let none = sym (t .if1 .left) ∙ t .before .build-refusal .ensures in
-    let is-written = ap (λ (k : ℕ). filled (take k bytes) (length bytes)) (a .as-came .ensures .0) ∙ built-part bytes place in
-    let long = image-length (builtBytes bytes place) density ∙ ap (λ (k : ℕ). imageLength k density) (written-length bytes place 0 (length bytes)) in (
+    let is-written = ap (λ (k : ℕ). filled (take k bytes) (length bytes)) (a .as-came .ensures .0)
+    ∙ built-part bytes place in
+    let long = image-length (builtBytes bytes place) density
+    ∙ ap (λ (k : ℕ). imageLength k density) (written-length bytes place 0 (length bytes)) in (
       none,
       ap₂ (λ (x : List ℕ) (k : ℕ). x ++ drop k (e .image .now))
           (p .put-image .ensures ∙ ap (λ (x : List ℕ). imageOf x density) is-written)

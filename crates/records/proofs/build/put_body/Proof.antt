@@ -6,10 +6,11 @@ use Prim.Native.Nat.{ℕ, _+_, _*_, _≤_}
 use mathlib.Core.Bool.{true, false}
 use lib.ListN.{length}
 use native.Mathlib.Omega.{arith}
-use Rattle.common.specs.Given.{filled}
-use Rattle.common.proofs.GivenLaws.{filled-length}
+use Rattle.common.specs.Space.{filled}
+use Rattle.common.proofs.SpaceLaws.{filled-length}
 use Rattle.records.specs.Image.{blocketteCount, hasBlockettes, blockettesOf, imageLength}
-use Rattle.records.proofs.ImageLaws.{blockettes-hold, blockettes-few, blockettes-filled, length-gcr, length-plain, body-gcr, body-plain}
+use Rattle.records.proofs.ImageLaws.{blockettes-hold, blockettes-few, blockettes-filled, length-gcr}
+use Rattle.records.proofs.ImageLaws.{length-plain, body-gcr, body-plain}
 use Rattle.records.proofs.build.put_body.Statement.{statement}
 use Rattle.records.proofs.build.put_body.Tie as tie
 
@@ -34,8 +35,8 @@ put-blockettes-requires c κs =
     let whole : imageLength count density ≡ 2 + 256 * (blocketteCount count + 2) = length-gcr count density gcr in
     (omega arith, (omega arith, omega arith))
 
-put-filled-requires : tie.Need-put-filled-requires
-put-filled-requires c κs =
+put-bytes-requires : tie.Need-put-bytes-requires
+put-bytes-requires c κs =
     let i = c .before in
     let e = i .before .before .before .before in
     let count = e .args .count in
@@ -80,7 +81,8 @@ returns-2 c =
     let plain : hasBlockettes count density ≡ false = sym (i .before .has-blockettes .ensures) ∙ i .if1 .left in
     let whole : imageLength count density ≡ 2 + count = length-plain count density plain in
     let room : length (e .args .space .now) ≡ count = omega arith in
-    g .put-filled .ensures ∙ ap (λ (k : ℕ). filled bytes k) room ∙ sym (body-plain (filled bytes count) density (simp all plain))
+    g .put-bytes .ensures ∙ ap (λ (k : ℕ). filled bytes k) room
+    ∙ sym (body-plain (filled bytes count) density (simp all plain))
 
 pub put-body-spec : {M : Type 1} → statement M
 put-body-spec =
@@ -89,7 +91,7 @@ put-body-spec =
     has-blockettes-requires
     blockette-count-requires
     put-blockettes-requires
-    put-filled-requires
+    put-bytes-requires
     same-length
     returns
     same-length-2

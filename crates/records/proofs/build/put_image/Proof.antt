@@ -6,7 +6,7 @@ use Prim.Native.Nat.{ℕ, _≤_}
 use mathlib.Core.List.{List, _++_}
 use lib.ListN.{length, length-take}
 use native.Mathlib.Omega.{arith}
-use Rattle.common.proofs.GivenLaws.{filled-length}
+use Rattle.common.proofs.SpaceLaws.{filled-length}
 use Rattle.common.proofs.Parts.{two-parts, second-length}
 use Rattle.records.specs.Count.{countBytes}
 use Rattle.records.specs.Image.{imageOf, imageLength}
@@ -62,7 +62,8 @@ returns c =
     let front = p .put-count-bytes .last .1 .0 in
     let two : length front ≡ 2 = ap (λ (x : List ℕ). length x) (p .put-count-bytes .ensures) in
     two-parts (e .args .image .now) front (b .put-body .last .1 .1 .1 .0) 2 two
-    ∙ ap₂ _++_ (p .put-count-bytes .ensures ∙ sym (ap countBytes (filled-length bytes (e .args .count) (e .pre .0)))) (b .put-body .ensures)
+    ∙ ap₂ _++_ (p .put-count-bytes .ensures ∙ sym (ap countBytes (filled-length bytes (e .args .count) (e .pre .0))))
+    (b .put-body .ensures)
 
 pub put-image-spec : {M : Type 1} → statement M
 put-image-spec =

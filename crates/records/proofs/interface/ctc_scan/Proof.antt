@@ -7,7 +7,7 @@ use Rattle.records.specs.Interface.{scanRefusal, scanInto}
 use mathlib.Core.Path.{ap, _∙_}
 use mathlib.Core.List.{List}
 use Prim.Native.Nat.{ℕ}
-use Rattle.common.specs.Given.{given}
+use Rattle.common.specs.Space.{overwrite}
 use Rattle.records.proofs.interface.ctc_scan.Statement.{statement}
 use Rattle.records.proofs.interface.ctc_scan.Tie as tie
 
@@ -18,11 +18,11 @@ returns c = (simp (lt-ltb _ _ (c .if1 .taken)), simp (lt-ltb _ _ (c .if1 .taken)
 scan-report-requires : tie.Need-scan-report-requires
 scan-report-requires c κs = search needs
 
-slice-aggregate-give : tie.Need-slice-aggregate-give
-slice-aggregate-give c = search needs
+slice-aggregate-overwrite : tie.Need-slice-aggregate-overwrite
+slice-aggregate-overwrite c = search needs
 
-give-requires : tie.Need-give-requires
-give-requires c κs = search needs
+overwrite-requires : tie.Need-overwrite-requires
+overwrite-requires c κs = search needs
 
 same-length : tie.Need-same-length
 same-length c = search needs
@@ -33,8 +33,11 @@ returns-2 c =
     let g = c .before .before in
     let r = g .before .before .before in
     let i = r .before in
-    let space = i .before .before .before .args .report .now in
-    (simp (le-ltb _ _ (i .if1 .left)), simp (le-ltb _ _ (i .if1 .left)) (g .give .ensures ∙ ap (λ (x : List ℕ). given x space) (r .scan-report .ensures)))
+    let space = i .before .before .before .args .report .now in (
+      simp (le-ltb _ _ (i .if1 .left)),
+      simp (le-ltb _ _ (i .if1 .left))
+          (g .overwrite .ensures ∙ ap (λ (x : List ℕ). overwrite x space) (r .scan-report .ensures)),
+    )
 
 pub ctc-scan-spec : {M : Type 1} → statement M
 ctc-scan-spec =
@@ -42,7 +45,7 @@ ctc-scan-spec =
     (tie.spec
     returns
     scan-report-requires
-    slice-aggregate-give
-    give-requires
+    slice-aggregate-overwrite
+    overwrite-requires
     same-length
     returns-2)

@@ -6,7 +6,7 @@ use Prim.Native.Nat.{ℕ, _+_, _*_, _≤_}
 use mathlib.Core.List.{List, _++_}
 use lib.ListN.{length, take, drop, length-take}
 use native.Mathlib.Omega.{arith}
-use Rattle.common.specs.Given.{given}
+use Rattle.common.specs.Space.{overwrite}
 use Rattle.common.proofs.PickLaws.{where-refused, where-done}
 use Rattle.passes.specs.Passes.{mergedMarks}
 use Rattle.records.specs.Merge.{Pass, passOf, mergeRefusal, mergedImage, mergeImageInto, mergeMarksInto}
@@ -14,22 +14,30 @@ use Rattle.records.proofs.MergeLaws.{IsMergeable, mergeable, pass-long,
 use Rattle.records.proofs.merge.merge.Statement.{statement}
 use Rattle.records.proofs.merge.merge.Tie as tie
 
-module _ (first second : Pass) (image marks : List ℕ) (r : ℕ) (is-refusal : r ≡ mergeRefusal first second (length image) (length marks)) where
+module _ (first second : Pass) (image marks : List ℕ) (r : ℕ)
+    (is-refusal : r ≡ mergeRefusal first second (length image) (length marks)) where
   -- both spaces where the call is refused
-  kept : (r ≡ 0 → ⊥) → (image ≡ mergeImageInto first second image (length marks)) × (marks ≡ mergeMarksInto first second (length image) marks)
+  kept : (r ≡ 0 → ⊥)
+      → (image ≡ mergeImageInto first second image (length marks))
+      × (marks ≡ mergeMarksInto first second (length image) marks)
   unfolding mergeImageInto mergeMarksInto
-  kept some = (sym (where-refused _ _ _ (λ z. some (is-refusal ∙ z))), sym (where-refused _ _ _ (λ z. some (is-refusal ∙ z))))
+  kept some =
+      (sym (where-refused _ _ _ (λ z. some (is-refusal ∙ z))), sym (where-refused _ _ _ (λ z. some (is-refusal ∙ z))))
 
   -- where it is carried out
-  given-image : (last : List ℕ) (count : ℕ) → r ≡ 0 → last ≡ mergedImage first second → length last ≡ count → last ++ drop count image ≡ mergeImageInto first second image (length marks)
-  unfolding mergeImageInto given
+  given-image : (last : List ℕ) (count : ℕ) → r ≡ 0 → last ≡ mergedImage first second → length last ≡ count
+      → last ++ drop count image ≡ mergeImageInto first second image (length marks)
+  unfolding mergeImageInto overwrite
   given-image last count none e so-many =
-      ap₂ (λ (x : List ℕ) (k : ℕ). x ++ drop k image) e (sym so-many ∙ ap (λ (x : List ℕ). length x) e) ∙ sym (where-done _ _ _ (sym is-refusal ∙ none))
+      ap₂ (λ (x : List ℕ) (k : ℕ). x ++ drop k image) e (sym so-many ∙ ap (λ (x : List ℕ). length x) e)
+      ∙ sym (where-done _ _ _ (sym is-refusal ∙ none))
 
-  given-marks : (last : List ℕ) (count : ℕ) → r ≡ 0 → last ≡ mergedMarks (first .marks) (second .marks) → length last ≡ count → last ++ drop count marks ≡ mergeMarksInto first second (length image) marks
-  unfolding mergeMarksInto given
+  given-marks : (last : List ℕ) (count : ℕ) → r ≡ 0 → last ≡ mergedMarks (first .marks) (second .marks)
+      → length last ≡ count → last ++ drop count marks ≡ mergeMarksInto first second (length image) marks
+  unfolding mergeMarksInto overwrite
   given-marks last count none e so-many =
-      ap₂ (λ (x : List ℕ) (k : ℕ). x ++ drop k marks) e (sym so-many ∙ ap (λ (x : List ℕ). length x) e) ∙ sym (where-done _ _ _ (sym is-refusal ∙ none))
+      ap₂ (λ (x : List ℕ) (k : ℕ). x ++ drop k marks) e (sym so-many ∙ ap (λ (x : List ℕ). length x) e)
+      ∙ sym (where-done _ _ _ (sym is-refusal ∙ none))
 
 -- how long the front of a space is
 front-length : (space : List ℕ) {n : ℕ} → n ≤ length space → n ≡ length (take n space)
@@ -37,7 +45,8 @@ front-length space fits = simp length-take (omega (arith, fits))
 
 -- what is known where the call is not refused
 accepted : (c : tie.Else1) → let e = c .before .before .before .before .before .before .before .before in
-    IsMergeable (passOf (e .args .first .now) (e .args .first-marks .now)) (passOf (e .args .second .now) (e .args .second-marks .now))
+    IsMergeable (passOf (e .args .first .now) (e .args .first-marks .now))
+    (passOf (e .args .second .now) (e .args .second-marks .now))
     (length (e .args .image .now)) (length (e .args .marks .now))
 accepted c = mergeable _ _ _ _ (sym (c .before .merge-refusal .ensures) ∙ c .if1 .left)
 
@@ -46,8 +55,11 @@ merge-refusal-requires c κs = search needs
 
 returns : tie.Need-returns
 returns c =
-    let e = c .before .before .before .before .before .before .before .before in
-    (c .before .merge-refusal .ensures, kept _ _ (e .args .image .now) (e .args .marks .now) _ (c .before .merge-refusal .ensures) (c .if1 .taken))
+    let e = c .before .before .before .before .before .before .before .before in (
+      c .before .merge-refusal .ensures,
+      kept _ _ (e .args .image .now) (e .args .marks .now) _
+          (c .before .merge-refusal .ensures) (c .if1 .taken),
+    )
 
 slice-relend-prefix-put-merged-image : tie.Need-slice-relend-prefix-put-merged-image
 slice-relend-prefix-put-merged-image c = accepted c .image-fits
@@ -72,7 +84,14 @@ put-merged-image-requires c κs =
       pass-long one (a .first-whole),
       (
         pass-long other (a .second-whole) ∙ ap (λ (n : ℕ). 2 + 256 * n) alike ∙ sym (pass-long one (a .first-whole)),
-        (alike, (sym (front-length (e .args .image .now) (a .image-fits)), sym (front-length (e .args .marks .now) (a .marks-fit)))),
+        (
+          alike,
+          (
+            sym (front-length (e .args .image .now) (a .image-fits)),
+            sym
+                (front-length (e .args .marks .now) (a .marks-fit)),
+          ),
+        ),
       ),
     )
 

@@ -39,13 +39,16 @@ sub-clashes-2 : tie.Need-sub-clashes-2
 sub-clashes-2 c = let e = c .before .before .before .before .before .before .before .before in pass-two _ (e .pre .1)
 
 part-clashes-start-2 : tie.Need-part-clashes-start-2
-part-clashes-start-2 c = let e = c .before .before .before .before .before .before .before .before in pass-two _ (e .pre .1)
+part-clashes-start-2 c =
+    let e = c .before .before .before .before .before .before .before .before in pass-two _ (e .pre .1)
 
 part-clashes-end-2 : tie.Need-part-clashes-end-2
 part-clashes-end-2 c = search needs
 
 -- where the counts are the same
-same-count : (c : tie.Else1) → let a = c .before .before .before .before .before .before .before .args in countOf (a .first .now) ≡ countOf (a .second .now)
+same-count : (c : tie.Else1)
+    → let a = c .before .before .before .before .before .before .before .args in countOf (a .first .now)
+    ≡ countOf (a .second .now)
 same-count c = sym (c .before .before .count-of .ensures) ∙ c .if1 .left ∙ c .before .count-of2 .ensures
 
 clashes-requires : tie.Need-clashes-requires
@@ -59,15 +62,19 @@ clashes-requires c κs =
       alike,
       (
         ap (λ (l : List ℕ). length l) (to-end (a .first .now)) ∙ body-long first (e .pre .0),
-        ap (λ (l : List ℕ). length l) (to-end (a .second .now)) ∙ body-long second (e .pre .1) ∙ ap (λ (n : ℕ). 256 * n) alike,
+        ap (λ (l : List ℕ). length l) (to-end (a .second .now)) ∙ body-long second (e .pre .1)
+            ∙ ap (λ (n : ℕ). 256 * n) alike,
       ),
     )
 
 -- what is asked of the two
-asked : (c : tie.After-clashes) → let a = c .before .before .before .before .before .before .before .before .before .before .args in c .clashes .result ≡ clashes (drop 2 (a .first .now)) (a .first-marks .now) (drop 2 (a .second .now)) (a .second-marks .now)
+asked : (c : tie.After-clashes)
+    → let a = c .before .before .before .before .before .before .before .before .before .before .args in c .clashes .result ≡ clashes (drop 2 (a .first .now)) (a .first-marks .now) (drop 2 (a .second .now)) (a .second-marks .now)
 asked c =
     let a = c .before .before .before .before .before .before .before .before .before .before .args in
-    c .clashes .ensures ∙ ap₂ (λ (x y : List ℕ). clashes x (a .first-marks .now) y (a .second-marks .now)) (to-end (a .first .now)) (to-end (a .second .now))
+    c .clashes .ensures
+    ∙ ap₂ (λ (x y : List ℕ). clashes x (a .first-marks .now) y (a .second-marks .now)) (to-end (a .first .now))
+    (to-end (a .second .now))
 
 returns-2 : tie.Need-returns-2
 unfolding pairRefusal pick

@@ -20,11 +20,11 @@ use Rattle.records.proofs.restore.mend_at.Tie as tie
 mul-start : tie.Need-mul-start
 mul-start c = search needs
 
-add-least : tie.Need-add-least
-add-least c = search needs
+add-min : tie.Need-add-min
+add-min c = search needs
 
-least-requires : tie.Need-least-requires
-least-requires c κs = search needs
+min-requires : tie.Need-min-requires
+min-requires c κs = search needs
 
 sub-put-others : tie.Need-sub-put-others
 unfolding blocketteCount
@@ -56,12 +56,13 @@ returns c =
     let bytes = e .args .bytes .now in
     let place = e .args .place in
     let start = 256 * place in
-    let end = l .least .result in
+    let end = l .min .result in
     let new = othersOf (e .args .blockettes .now) (e .args .n + 2) place in
     let so-many : length new ≡ 256 = others-length (e .args .blockettes .now) (e .args .n + 2) place in
-    let is-end : end ≡ min (length bytes) (start + length new) = omega (arith, l .least .ensures) in
+    let is-end : end ≡ min (length bytes) (start + length new) = omega (arith, l .min .ensures) in
     let room : start ≤ length bytes = omega arith in
-    let part : length (take (end - start) (drop start bytes)) ≡ end - start = simp (length-take, length-drop) (omega arith) in
+    let part : length (take (end - start) (drop start bytes))
+    ≡ end - start = simp (length-take, length-drop) (omega arith) in
     simp (lt-ltb _ _ (i .if1 .taken))
     (ap (λ (x : List ℕ). putMid start (end - start) bytes x) (r .put-others .ensures ∙ ap (λ (k : ℕ). take k new) part)
     ∙ part-written bytes new start end is-end room)
@@ -75,8 +76,8 @@ mend-at-spec =
     tie.close
     (tie.spec
     mul-start
-    add-least
-    least-requires
+    add-min
+    min-requires
     sub-put-others
     part-put-others-start
     part-put-others-end

@@ -8,7 +8,7 @@ use lib.ListN.{length, take, drop, length-take, length-drop}
 use lib.Seq.{take-all}
 use native.Mathlib.Omega.{arith}
 use Rattle.marks.specs.declared.Scan.{Scan}
-use Rattle.common.specs.Given.{given}
+use Rattle.common.specs.Space.{overwrite}
 use Rattle.common.proofs.PickLaws.{where-refused, where-done}
 use Rattle.records.specs.Count.{countOf}
 use Rattle.records.specs.Image.{blocketteCount}
@@ -20,31 +20,38 @@ use Rattle.records.proofs.restore.restore.Statement.{statement}
 use Rattle.records.proofs.restore.restore.Tie as tie
 
 -- equal blockettes, numbers of them, errors and counts are restored alike
-alike : (last b b′ : List ℕ) (n n′ : ℕ) (s s′ : Scan) (k k′ : ℕ) → last ≡ restoredOf b n (s .odd) (s .even) k → b ≡ b′ → n ≡ n′ → s ≡ s′ → k ≡ k′
+alike : (last b b′ : List ℕ) (n n′ : ℕ) (s s′ : Scan) (k k′ : ℕ) → last ≡ restoredOf b n (s .odd) (s .even) k → b ≡ b′
+    → n ≡ n′ → s ≡ s′ → k ≡ k′
     → last ≡ restoredOf b′ n′ (s′ .odd) (s′ .even) k′
 alike last b b′ n n′ s s′ k k′ e p q r t = cc
 
 -- the space where the call is refused, and where it is carried out
-kept : (image marks space : List ℕ) (r : ℕ) → r ≡ restoreRefusal image marks (length space) → (r ≡ 0 → ⊥) → space ≡ restoreInto image marks space
+kept : (image marks space : List ℕ) (r : ℕ) → r ≡ restoreRefusal image marks (length space) → (r ≡ 0 → ⊥)
+    → space ≡ restoreInto image marks space
 unfolding restoreInto
 kept image marks space r e some = sym (where-refused _ _ _ (λ z. some (e ∙ z)))
 
-restored : (image marks space last : List ℕ) (count : ℕ) → restoreRefusal image marks (length space) ≡ 0 → last ≡ restoredBytes image marks
+restored : (image marks space last : List ℕ) (count : ℕ) → restoreRefusal image marks (length space) ≡ 0
+    → last ≡ restoredBytes image marks
     → length last ≡ count → last ++ drop count space ≡ restoreInto image marks space
-unfolding restoreInto given
+unfolding restoreInto overwrite
 restored image marks space last count none e so-many =
-    ap₂ (λ (x : List ℕ) (k : ℕ). x ++ drop k space) e (sym so-many ∙ ap (λ (x : List ℕ). length x) e) ∙ sym (where-done _ _ _ none)
+    ap₂ (λ (x : List ℕ) (k : ℕ). x ++ drop k space) e (sym so-many ∙ ap (λ (x : List ℕ). length x) e)
+    ∙ sym (where-done _ _ _ none)
 
 -- what is known where the call is not refused
 accepted : (c : tie.Else1) → let e = c .before .before .before .before .before .before in
-    IsWhole (e .args .image .now) (e .args .marks .now) 1 × (countOf (e .args .image .now) ≤ length (e .args .space .now))
+    IsWhole (e .args .image .now) (e .args .marks .now) 1
+    × (countOf (e .args .image .now) ≤ length (e .args .space .now))
 accepted c =
     let w = c .before in
     let e = w .before .before .before .before .before in
-    restorable (e .args .image .now) (e .args .marks .now) (length (e .args .space .now)) (sym (w .restore-refusal .ensures) ∙ c .if1 .left)
+    restorable (e .args .image .now) (e .args .marks .now) (length (e .args .space .now))
+    (sym (w .restore-refusal .ensures) ∙ c .if1 .left)
 
 -- the bytes fit
-room : (n : tie.After-count-of) → n .count-of .result ≤ length (n .before .before .before .before .before .before .before .args .space .now)
+room : (n : tie.After-count-of)
+    → n .count-of .result ≤ length (n .before .before .before .before .before .before .before .args .space .now)
 room n = rw (n .count-of .ensures) (accepted (n .before) .1)
 
 scan-marks-requires : tie.Need-scan-marks-requires
@@ -56,8 +63,11 @@ restore-refusal-requires c κs = ap (λ (s : Scan). s .stop) (c .scan-marks .ens
 returns : tie.Need-returns
 returns c =
     let w = c .before in
-    let e = w .before .before .before .before .before in
-    (w .restore-refusal .ensures, kept (e .args .image .now) (e .args .marks .now) (e .args .space .now) _ (w .restore-refusal .ensures) (c .if1 .taken))
+    let e = w .before .before .before .before .before in (
+      w .restore-refusal .ensures,
+      kept (e .args .image .now) (e .args .marks .now) (e .args .space .now) _
+          (w .restore-refusal .ensures) (c .if1 .taken),
+    )
 
 count-of-requires : tie.Need-count-of-requires
 count-of-requires c κs = accepted c .0 .two
@@ -118,9 +128,11 @@ returns-2 c =
     let space = e .args .space .now in
     let count = n .count-of .result in
     let all : length (take count space) ≡ count = simp length-take (omega (arith, room n)) in
-    let part : take (length image - 2) (drop 2 image) ≡ drop 2 image = take-all (length image - 2) (drop 2 image) (le-of-eq (length-drop 2 image)) in
+    let part : take (length image - 2) (drop 2 image)
+    ≡ drop 2 image = take-all (length image - 2) (drop 2 image) (le-of-eq (length-drop 2 image)) in
     let is-last : p .put-restored .last .1 .1 .1 .1 .0 ≡ restoredBytes image marks =
-    alike _ _ _ _ _ _ _ _ _ (p .put-restored .ensures) part (b .blockette-count .ensures ∙ ap blocketteCount (n .count-of .ensures))
+    alike _ _ _ _ _ _ _ _ _ (p .put-restored .ensures) part
+    (b .blockette-count .ensures ∙ ap blocketteCount (n .count-of .ensures))
     (s .scan-marks .ensures) (all ∙ n .count-of .ensures)
     in
     let none : 0 ≡ restoreRefusal image marks (length space) = sym (i .if1 .left) ∙ w .restore-refusal .ensures in

@@ -27,7 +27,13 @@ unfolding restoreRefusal pick
 returns-2 c =
     let n = c .before in
     let i = n .before in
-    simp (← i .before .whole-refusal .ensures, eq-eqb _ _ (i .if1 .left), ← n .count-of .ensures, lt-ltb _ _ (c .if2 .taken))
+    simp (
+      ← i .before .whole-refusal .ensures,
+      eq-eqb _ _ (i .if1 .left),
+      ← n .count-of .ensures,
+      lt-ltb _ _
+          (c .if2 .taken),
+    )
 
 returns-3 : tie.Need-returns-3
 unfolding restoreRefusal pick

@@ -19,7 +19,8 @@ layout-refusal-requires c κs = search needs
 
 returns-2 : tie.Need-returns-2
 unfolding wholeRefusal pick
-returns-2 c = simp (c .layout-refusal .ensures, le-ltb _ _ (c .before .before .if1 .left), ← c .before .count-of .ensures)
+returns-2 c =
+    simp (c .layout-refusal .ensures, le-ltb _ _ (c .before .before .if1 .left), ← c .before .count-of .ensures)
 
 pub whole-refusal-spec : {M : Type 1} → statement M
 whole-refusal-spec = tie.close (tie.spec returns count-of-requires layout-refusal-requires returns-2)

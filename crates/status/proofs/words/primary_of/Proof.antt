@@ -16,7 +16,8 @@ primary-third-requires c κs = search needs
 
 returns : tie.Need-returns
 unfolding primaryOf
-returns c = simp (c .primary-third .ensures, c .before .primary-second .ensures, c .before .before .primary-first .ensures)
+returns c =
+    simp (c .primary-third .ensures, c .before .primary-second .ensures, c .before .before .primary-first .ensures)
 
 pub primary-of-spec : {M : Type 1} → statement M
 primary-of-spec =

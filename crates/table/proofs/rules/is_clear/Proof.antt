@@ -31,7 +31,8 @@ unfolding clearCodes trailingCodes
 returns c =
     let said = c .is-in .ensures in
     let a = c .before .before .before .args in
-    among (λ (o : Operation). c .is-in .result ≡ isClear o (a .code)) (0 ∷ 9 ∷ []) (a .operation) (c .before .before .match .keys1) (said, (said, tt))
+    among (λ (o : Operation). c .is-in .result ≡ isClear o (a .code)) (0 ∷ 9 ∷ []) (a .operation)
+    (c .before .before .match .keys1) (said, (said, tt))
 
 returns-2 : tie.Need-returns-2
 unfolding clearCodes trailingCodes

@@ -29,7 +29,12 @@ unfolding isIn
 returns c =
     let l = c .before .before .before .loop in
     let a = c .before .before .before .before .args in
-    sym (l .inv .1 ∙ simp (drop-cons (a .codes .now) (l .i) 0 (c .before .before .loop-test .taken), eq-eqb (a .code) (getD (a .codes .now) (l .i) 0) (sym (c .if1 .taken))))
+    sym (l .inv .1
+    ∙ simp (
+      drop-cons (a .codes .now) (l .i) 0 (c .before .before .loop-test .taken),
+      eq-eqb (a .code)
+          (getD (a .codes .now) (l .i) 0) (sym (c .if1 .taken)),
+    ))
 
 add-i : tie.Need-add-i Inv-loop μ-loop
 add-i c = search needs
@@ -41,8 +46,16 @@ loop-again : tie.Need-loop-again Inv-loop μ-loop
 unfolding isIn
 loop-again c =
     let l = c .before .before .before .loop in
-    let a = c .before .before .before .before .args in
-    (omega arith, l .inv .1 ∙ simp (drop-cons (a .codes .now) (l .i) 0 (c .before .before .loop-test .taken), add-one (l .i), ne-eqb (a .code) (getD (a .codes .now) (l .i) 0) (λ e. c .if1 .left (sym e))))
+    let a = c .before .before .before .before .args in (
+      omega arith,
+      l .inv .1
+          ∙ simp (
+            drop-cons (a .codes .now) (l .i) 0 (c .before .before .loop-test .taken),
+            add-one (l .i),
+            ne-eqb
+                (a .code) (getD (a .codes .now) (l .i) 0) (λ e. c .if1 .left (sym e)),
+          ),
+    )
 
 returns-2 : tie.Need-returns-2 Inv-loop μ-loop
 unfolding isIn

@@ -72,7 +72,8 @@ unfolding listedCodes forwardCodes
 returns c =
     let said = c .is-in .ensures in
     let a = c .before .before .before .args in
-    among (λ (o : Operation). c .is-in .result ≡ isListed o (a .code)) (0 ∷ 7 ∷ 9 ∷ []) (a .operation) (c .before .before .match .keys1) (said, (said, (said, tt)))
+    among (λ (o : Operation). c .is-in .result ≡ isListed o (a .code)) (0 ∷ 7 ∷ 9 ∷ []) (a .operation)
+    (c .before .before .match .keys1) (said, (said, (said, tt)))
 
 returns-2 : tie.Need-returns-2
 unfolding listedCodes suppliedCodes
@@ -91,7 +92,8 @@ unfolding listedCodes reverseCodes
 returns-5 c =
     let said = c .is-in5 .ensures in
     let a = c .before .before .before .args in
-    among (λ (o : Operation). c .is-in5 .result ≡ isListed o (a .code)) (8 ∷ 10 ∷ []) (a .operation) (c .before .before .match .keys5) (said, (said, tt))
+    among (λ (o : Operation). c .is-in5 .result ≡ isListed o (a .code)) (8 ∷ 10 ∷ []) (a .operation)
+    (c .before .before .match .keys5) (said, (said, tt))
 
 returns-6 : tie.Need-returns-6
 unfolding listedCodes
@@ -102,7 +104,8 @@ unfolding listedCodes endCodes
 returns-7 c =
     let said = c .is-in7 .ensures in
     let a = c .before .before .before .args in
-    among (λ (o : Operation). c .is-in7 .result ≡ isListed o (a .code)) (5 ∷ 6 ∷ []) (a .operation) (c .before .before .match .keys7) (said, (said, tt))
+    among (λ (o : Operation). c .is-in7 .result ≡ isListed o (a .code)) (5 ∷ 6 ∷ []) (a .operation)
+    (c .before .before .match .keys7) (said, (said, tt))
 
 returns-8 : tie.Need-returns-8
 unfolding listedCodes isIn

@@ -19,19 +19,27 @@ returns c = sym (byte-there (c .before .args .place) (c .before .pre) ∙ simp (
 
 returns-2 : tie.Need-returns-2
 unfolding byteOf pick
-returns-2 c = sym (byte-there (c .before .before .args .place) (c .before .before .pre) ∙ simp (ne-eqb _ 63 (c .before .if1 .left), c .if2 .taken))
+returns-2 c =
+    sym (byte-there (c .before .before .args .place) (c .before .before .pre)
+    ∙ simp (ne-eqb _ 63 (c .before .if1 .left), c .if2 .taken))
 
 operation-at-requires : tie.Need-operation-at-requires
 operation-at-requires c κs = search needs
 
-cast-answer-of : tie.Need-cast-answer-of
-cast-answer-of c = search needs
+cast-answer-by-rules : tie.Need-cast-answer-by-rules
+cast-answer-by-rules c = search needs
 
-answer-of-requires : tie.Need-answer-of-requires
-answer-of-requires c κs = search needs
+answer-by-rules-requires : tie.Need-answer-by-rules-requires
+answer-by-rules-requires c κs = search needs
 
 add-result : tie.Need-add-result
-add-result c = omega (arith, c .answer-of .ensures, small (c .before .operation-at .result) (c .before .before .before .before .args .place % 64 / 2))
+add-result c =
+    omega (
+      arith,
+      c .answer-by-rules .ensures,
+      small (c .before .operation-at .result)
+          (c .before .before .before .before .args .place % 64 / 2),
+    )
 
 returns-3 : tie.Need-returns-3
 unfolding byteOf pick
@@ -42,7 +50,7 @@ returns-3 c =
     ∙ simp (
       ne-eqb _ 63 (c .before .before .before .if1 .left),
       ne-eqb _ 1 (c .before .before .if2 .left),
-      c .answer-of .ensures,
+      c .answer-by-rules .ensures,
       c .before .operation-at .ensures,
     ))
 
@@ -54,7 +62,7 @@ byte-at-spec =
     returns
     returns-2
     operation-at-requires
-    cast-answer-of
-    answer-of-requires
+    cast-answer-by-rules
+    answer-by-rules-requires
     add-result
     returns-3)

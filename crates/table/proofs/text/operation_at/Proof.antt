@@ -1,4 +1,5 @@
--- `table::text::operation_at` meets its contract: at each of the first lines by computing, and every later one is that of write mark.
+-- `table::text::operation_at` meets its contract: at each of the first lines by computing, and every later one is that
+-- of write mark.
 -- Assumes nothing.
 use mathlib.Core.Path.{_≡_, refl, sym}
 use mathlib.Core.List.{List, [], _∷_, _++_}
@@ -67,8 +68,10 @@ unfolding operationAt lineOrder
 returns-12 c =
     let none = c .match .rest in
     let line = c .before .args .line in
-    let half : 6 ≤ line = omega (arith, none .0 .0 .0 .0 .0 .0 .0 .0 .0 .0 .1, none .0 .0 .0 .0 .0 .0 .0 .0 .0 .1, none .0 .0 .0 .0 .0 .0 .0 .0 .1, none .0 .0 .0 .0 .0 .0 .0 .1, none .0 .0 .0 .0 .0 .0 .1, none .0 .0 .0 .0 .0 .1) in
-    let late : 11 ≤ line = omega (arith, half, none .0 .0 .0 .0 .1, none .0 .0 .0 .1, none .0 .0 .1, none .0 .1, none .1) in
+    let half : 6 ≤ line = omega
+    (arith, none .0 .0 .0 .0 .0 .0 .0 .0 .0 .0 .1, none .0 .0 .0 .0 .0 .0 .0 .0 .0 .1, none .0 .0 .0 .0 .0 .0 .0 .0 .1, none .0 .0 .0 .0 .0 .0 .0 .1, none .0 .0 .0 .0 .0 .0 .1, none .0 .0 .0 .0 .0 .1) in
+    let late : 11 ≤ line = omega
+    (arith, half, none .0 .0 .0 .0 .1, none .0 .0 .0 .1, none .0 .0 .1, none .0 .1, none .1) in
     sym (last (take 11 lineOrder) WriteMark line late)
 
 pub operation-at-spec : {M : Type 1} → statement M

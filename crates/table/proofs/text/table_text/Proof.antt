@@ -17,7 +17,8 @@ abbrev zeros : List ℕ
 zeros = replicate tableLength 0
 
 abbrev Inv-loop : tie.InvT-loop
-Inv-loop text₀ place₀ text place = (place ≤ tableLength) × (length text ≡ tableLength) × (text ≡ take place tableText ++ drop place zeros)
+Inv-loop text₀ place₀ text place =
+    (place ≤ tableLength) × (length text ≡ tableLength) × (text ≡ take place tableText ++ drop place zeros)
 
 abbrev μ-loop : tie.MeasureT-loop
 μ-loop text₀ place₀ text place = tableLength - place

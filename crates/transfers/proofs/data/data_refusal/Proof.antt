@@ -58,4 +58,5 @@ returns-4 c =
 
 pub data-refusal-spec : {M : Type 1} → statement M
 data-refusal-spec =
-    tie.close (tie.spec returns held-count-requires image-length-requires returns-2 is-place-requires returns-3 returns-4)
+    tie.close
+    (tie.spec returns held-count-requires image-length-requires returns-2 is-place-requires returns-3 returns-4)

@@ -20,10 +20,12 @@ few c =
     rw (c .blockette-count .ensures) (blockettes-few (e .args .count) (omega arith))
 
 -- 512 bytes follow them
-left : (c : tie.After-blockette-count) → length (c .before .before .before .before .args .image .now) ≡ 2 + 256 * c .blockette-count .result + 512
+left : (c : tie.After-blockette-count)
+    → length (c .before .before .before .before .args .image .now) ≡ 2 + 256 * c .blockette-count .result + 512
 left c =
     let e = c .before .before .before .before in
-    checks-left (e .args .image .now) (e .args .count) (c .blockette-count .result) (c .before .if1 .left) (c .blockette-count .ensures) (e .pre .0)
+    checks-left (e .args .image .now) (e .args .count) (c .blockette-count .result) (c .before .if1 .left)
+    (c .blockette-count .ensures) (e .pre .0)
 
 clear-requires : tie.Need-clear-requires
 clear-requires c κs = search needs
@@ -37,17 +39,17 @@ mul-from c = omega (arith, few c)
 add-from : tie.Need-add-from
 add-from c = omega (arith, few c)
 
-sub-give : tie.Need-sub-give
-sub-give c = omega (arith, left c)
+sub-overwrite : tie.Need-sub-overwrite
+sub-overwrite c = omega (arith, left c)
 
-part-give-start : tie.Need-part-give-start
-part-give-start c = omega (arith, left c)
+part-overwrite-start : tie.Need-part-overwrite-start
+part-overwrite-start c = omega (arith, left c)
 
-part-give-end : tie.Need-part-give-end
-part-give-end c = search needs
+part-overwrite-end : tie.Need-part-overwrite-end
+part-overwrite-end c = search needs
 
-give-requires : tie.Need-give-requires
-give-requires c κs = simp (length-take, length-drop) (omega (arith, left (c .before .before)))
+overwrite-requires : tie.Need-overwrite-requires
+overwrite-requires c κs = simp (length-take, length-drop) (omega (arith, left (c .before .before)))
 
 same-length : tie.Need-same-length
 same-length c = search needs
@@ -66,8 +68,9 @@ returns-2 c =
     let g = c .before .before in
     let b = g .before .before .before in
     let e = b .before .before .before .before in
-    g .give .ensures
-    ∙ check-part (e .args .image .now) (e .args .count) (b .blockette-count .result) (b .before .if1 .left) (b .blockette-count .ensures) (e .pre .0) (e .args .check .now) (e .pre .1)
+    g .overwrite .ensures
+    ∙ check-part (e .args .image .now) (e .args .count) (b .blockette-count .result) (b .before .if1 .left)
+    (b .blockette-count .ensures) (e .pre .0) (e .args .check .now) (e .pre .1)
 
 pub put-check-bytes-spec : {M : Type 1} → statement M
 put-check-bytes-spec =
@@ -77,10 +80,10 @@ put-check-bytes-spec =
     blockette-count-requires
     mul-from
     add-from
-    sub-give
-    part-give-start
-    part-give-end
-    give-requires
+    sub-overwrite
+    part-overwrite-start
+    part-overwrite-end
+    overwrite-requires
     same-length
     returns
     same-length-2

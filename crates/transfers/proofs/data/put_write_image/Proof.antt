@@ -1,4 +1,5 @@
--- `transfers::data::put_write_image` meets its contract: the host bytes that are counted, filled to the count, are the record.
+-- `transfers::data::put_write_image` meets its contract: the host bytes that are counted, filled to the count, are the
+-- record.
 -- Assumes nothing.
 use borrow.Author.Needs.{needs}
 use mathlib.Core.List.{List}
@@ -8,12 +9,14 @@ use native.Mathlib.Omega.{arith}
 use lib.ListN.{length, take, length-take, length-drop}
 use Rattle.records.specs.Image.{imageLength, imageOf}
 use Rattle.transfers.specs.Data.{hostOf, recordBytes}
-use Rattle.transfers.proofs.DataLaws.{record-image-length, record-part, image-given}
+use Rattle.transfers.proofs.DataLaws.{record-image-length, record-part, image-overwritten}
 use Rattle.transfers.proofs.data.put_write_image.Statement.{statement}
 use Rattle.transfers.proofs.data.put_write_image.Tie as tie
 
 -- the image fits
-room : (c : tie.After-image-length) → c .image-length .result ≤ length (c .before .before .before .before .before .before .before .before .before .args .space .now)
+room : (c : tie.After-image-length)
+    → c .image-length .result ≤ length
+    (c .before .before .before .before .before .before .before .before .before .args .space .now)
 room c =
     let h = c .before .before .before .before in
     let e = h .before .before .before .before .before in
@@ -28,20 +31,20 @@ slice-aggregate-came c = simp length-take (omega (arith, c .before .as-came .ens
 held-count-requires : tie.Need-held-count-requires
 held-count-requires c κs = search needs
 
-cast-least : tie.Need-cast-least
-cast-least c = search needs
+cast-min : tie.Need-cast-min
+cast-min c = search needs
 
-least-requires : tie.Need-least-requires
-least-requires c κs = search needs
+min-requires : tie.Need-min-requires
+min-requires c κs = search needs
 
-cast-least-2 : tie.Need-cast-least-2
-cast-least-2 c = search needs
+cast-min-2 : tie.Need-cast-min-2
+cast-min-2 c = search needs
 
-add-least : tie.Need-add-least
-add-least c = omega arith
+add-min : tie.Need-add-min
+add-min c = omega arith
 
-least-requires-2 : tie.Need-least-requires-2
-least-requires-2 c κs = search needs
+min-requires-2 : tie.Need-min-requires-2
+min-requires-2 c κs = search needs
 
 image-length-requires : tie.Need-image-length-requires
 image-length-requires c κs = search needs
@@ -82,12 +85,14 @@ returns c =
     let host = hostOf (e .args .host .now) (e .args .place) in
     let density = e .args .density in
     let long : i .image-length .result ≡ length (imageOf (recordBytes store host) density) =
-    i .image-length .ensures ∙ ap (λ (k : ℕ). imageLength k density) (h .held-count .ensures) ∙ sym (record-image-length store host density)
+    i .image-length .ensures ∙ ap (λ (k : ℕ). imageLength k density) (h .held-count .ensures)
+    ∙ sym (record-image-length store host density)
     in
     let front = ap (λ (n : ℕ). take n (host .bytes)) (a .as-came .ensures .0) in
-    let is-record = record-part store host _ _ _ _ front (h .held-count .ensures) (l1 .least .ensures) (l2 .least2 .ensures) in
+    let is-record = record-part store host _ _ _ _ front (h .held-count .ensures) (l1 .min .ensures) (l2 .min2 .ensures)
+    in
     let is-image = p .put-image .ensures ∙ ap (λ (x : List ℕ). imageOf x density) is-record in
-    (long, image-given (e .args .space .now) _ _ _ is-image long)
+    (long, image-overwritten (e .args .space .now) _ _ _ is-image long)
 
 pub put-write-image-spec : {M : Type 1} → statement M
 put-write-image-spec =
@@ -96,11 +101,11 @@ put-write-image-spec =
     as-came-requires
     slice-aggregate-came
     held-count-requires
-    cast-least
-    least-requires
-    cast-least-2
-    add-least
-    least-requires-2
+    cast-min
+    min-requires
+    cast-min-2
+    add-min
+    min-requires-2
     image-length-requires
     sub-put-image
     part-put-image-start

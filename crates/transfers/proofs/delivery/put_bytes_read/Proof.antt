@@ -1,4 +1,5 @@
--- `transfers::delivery::put_bytes_read` meets its contract: as many as fit are put, and those of a torn first blockette cleared.
+-- `transfers::delivery::put_bytes_read` meets its contract: as many as fit are put, and those of a torn first blockette
+-- cleared.
 -- Assumes nothing.
 use borrow.Author.Needs.{needs}
 use mathlib.Core.Path.{_≡_, sym, _∙_}
@@ -15,15 +16,17 @@ put-fitting-requires c κs = search needs
 supplies-count-requires : tie.Need-supplies-count-requires
 supplies-count-requires c κs = search needs
 
-least-requires : tie.Need-least-requires
-least-requires c κs = search needs
+min-requires : tie.Need-min-requires
+min-requires c κs = search needs
 
 -- what is cleared is there
-room : (c : tie.After-least) → c .least .result ≤ length (c .before .before .before .before .before .put-fitting .last .1 .0)
+room : (c : tie.After-min)
+    → c .min .result ≤ length (c .before .before .before .before .before .put-fitting .last .1 .0)
 room c =
     let f = c .before .before .before .before .before in
     let a = f .before .before .before .before .args in
-    torn-room (a .operation) (a .bytes .now) (a .space .now) _ _ _ (f .put-fitting .ensures .0) (f .put-fitting .ensures .1) (c .least .ensures)
+    torn-room (a .operation) (a .bytes .now) (a .space .now) _ _ _ (f .put-fitting .ensures .0)
+    (f .put-fitting .ensures .1) (c .min .ensures)
 
 slice-relend-prefix-clear : tie.Need-slice-relend-prefix-clear
 slice-relend-prefix-clear c = room c
@@ -44,7 +47,8 @@ returns c =
     let f = l .before .before .before .before .before in
     let a = f .before .before .before .before .args in (
       fit-length (a .operation) (a .bytes .now) (a .space .now) _ (f .put-fitting .ensures .0),
-      put-torn (a .operation) (a .bytes .now) (a .space .now) _ _ _ (f .put-fitting .ensures .0) (f .put-fitting .ensures .1) (l .least .ensures)
+      put-torn (a .operation) (a .bytes .now) (a .space .now) _ _ _ (f .put-fitting .ensures .0)
+          (f .put-fitting .ensures .1) (l .min .ensures)
           (sym (t .before .supplies-count .ensures) ∙ t .if1 .taken) _ (c .before .before .clear .ensures),
     )
 
@@ -56,7 +60,8 @@ returns-2 c =
     let f = c .before .before .before .before in
     let a = f .before .before .before .before .args in (
       fit-length (a .operation) (a .bytes .now) (a .space .now) _ (f .put-fitting .ensures .0),
-      put-whole (a .operation) (a .bytes .now) (a .space .now) (sym (c .before .supplies-count .ensures) ∙ c .if1 .left) _ (f .put-fitting .ensures .1),
+      put-whole (a .operation) (a .bytes .now) (a .space .now)
+          (sym (c .before .supplies-count .ensures) ∙ c .if1 .left) _ (f .put-fitting .ensures .1),
     )
 
 pub put-bytes-read-spec : {M : Type 1} → statement M
@@ -65,7 +70,7 @@ put-bytes-read-spec =
     (tie.spec
     put-fitting-requires
     supplies-count-requires
-    least-requires
+    min-requires
     slice-relend-prefix-clear
     slice-aggregate-clear
     clear-requires

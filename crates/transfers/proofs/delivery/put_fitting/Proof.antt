@@ -6,19 +6,19 @@ use mathlib.Core.Path.{ap, _∙_}
 use Prim.Native.Nat.{ℕ}
 use native.Mathlib.Omega.{arith}
 use lib.ListN.{length, length-take}
-use Rattle.common.specs.Given.{given}
+use Rattle.common.specs.Space.{overwrite}
 use Rattle.transfers.proofs.ResultLaws.{fitting-part, fitting-length}
 use Rattle.transfers.proofs.delivery.put_fitting.Statement.{statement}
 use Rattle.transfers.proofs.delivery.put_fitting.Tie as tie
 
-least-requires : tie.Need-least-requires
-least-requires c κs = search needs
+min-requires : tie.Need-min-requires
+min-requires c κs = search needs
 
-slice-aggregate-give : tie.Need-slice-aggregate-give
-slice-aggregate-give c = simp length-take (omega arith)
+slice-aggregate-overwrite : tie.Need-slice-aggregate-overwrite
+slice-aggregate-overwrite c = simp length-take (omega arith)
 
-give-requires : tie.Need-give-requires
-give-requires c κs = simp length-take (omega arith)
+overwrite-requires : tie.Need-overwrite-requires
+overwrite-requires c κs = simp length-take (omega arith)
 
 same-length : tie.Need-same-length
 same-length c = search needs
@@ -30,10 +30,11 @@ returns c =
     let e = l .before .before .before in
     let bytes = e .args .bytes .now in
     let space = e .args .space .now in (
-      fitting-length bytes (length space) _ (l .least .ensures),
-      g .give .ensures ∙ ap (λ (x : List ℕ). given x space) (fitting-part bytes (length space) _ (l .least .ensures)),
+      fitting-length bytes (length space) _ (l .min .ensures),
+      g .overwrite .ensures
+          ∙ ap (λ (x : List ℕ). overwrite x space) (fitting-part bytes (length space) _ (l .min .ensures)),
     )
 
 pub put-fitting-spec : {M : Type 1} → statement M
 put-fitting-spec =
-    tie.close (tie.spec least-requires slice-aggregate-give give-requires same-length returns)
+    tie.close (tie.spec min-requires slice-aggregate-overwrite overwrite-requires same-length returns)

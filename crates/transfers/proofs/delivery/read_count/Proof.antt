@@ -15,18 +15,19 @@ is-found-requires c κs = search needs
 blockette-count-requires : tie.Need-blockette-count-requires
 blockette-count-requires c κs = search needs
 
-least-requires : tie.Need-least-requires
-least-requires c κs = search needs
+min-requires : tie.Need-min-requires
+min-requires c κs = search needs
 
-mul-least : tie.Need-mul-least
-mul-least c =
+mul-min : tie.Need-mul-min
+mul-min c =
     let b = c .before in
     let e = b .before .before .before in
-    let few : b .blockette-count .result ≤ 256 = rw (b .blockette-count .ensures) (blockettes-few (e .args .count) (omega arith)) in
+    let few : b .blockette-count .result ≤ 256 = rw (b .blockette-count .ensures)
+    (blockettes-few (e .args .count) (omega arith)) in
     omega arith
 
-least-requires-2 : tie.Need-least-requires-2
-least-requires-2 c κs = search needs
+min-requires-2 : tie.Need-min-requires-2
+min-requires-2 c κs = search needs
 
 returns : tie.Need-returns
 unfolding readCount pick
@@ -34,7 +35,7 @@ returns c =
     let l = c .before in
     let b = l .before in
     let t = b .before in (
-      simp (c .least2 .ensures, l .least .ensures, b .blockette-count .ensures, ← t .before .is-found .ensures, t .if1 .taken),
+      simp (c .min2 .ensures, l .min .ensures, b .blockette-count .ensures, ← t .before .is-found .ensures, t .if1 .taken),
       omega arith,
     )
 
@@ -48,8 +49,8 @@ read-count-spec =
     (tie.spec
     is-found-requires
     blockette-count-requires
-    least-requires
-    mul-least
-    least-requires-2
+    min-requires
+    mul-min
+    min-requires-2
     returns
     returns-2)

@@ -1,4 +1,5 @@
--- `transfers::expected::unmarked_refusal` meets its contract: at each return the tests that led there say which case holds.
+-- `transfers::expected::unmarked_refusal` meets its contract: at each return the tests that led there say which case
+-- holds.
 -- Assumes nothing.
 use borrow.Author.Tests.{eq-eqb, ne-eqb}
 use Rattle.common.specs.Pick.{pick}

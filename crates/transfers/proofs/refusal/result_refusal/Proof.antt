@@ -1,4 +1,5 @@
--- `transfers::refusal::result_refusal` meets its contract: at each return the tests that led there say which case holds.
+-- `transfers::refusal::result_refusal` meets its contract: at each return the tests that led there say which case
+-- holds.
 -- Assumes nothing.
 use borrow.Author.Tests.{eq-eqb, ne-eqb}
 use borrow.Author.Needs.{needs}
@@ -16,7 +17,8 @@ answer-of-requires c κs = search needs
 
 returns-2 : tie.Need-returns-2
 unfolding resultRefusal pick
-returns-2 c = simp (eq-eqb _ _ (c .if2 .taken), ← c .before .answer-of .ensures, eq-eqb _ _ (c .before .before .if1 .left))
+returns-2 c =
+    simp (eq-eqb _ _ (c .if2 .taken), ← c .before .answer-of .ensures, eq-eqb _ _ (c .before .before .if1 .left))
 
 mark-against-requires : tie.Need-mark-against-requires
 mark-against-requires c κs = search needs

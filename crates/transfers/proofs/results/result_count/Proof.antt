@@ -1,4 +1,5 @@
--- `transfers::results::result_count` meets its contract: the supplied count, that of the image, of the write, or the old one.
+-- `transfers::results::result_count` meets its contract: the supplied count, that of the image, of the write, or the
+-- old one.
 -- Assumes nothing.
 use Rattle.common.specs.Pick.{pick}
 use borrow.Author.Needs.{needs}

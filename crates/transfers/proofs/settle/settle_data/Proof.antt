@@ -1,29 +1,32 @@
--- `transfers::settle::settle_data` meets its contract: the image stands at the start of the space, and the check store takes its check bytes.
+-- `transfers::settle::settle_data` meets its contract: the image stands at the start of the space, and the check store
+-- takes its check bytes.
 -- Assumes nothing.
 use borrow.Author.Needs.{needs}
 use mathlib.Core.List.{List}
 use mathlib.Core.Path.{_≡_, sym, ap, _∙_}
 use Prim.Native.Nat.{ℕ, _≤_}
 use lib.ListN.{length, take}
-use Rattle.common.proofs.GivenLaws.{given-front, given-room}
+use Rattle.common.proofs.SpaceLaws.{overwritten-front, overwritten-room}
 use Rattle.transfers.specs.Data.{hostOf, writeImage, settleData}
 use Rattle.transfers.proofs.DataLaws.{record-image-length, data-ready}
 use Rattle.transfers.proofs.settle.settle_data.Statement.{statement}
 use Rattle.transfers.proofs.settle.settle_data.Tie as tie
 
 -- the image fits the space, and stands at its start
-image-room : (c : tie.After-put-write-image) → c .put-write-image .result ≤ length (c .put-write-image .last .1 .1 .1 .1 .0)
+image-room : (c : tie.After-put-write-image)
+    → c .put-write-image .result ≤ length (c .put-write-image .last .1 .1 .1 .1 .0)
 image-room c =
     let a = c .before .before .before .before .before .before .args in
-    rw (c .put-write-image .ensures .0, c .put-write-image .ensures .1) (given-room _ (a .space .now))
+    rw (c .put-write-image .ensures .0, c .put-write-image .ensures .1) (overwritten-room _ (a .space .now))
 
 image-front :
     (c : tie.After-put-write-image)
     → let a = c .before .before .before .before .before .before .args in
-    take (c .put-write-image .result) (c .put-write-image .last .1 .1 .1 .1 .0) ≡ writeImage (a .store) (hostOf (a .host .now) (a .place)) (a .drive .density)
+    take (c .put-write-image .result) (c .put-write-image .last .1 .1 .1 .1 .0)
+    ≡ writeImage (a .store) (hostOf (a .host .now) (a .place)) (a .drive .density)
 image-front c =
     let a = c .before .before .before .before .before .before .args in
-    rw (c .put-write-image .ensures .0, c .put-write-image .ensures .1) (given-front _ (a .space .now))
+    rw (c .put-write-image .ensures .0, c .put-write-image .ensures .1) (overwritten-front _ (a .space .now))
 
 data-words-requires : tie.Need-data-words-requires
 data-words-requires c κs = search needs
@@ -46,7 +49,8 @@ put-data-check-requires c κs =
     let p = c .before .before .before .before in
     let e = p .before .before .before .before .before .before in
     let store = e .args .store in (
-      ap (λ (x : List ℕ). length x) (image-front p) ∙ record-image-length store (hostOf (e .args .host .now) (e .args .place)) (e .args .drive .density),
+      ap (λ (x : List ℕ). length x) (image-front p)
+          ∙ record-image-length store (hostOf (e .args .host .now) (e .args .place)) (e .args .drive .density),
       data-ready (e .args .drive) store _ _ _ _ (e .pre) .0,
     )
 

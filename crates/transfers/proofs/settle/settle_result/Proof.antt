@@ -1,5 +1,5 @@
--- `transfers::settle::settle_result` meets its contract: everything is told by one verdict, and what the test of the result says of its image
--- lets each part be read.
+-- `transfers::settle::settle_result` meets its contract: everything is told by one verdict, and what the test of the
+-- result says of its image lets each part be read.
 -- Assumes nothing.
 use borrow.Author.Needs.{needs}
 use Prim.Native.Nat.{_≤_}
@@ -26,7 +26,8 @@ delivered-bytes-requires : tie.Need-delivered-bytes-requires
 delivered-bytes-requires c κs =
     let v = c .before .before in
     let e = v .before .before .before .before .before in
-    rw (v .verdict-of .ensures) (result-passed (e .args .drive) _ (e .args .operation) (e .args .store) _ (e .pre) .read)
+    rw (v .verdict-of .ensures)
+    (result-passed (e .args .drive) _ (e .args .operation) (e .args .store) _ (e .pre) .read)
 
 result-words-requires : tie.Need-result-words-requires
 result-words-requires c κs = search needs
@@ -58,7 +59,11 @@ returns c =
     let r = d .before .before in
     let v = r .before in (
       simp (m .result-words .ensures, r .result-gap .ensures, g .put-bytes-read .ensures .0, d .delivered-bytes .ensures, v .verdict-of .ensures, read-length),
-      (simp (g .put-bytes-read .ensures .1, d .delivered-bytes .ensures, v .verdict-of .ensures), simp (k .put-result-check .ensures, v .verdict-of .ensures)),
+      (
+        simp (g .put-bytes-read .ensures .1, d .delivered-bytes .ensures, v .verdict-of .ensures),
+        simp
+            (k .put-result-check .ensures, v .verdict-of .ensures),
+      ),
     )
 
 pub settle-result-spec : {M : Type 1} → statement M

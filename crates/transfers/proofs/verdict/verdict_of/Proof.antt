@@ -1,4 +1,5 @@
--- `transfers::verdict::verdict_of` meets its contract: each part as its callee promises; an image that is used is not empty.
+-- `transfers::verdict::verdict_of` meets its contract: each part as its callee promises; an image that is used is not
+-- empty.
 -- Assumes nothing.
 use borrow.Author.Tests.{eqb-false, not-true}
 use borrow.Author.Needs.{needs}
@@ -32,7 +33,9 @@ used-count-requires : tie.Need-used-count-requires
 used-count-requires c κs used =
     let g = c .before .before .before .before in
     let e = g .before .before .before .before in
-    e .pre .0 (eqb-false _ _ (not-true _ (both-hold (not (g .is-gone .result)) (not (eqb (length (e .args .image .now)) 0)) used .1)))
+    e .pre .0
+    (eqb-false _ _
+    (not-true _ (both-hold (not (g .is-gone .result)) (not (eqb (length (e .args .image .now)) 0)) used .1)))
 
 returns : tie.Need-returns
 unfolding verdictOf

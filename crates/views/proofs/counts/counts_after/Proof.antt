@@ -21,7 +21,8 @@ is-unrecoverable-requires-2 : tie.Need-is-unrecoverable-requires-2
 is-unrecoverable-requires-2 c κs = search needs
 
 recounted-requires-2 : tie.Need-recounted-requires-2
-recounted-requires-2 c κs = rw (c .before .is-unrecoverable .ensures) (c .before .before .before .before .before .pre .1 .0)
+recounted-requires-2 c κs =
+    rw (c .before .is-unrecoverable .ensures) (c .before .before .before .before .before .pre .1 .0)
 
 is-other-requires : tie.Need-is-other-requires
 is-other-requires c κs = search needs
@@ -30,7 +31,8 @@ is-other-requires-2 : tie.Need-is-other-requires-2
 is-other-requires-2 c κs = search needs
 
 recounted-requires-3 : tie.Need-recounted-requires-3
-recounted-requires-3 c κs = rw (c .before .is-other .ensures) (c .before .before .before .before .before .before .before .before .pre .1 .1)
+recounted-requires-3 c κs =
+    rw (c .before .is-other .ensures) (c .before .before .before .before .before .before .before .before .pre .1 .1)
 
 returns : tie.Need-returns
 unfolding countsAfter

@@ -5,12 +5,12 @@ use borrow.Author.Needs.{needs}
 use Rattle.views.proofs.held.held_end.Statement.{statement}
 use Rattle.views.proofs.held.held_end.Tie as tie
 
-least-requires : tie.Need-least-requires
-least-requires c κs = search needs
+min-requires : tie.Need-min-requires
+min-requires c κs = search needs
 
 returns : tie.Need-returns
 unfolding heldEnd
-returns c = c .least .ensures
+returns c = c .min .ensures
 
 pub held-end-spec : {M : Type 1} → statement M
-held-end-spec = tie.close (tie.spec least-requires returns)
+held-end-spec = tie.close (tie.spec min-requires returns)

@@ -28,25 +28,43 @@ returns-2 c = simp (le-leb _ _ (c .before .if1 .left), lt-leb _ _ (c .if2 .taken
 
 returns-3 : tie.Need-returns-3
 unfolding viewRefusal stretchCount pick
-returns-3 c = simp (le-leb _ _ (c .before .before .if1 .left), le-leb _ _ (c .before .if2 .left), lt-ltb _ _ (c .if3 .taken))
+returns-3 c =
+    simp (le-leb _ _ (c .before .before .if1 .left), le-leb _ _ (c .before .if2 .left), lt-ltb _ _ (c .if3 .taken))
 
 returns-4 : tie.Need-returns-4
 unfolding viewRefusal stretchCount pick
 returns-4 c =
-    simp
-    (le-leb _ _ (c .before .before .before .if1 .left), le-leb _ _ (c .before .before .if2 .left), le-ltb _ _ (c .before .if3 .left), le-ltb (c .before .before .before .before .args .room) (3 * (c .before .before .before .before .args .count + 1 - c .before .before .before .before .args .width)) (omega arith))
+    simp (
+      le-leb _ _ (c .before .before .before .if1 .left),
+      le-leb _ _ (c .before .before .if2 .left),
+      le-ltb _ _
+          (c .before .if3 .left),
+      le-ltb (c .before .before .before .before .args .room)
+          (3 * (c .before .before .before .before .args .count + 1 - c .before .before .before .before .args .width))
+          (omega arith),
+    )
 
 returns-5 : tie.Need-returns-5
 unfolding viewRefusal stretchCount pick
 returns-5 c =
-    simp
-    (le-leb _ _ (c .before .before .before .before .if1 .left), le-leb _ _ (c .before .before .before .if2 .left), le-ltb _ _ (c .before .before .if3 .left), lt-ltb _ _ (c .if5 .taken))
+    simp (
+      le-leb _ _ (c .before .before .before .before .if1 .left),
+      le-leb _ _
+          (c .before .before .before .if2 .left),
+      le-ltb _ _ (c .before .before .if3 .left),
+      lt-ltb _ _ (c .if5 .taken),
+    )
 
 returns-6 : tie.Need-returns-6
 unfolding viewRefusal stretchCount pick
 returns-6 c =
-    simp
-    (le-leb _ _ (c .before .before .before .before .if1 .left), le-leb _ _ (c .before .before .before .if2 .left), le-ltb _ _ (c .before .before .if3 .left), le-ltb _ _ (c .if5 .left))
+    simp (
+      le-leb _ _ (c .before .before .before .before .if1 .left),
+      le-leb _ _
+          (c .before .before .before .if2 .left),
+      le-ltb _ _ (c .before .before .if3 .left),
+      le-ltb _ _ (c .if5 .left),
+    )
 
 pub view-refusal-spec : {M : Type 1} → statement M
 view-refusal-spec =

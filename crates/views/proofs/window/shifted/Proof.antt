@@ -26,7 +26,8 @@ counts-after-requires c κs = can-count (c .before .before .before .args .t1) (c
 
 returns : tie.Need-returns
 returns c =
-    shifts (c .before .before .before .before .args .t1) (c .before .before .before .before .pre .0) (c .before .before .before .before .args .code) _ _
+    shifts (c .before .before .before .before .args .t1) (c .before .before .before .before .pre .0)
+    (c .before .before .before .before .args .code) _ _
     (⊎-elim (λ h. inl (h .0 .taken, h .1)) (λ h. inr (h .0 .left, h .1)) (c .before .before .if1 .came))
     (c .counts-after .ensures)
 

@@ -19,20 +19,29 @@ is-decimal-requires-2 : tie.Need-is-decimal-requires-2
 is-decimal-requires-2 c κs = search needs
 
 byte-of-requires : tie.Need-byte-of-requires
-byte-of-requires c κs = sym (c .before .before .before .is-byte .ensures) ∙ both-hold (c .before .before .before .is-byte .result) _ (c .if1 .taken) .0
+byte-of-requires c κs =
+    sym (c .before .before .before .is-byte .ensures)
+    ∙ both-hold (c .before .before .before .is-byte .result) _ (c .if1 .taken) .0
 
 decimal-of-requires : tie.Need-decimal-of-requires
 decimal-of-requires c κs =
-    let fields = both-hold (c .before .before .before .before .is-byte .result) _ (c .before .if1 .taken) .1 in
-    (omega arith, sym (c .before .before .before .is-decimal .ensures) ∙ both-hold (c .before .before .before .is-decimal .result) _ fields .0)
+    let fields = both-hold (c .before .before .before .before .is-byte .result) _ (c .before .if1 .taken) .1 in (
+      omega arith,
+      sym (c .before .before .before .is-decimal .ensures)
+          ∙ both-hold (c .before .before .before .is-decimal .result) _ fields .0,
+    )
 
 cast-t12 : tie.Need-cast-t12
 cast-t12 c = search needs
 
 decimal-of-requires-2 : tie.Need-decimal-of-requires-2
 decimal-of-requires-2 c κs =
-    let fields = both-hold (c .before .before .before .before .before .is-byte .result) _ (c .before .before .if1 .taken) .1 in
-    (omega arith, sym (c .before .before .before .is-decimal2 .ensures) ∙ both-hold (c .before .before .before .before .is-decimal .result) _ fields .1)
+    let fields = both-hold (c .before .before .before .before .before .is-byte .result) _
+    (c .before .before .if1 .taken) .1 in (
+      omega arith,
+      sym (c .before .before .before .is-decimal2 .ensures)
+          ∙ both-hold (c .before .before .before .before .is-decimal .result) _ fields .1,
+    )
 
 cast-t14 : tie.Need-cast-t14
 cast-t14 c = search needs
@@ -52,7 +61,8 @@ returns c =
 
 returns-2 : tie.Need-returns-2
 unfolding fieldsLine pick
-returns-2 c = simp (← c .before .before .before .is-byte .ensures, ← c .before .before .is-decimal .ensures, ← c .before .is-decimal2 .ensures, c .if1 .left)
+returns-2 c =
+    simp (← c .before .before .before .is-byte .ensures, ← c .before .before .is-decimal .ensures, ← c .before .is-decimal2 .ensures, c .if1 .left)
 
 pub read-fields-spec : {M : Type 1} → statement M
 read-fields-spec =

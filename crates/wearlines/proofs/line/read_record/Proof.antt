@@ -28,7 +28,8 @@ returns c =
     let rest = motion .before in
     let code = rest .before in
     c .read-fields .ensures
-    ∙ record-cut (code .before .before .args .s .now) (code .part-of .result .now) (rest .after .result .now) (motion .part-of2 .result .now)
+    ∙ record-cut (code .before .before .args .s .now) (code .part-of .result .now) (rest .after .result .now)
+    (motion .part-of2 .result .now)
     (count .after2 .result .now)
     (code .part-of .ensures)
     (rest .after .ensures)

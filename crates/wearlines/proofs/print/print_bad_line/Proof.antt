@@ -1,8 +1,8 @@
 -- `wearlines::print::print_bad_line` meets its contract: one text after the other.
 -- Assumes nothing.
 use native.Mathlib.Omega.{arith}
-use Rattle.joblines.specs.Limits.{decimalMost}
-use Rattle.joblines.specs.Print.{decimalText}
+use Rattle.text.specs.Limits.{decimalMost}
+use Rattle.text.specs.Print.{decimalText}
 use Rattle.wearlines.specs.Print.{badLineText}
 use Rattle.wearlines.proofs.TextLaws.{bad-line-text}
 use borrow.Author.Needs.{needs}

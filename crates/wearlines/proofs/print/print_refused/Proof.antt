@@ -1,8 +1,8 @@
 -- `wearlines::print::print_refused` meets its contract: one text after the other.
 -- Assumes nothing.
 use native.Mathlib.Omega.{arith}
-use Rattle.joblines.specs.Limits.{decimalMost}
-use Rattle.joblines.specs.Print.{decimalText}
+use Rattle.text.specs.Limits.{decimalMost}
+use Rattle.text.specs.Print.{decimalText}
 use Rattle.wearlines.specs.Print.{refusedText}
 use Rattle.wearlines.proofs.TextLaws.{refused-text}
 use borrow.Author.Needs.{needs}

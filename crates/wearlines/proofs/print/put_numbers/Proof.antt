@@ -2,8 +2,8 @@
 -- Assumes nothing.
 use native.Mathlib.Omega.{arith}
 use lib.ListN.{take}
-use Rattle.joblines.specs.Limits.{decimalMost}
-use Rattle.joblines.specs.Print.{decimalText}
+use Rattle.text.specs.Limits.{decimalMost}
+use Rattle.text.specs.Print.{decimalText}
 use Rattle.wearlines.specs.Print.{numbersText}
 use Rattle.wearlines.proofs.TextLaws.{numbers-text}
 use borrow.Author.Needs.{needs}
@@ -42,7 +42,8 @@ returns c =
     let first = comma1 .before .before .before .before in
     let a = first .before .before .before .args in (
       omega (arith, last .put3 .ensures .0, third .put-decimal3 .ensures .0, comma2 .put2 .ensures .0, second .put-decimal2 .ensures .0, comma1 .put .ensures .0, first .put-decimal .ensures .0),
-      numbers-text (take (a .at) (a .out .now)) (decimalText decimalMost (a .a)) (decimalText decimalMost (a .b)) (decimalText decimalMost (a .c))
+      numbers-text (take (a .at) (a .out .now)) (decimalText decimalMost (a .a)) (decimalText decimalMost (a .b))
+          (decimalText decimalMost (a .c))
           (first .put-decimal .ensures .1)
           (comma1 .put .ensures .1)
           (second .put-decimal2 .ensures .1)

@@ -10,7 +10,8 @@ use denote.Enum.Declared.{tagOf}
 use Rattle.common.specs.Pick.{pick}
 use Rattle.common.specs.Refusals.{linkNotAwaited}
 use Rattle.link.specs.declared.state.Phase.{Phase}
-use Rattle.link.specs.declared.state.Phase.the-variants.{Collecting, AckOffered, Sending, GoOffered, DataAwaited, ResultAwaited, EndOffered}
+use Rattle.link.specs.declared.state.Phase.the-variants.{Collecting, AckOffered, Sending, GoOffered, DataAwaited}
+use Rattle.link.specs.declared.state.Phase.the-variants.{ResultAwaited, EndOffered}
 use Rattle.link.specs.declared.state.Body.{Body}
 use Rattle.link.specs.declared.state.Action.the-variants.{Nothing}
 use Rattle.link.specs.State.{idle}
@@ -29,7 +30,8 @@ first = 0 ∷ 1 ∷ []
 abbrev last : List ℕ
 last = 4 ∷ 5 ∷ []
 
-dropped : (c : Controller) (b : Body) (phase : Phase) → OneOf first (tagOf the-type phase) → brokenIn c b phase ≡ carried (idle b Nothing)
+dropped : (c : Controller) (b : Body) (phase : Phase) → OneOf first (tagOf the-type phase)
+    → brokenIn c b phase ≡ carried (idle b Nothing)
 unfolding brokenIn
 dropped c b (Collecting s) key = refl
 dropped c b (AckOffered s) key = refl
@@ -39,7 +41,8 @@ dropped c b (DataAwaited store) key = absurd (miss first 4 tt key)
 dropped c b (ResultAwaited operation store) key = absurd (miss first 5 tt key)
 dropped c b (EndOffered interrupt) key = absurd (miss first 6 tt key)
 
-others : (c : Controller) (b : Body) (phase : Phase) → OneOf last (tagOf the-type phase) → brokenIn c b phase ≡ refused linkNotAwaited c
+others : (c : Controller) (b : Body) (phase : Phase) → OneOf last (tagOf the-type phase)
+    → brokenIn c b phase ≡ refused linkNotAwaited c
 unfolding brokenIn
 others c b (Collecting s) key = absurd (miss last 0 tt key)
 others c b (AckOffered s) key = absurd (miss last 1 tt key)
@@ -49,14 +52,15 @@ others c b (DataAwaited store) key = refl
 others c b (ResultAwaited operation store) key = refl
 others c b (EndOffered interrupt) key = absurd (miss last 6 tt key)
 
--- where the arms meet, the turn is that of the phase
-turned : (c : tie.At-match-came) → let s = c .before .before .before .args .self in brokenIn s (s .body) (s .phase) ≡ carried (c .match .turn)
+-- where the arms meet, the transition is that of the phase
+turned : (c : tie.At-match-came)
+    → let s = c .before .before .before .args .self in brokenIn s (s .body) (s .phase) ≡ carried (c .match .transition)
 unfolding brokenIn
 turned c =
     let s = c .before .before .before .args .self in
     ⊎-elim (λ w. dropped s (s .body) (s .phase) (w .0 .keys1) ∙ rw (w .2, w .1 .ensures))
     (⊎-elim (λ w. rw (w .1 .given .1, w .4, w .3 .ensures))
-    (⊎-elim (λ w. rw (w .1 .given .1, w .4, w .3 .ensures)) (λ w. rw (w .1 .given .1, w .4, w .3 .ensures))))
+    (⊎-elim (λ w. rw (w .1 .given .1, w .4, w .3 .ensures)) (λ w. rw (w .1 .given .1, w .5, w .4 .ensures))))
     (c .match .came)
 
 is-damaged-requires : tie.Need-is-damaged-requires
@@ -67,7 +71,12 @@ refused-requires c κs = search needs
 
 returns : tie.Need-returns
 unfolding brokenCall pick
-returns c = rw (damaged (c .before .before .before .args .self) (c .before .before .is-damaged .ensures) (c .before .if1 .taken), c .refused .ensures)
+returns c =
+    rw (
+      damaged (c .before .before .before .args .self) (c .before .before .is-damaged .ensures)
+          (c .before .if1 .taken),
+      c .refused .ensures,
+    )
 
 idle-requires : tie.Need-idle-requires
 idle-requires c κs = search needs
@@ -98,7 +107,12 @@ unfolding brokenCall pick
 returns-2 c =
     let e = c .before .before in
     let s = e .before .before .args .self in
-    rw (undamaged (e .before .before .args .self) (e .before .is-damaged .ensures) (e .if1 .left), others s (s .body) (s .phase) (c .before .match .keys5), c .refused2 .ensures)
+    rw (
+      undamaged (e .before .before .args .self) (e .before .is-damaged .ensures) (e .if1 .left),
+      others s (s .body)
+          (s .phase) (c .before .match .keys5),
+      c .refused2 .ensures,
+    )
 
 carried-requires : tie.Need-carried-requires
 carried-requires c κs = search needs
@@ -107,7 +121,12 @@ returns-3 : tie.Need-returns-3
 unfolding brokenCall pick
 returns-3 c =
     let e = c .before .before in
-    rw (undamaged (e .before .before .args .self) (e .before .is-damaged .ensures) (e .if1 .left), turned (c .before), c .carried .ensures)
+    rw (
+      undamaged (e .before .before .args .self) (e .before .is-damaged .ensures) (e .if1 .left),
+      turned
+          (c .before),
+      c .carried .ensures,
+    )
 
 pub broken-spec : {M : Type 1} → statement M
 broken-spec =

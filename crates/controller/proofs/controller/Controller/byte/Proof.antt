@@ -1,5 +1,5 @@
--- `controller::controller::Controller::byte` meets its contract: whether the state is damaged, and by the phase; a state that is not
--- keeps the string and the noes within their bounds.
+-- `controller::controller::Controller::byte` meets its contract: whether the state is damaged, and by the phase; a
+-- state that is not keeps the string and the noes within their bounds.
 -- Assumes nothing.
 use borrow.Author.Needs.{needs}
 use Prim.Native.Nat.{ℕ}
@@ -12,7 +12,8 @@ use denote.Enum.Declared.{tagOf}
 use Rattle.common.specs.Pick.{pick}
 use Rattle.common.specs.Refusals.{linkNotAwaited}
 use Rattle.link.specs.declared.state.Phase.{Phase}
-use Rattle.link.specs.declared.state.Phase.the-variants.{Collecting, AckOffered, Sending, GoOffered, DataAwaited, ResultAwaited, EndOffered}
+use Rattle.link.specs.declared.state.Phase.the-variants.{Collecting, AckOffered, Sending, GoOffered, DataAwaited}
+use Rattle.link.specs.declared.state.Phase.the-variants.{ResultAwaited, EndOffered}
 use Rattle.link.specs.declared.state.Body.{Body}
 use Rattle.link.specs.Damaged.{isSound}
 use Rattle.link.proofs.state.Phase.{the-type}
@@ -28,7 +29,8 @@ use Rattle.controller.proofs.controller.Controller.byte.Tie as tie
 abbrev two : List ℕ
 two = 4 ∷ 5 ∷ []
 
-others : (c : Controller) (b : Body) (byte : ℕ) (phase : Phase) → OneOf two (tagOf the-type phase) → byteIn c b byte phase ≡ refused linkNotAwaited c
+others : (c : Controller) (b : Body) (byte : ℕ) (phase : Phase) → OneOf two (tagOf the-type phase)
+    → byteIn c b byte phase ≡ refused linkNotAwaited c
 unfolding byteIn
 others c b byte (Collecting s) key = absurd (miss two 0 tt key)
 others c b byte (AckOffered s) key = absurd (miss two 1 tt key)
@@ -42,14 +44,16 @@ others c b byte (EndOffered interrupt) key = absurd (miss two 6 tt key)
 whole : (c : tie.Else1) → let s = c .before .before .args .self in isSound (s .body) (s .phase) ≡ true
 whole c = undamaged _ (c .before .is-damaged .ensures) (c .if1 .left)
 
--- where the arms meet, the turn is that of the phase
-turned : (c : tie.At-match-came) → let a = c .before .before .before .args in byteIn (a .self) (a .self .body) (a .byte) (a .self .phase) ≡ carried (c .match .turn)
+-- where the arms meet, the transition is that of the phase
+turned : (c : tie.At-match-came)
+    → let a = c .before .before .before .args in byteIn (a .self) (a .self .body) (a .byte) (a .self .phase)
+    ≡ carried (c .match .transition)
 unfolding byteIn
 turned c =
     ⊎-elim (λ w. rw (w .1 .given .1, w .4, w .3 .ensures))
     (⊎-elim (λ w. rw (w .1 .given .1, w .3, w .2 .ensures))
     (⊎-elim (λ w. rw (w .1 .given .1, w .4, w .3 .ensures))
-    (⊎-elim (λ w. rw (w .1 .given .1, w .4, w .3 .ensures)) (λ w. rw (w .1 .given .1, w .4, w .3 .ensures)))))
+    (⊎-elim (λ w. rw (w .1 .given .1, w .4, w .3 .ensures)) (λ w. rw (w .1 .given .1, w .5, w .4 .ensures)))))
     (c .match .came)
 
 is-damaged-requires : tie.Need-is-damaged-requires
@@ -60,7 +64,12 @@ refused-requires c κs = search needs
 
 returns : tie.Need-returns
 unfolding byteCall pick
-returns c = rw (damaged (c .before .before .before .args .self) (c .before .before .is-damaged .ensures) (c .before .if1 .taken), c .refused .ensures)
+returns c =
+    rw (
+      damaged (c .before .before .before .args .self) (c .before .before .is-damaged .ensures)
+          (c .before .if1 .taken),
+      c .refused .ensures,
+    )
 
 enum-known-phase : tie.Need-enum-known-phase
 enum-known-phase c = search needs
@@ -104,7 +113,12 @@ unfolding byteCall pick
 returns-2 c =
     let e = c .before .before in
     let a = e .before .before .args in
-    rw (whole e, others (a .self) (a .self .body) (a .byte) (a .self .phase) (c .before .match .keys6), c .refused2 .ensures)
+    rw (
+      whole e,
+      others (a .self) (a .self .body) (a .byte) (a .self .phase)
+          (c .before .match .keys6),
+      c .refused2 .ensures,
+    )
 
 carried-requires : tie.Need-carried-requires
 carried-requires c κs = search needs

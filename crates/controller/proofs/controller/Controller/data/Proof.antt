@@ -1,4 +1,5 @@
--- `controller::controller::Controller::data` meets its contract: whether the state is damaged, by the phase, and by the refusal.
+-- `controller::controller::Controller::data` meets its contract: whether the state is damaged, by the phase, and by the
+-- refusal.
 -- Assumes nothing.
 use borrow.Author.Needs.{needs}
 use borrow.Author.Tests.{eq-eqb, ne-eqb}
@@ -11,7 +12,8 @@ use denote.Enum.Declared.{tagOf}
 use Rattle.common.specs.Pick.{pick}
 use Rattle.common.specs.Refusals.{transferNotAwaited}
 use Rattle.link.specs.declared.state.Phase.{Phase}
-use Rattle.link.specs.declared.state.Phase.the-variants.{Collecting, AckOffered, Sending, GoOffered, DataAwaited, ResultAwaited, EndOffered}
+use Rattle.link.specs.declared.state.Phase.the-variants.{Collecting, AckOffered, Sending, GoOffered, DataAwaited}
+use Rattle.link.specs.declared.state.Phase.the-variants.{ResultAwaited, EndOffered}
 use Rattle.link.specs.declared.state.Body.{Body}
 use Rattle.link.specs.Damaged.{isSound}
 use Rattle.link.proofs.state.Phase.{the-type}
@@ -26,7 +28,8 @@ use Rattle.controller.proofs.controller.Controller.data.Tie as tie
 abbrev six : List ℕ
 six = 0 ∷ 1 ∷ 2 ∷ 3 ∷ 5 ∷ 6 ∷ []
 
-others : (c : Controller) (b : Body) (host : Host) (space check : List ℕ) (phase : Phase) → OneOf six (tagOf the-type phase) → dataIn c b host space check phase ≡ unchanged transferNotAwaited c space check
+others : (c : Controller) (b : Body) (host : Host) (space check : List ℕ) (phase : Phase)
+    → OneOf six (tagOf the-type phase) → dataIn c b host space check phase ≡ unchanged transferNotAwaited c space check
 unfolding dataIn
 others c b host space check (Collecting s) key = refl
 others c b host space check (AckOffered s) key = refl
@@ -37,7 +40,8 @@ others c b host space check (ResultAwaited operation store) key = refl
 others c b host space check (EndOffered interrupt) key = refl
 
 -- past the first test the state is sound
-whole : (c : tie.Else1) → let s = c .before .before .before .before .before .args .self in isSound (s .body) (s .phase) ≡ true
+whole : (c : tie.Else1)
+    → let s = c .before .before .before .before .before .args .self in isSound (s .body) (s .phase) ≡ true
 whole c = undamaged _ (c .before .is-damaged .ensures) (c .if1 .left)
 
 is-damaged-requires : tie.Need-is-damaged-requires
@@ -48,7 +52,12 @@ refused-transfer-requires c κs = search needs
 
 returns : tie.Need-returns
 unfolding dataCall pick
-returns c = rw (damaged (c .before .before .before .before .before .before .args .self) (c .before .before .is-damaged .ensures) (c .before .if1 .taken), c .refused-transfer .ensures)
+returns c =
+    rw (
+      damaged (c .before .before .before .before .before .before .args .self) (c .before .before .is-damaged .ensures)
+          (c .before .if1 .taken),
+      c .refused-transfer .ensures,
+    )
 
 enum-known-phase : tie.Need-enum-known-phase
 enum-known-phase c = search needs
@@ -63,7 +72,8 @@ returns-2 c =
     let a = e .before .before .before .before .before .args in
     rw (
       whole e,
-      others (a .self) (a .self .body) (hostOf (a .host .now) (a .place)) (a .space .now) (a .check .now) (a .self .phase) (c .before .match .keys2),
+      others (a .self) (a .self .body) (hostOf (a .host .now) (a .place)) (a .space .now) (a .check .now)
+          (a .self .phase) (c .before .match .keys2),
       c .refused-transfer2 .ensures,
     )
 

@@ -1,4 +1,5 @@
--- `controller::controller::Controller::report` meets its contract: whether the state is damaged and the drive is one of four.
+-- `controller::controller::Controller::report` meets its contract: whether the state is damaged and the drive is one of
+-- four.
 -- Assumes nothing.
 use borrow.Author.Needs.{needs}
 use borrow.Author.Tests.{le-leb, lt-leb}
@@ -16,7 +17,12 @@ refused-requires c κs = search needs
 
 returns : tie.Need-returns
 unfolding reportCall pick
-returns c = rw (damaged (c .before .before .before .args .self) (c .before .before .is-damaged .ensures) (c .before .if1 .taken), c .refused .ensures)
+returns c =
+    rw (
+      damaged (c .before .before .before .args .self) (c .before .before .is-damaged .ensures)
+          (c .before .if1 .taken),
+      c .refused .ensures,
+    )
 
 refused-requires-2 : tie.Need-refused-requires-2
 refused-requires-2 c κs = search needs
@@ -24,7 +30,8 @@ refused-requires-2 c κs = search needs
 returns-2 : tie.Need-returns-2
 unfolding reportCall pick
 returns-2 c = rw (
-  undamaged (c .before .before .before .before .args .self) (c .before .before .before .is-damaged .ensures) (c .before .before .if1 .left),
+  undamaged (c .before .before .before .before .args .self) (c .before .before .before .is-damaged .ensures)
+      (c .before .before .if1 .left),
   le-leb _ _ (c .before .if2 .taken),
   c .refused2 .ensures,
 )
@@ -32,16 +39,21 @@ returns-2 c = rw (
 note-report-requires : tie.Need-note-report-requires
 note-report-requires c κs = search needs
 
+keep-phase-requires : tie.Need-keep-phase-requires
+keep-phase-requires c κs = search needs
+
 carried-requires : tie.Need-carried-requires
 carried-requires c κs = search needs
 
 returns-3 : tie.Need-returns-3
 unfolding reportCall pick
 returns-3 c = rw (
-  undamaged (c .before .before .before .before .before .args .self) (c .before .before .before .before .is-damaged .ensures) (c .before .before .before .if1 .left),
-  lt-leb _ _ (c .before .before .if2 .left),
+  undamaged (c .before .before .before .before .before .before .args .self)
+      (c .before .before .before .before .before .is-damaged .ensures) (c .before .before .before .before .if1 .left),
+  lt-leb _ _ (c .before .before .before .if2 .left),
   c .carried .ensures,
-  c .before .note-report .ensures,
+  c .before .keep-phase .ensures,
+  c .before .before .note-report .ensures,
 )
 
 pub report-spec : {M : Type 1} → statement M
@@ -54,5 +66,6 @@ report-spec =
     refused-requires-2
     returns-2
     note-report-requires
+    keep-phase-requires
     carried-requires
     returns-3)

@@ -15,7 +15,12 @@ refused-requires c κs = search needs
 
 returns : tie.Need-returns
 unfolding resetCall pick
-returns c = rw (damaged (c .before .before .before .args .self) (c .before .before .is-damaged .ensures) (c .before .if1 .taken), c .refused .ensures)
+returns c =
+    rw (
+      damaged (c .before .before .before .args .self) (c .before .before .is-damaged .ensures)
+          (c .before .if1 .taken),
+      c .refused .ensures,
+    )
 
 reset-state-requires : tie.Need-reset-state-requires
 reset-state-requires c κs = search needs
@@ -26,7 +31,8 @@ carried-requires c κs = search needs
 returns-2 : tie.Need-returns-2
 unfolding resetCall pick
 returns-2 c = rw (
-  undamaged (c .before .before .before .before .args .self) (c .before .before .before .is-damaged .ensures) (c .before .before .if1 .left),
+  undamaged (c .before .before .before .before .args .self) (c .before .before .before .is-damaged .ensures)
+      (c .before .before .if1 .left),
   c .carried .ensures,
   c .before .reset-state .ensures,
 )

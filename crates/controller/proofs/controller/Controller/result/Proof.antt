@@ -1,4 +1,5 @@
--- `controller::controller::Controller::result` meets its contract: whether the state is damaged, by the phase, and by the refusal.
+-- `controller::controller::Controller::result` meets its contract: whether the state is damaged, by the phase, and by
+-- the refusal.
 -- Assumes nothing.
 use borrow.Author.Needs.{needs}
 use borrow.Author.Tests.{eq-eqb, ne-eqb}
@@ -11,7 +12,8 @@ use denote.Enum.Declared.{tagOf}
 use Rattle.common.specs.Pick.{pick}
 use Rattle.common.specs.Refusals.{transferNotAwaited}
 use Rattle.link.specs.declared.state.Phase.{Phase}
-use Rattle.link.specs.declared.state.Phase.the-variants.{Collecting, AckOffered, Sending, GoOffered, DataAwaited, ResultAwaited, EndOffered}
+use Rattle.link.specs.declared.state.Phase.the-variants.{Collecting, AckOffered, Sending, GoOffered, DataAwaited}
+use Rattle.link.specs.declared.state.Phase.the-variants.{ResultAwaited, EndOffered}
 use Rattle.link.specs.declared.state.Body.{Body}
 use Rattle.link.specs.Damaged.{isSound}
 use Rattle.link.proofs.state.Phase.{the-type}
@@ -26,7 +28,8 @@ use Rattle.controller.proofs.controller.Controller.result.Tie as tie
 abbrev six : List ℕ
 six = 0 ∷ 1 ∷ 2 ∷ 3 ∷ 4 ∷ 6 ∷ []
 
-others : (c : Controller) (b : Body) (r : Result) (space check : List ℕ) (phase : Phase) → OneOf six (tagOf the-type phase) → resultIn c b r space check phase ≡ unchanged transferNotAwaited c space check
+others : (c : Controller) (b : Body) (r : Result) (space check : List ℕ) (phase : Phase)
+    → OneOf six (tagOf the-type phase) → resultIn c b r space check phase ≡ unchanged transferNotAwaited c space check
 unfolding resultIn
 others c b r space check (Collecting s) key = refl
 others c b r space check (AckOffered s) key = refl
@@ -37,7 +40,8 @@ others c b r space check (ResultAwaited operation store) key = absurd (miss six 
 others c b r space check (EndOffered interrupt) key = refl
 
 -- past the first test the state is sound
-whole : (c : tie.Else1) → let s = c .before .before .before .before .before .before .args .self in isSound (s .body) (s .phase) ≡ true
+whole : (c : tie.Else1)
+    → let s = c .before .before .before .before .before .before .args .self in isSound (s .body) (s .phase) ≡ true
 whole c = undamaged _ (c .before .is-damaged .ensures) (c .if1 .left)
 
 is-damaged-requires : tie.Need-is-damaged-requires
@@ -48,7 +52,12 @@ refused-transfer-requires c κs = search needs
 
 returns : tie.Need-returns
 unfolding resultCall pick
-returns c = rw (damaged (c .before .before .before .before .before .before .before .args .self) (c .before .before .is-damaged .ensures) (c .before .if1 .taken), c .refused-transfer .ensures)
+returns c =
+    rw (
+      damaged (c .before .before .before .before .before .before .before .args .self)
+          (c .before .before .is-damaged .ensures) (c .before .if1 .taken),
+      c .refused-transfer .ensures,
+    )
 
 enum-known-phase : tie.Need-enum-known-phase
 enum-known-phase c = search needs
@@ -63,7 +72,8 @@ returns-2 c =
     let a = e .before .before .before .before .before .before .args in
     rw (
       whole e,
-      others (a .self) (a .self .body) (resultOf (a .code) (a .mark) (a .late) (a .image .now) (a .marks .now)) (a .space .now) (a .check .now) (a .self .phase) (c .before .match .keys2),
+      others (a .self) (a .self .body) (resultOf (a .code) (a .mark) (a .late) (a .image .now) (a .marks .now))
+          (a .space .now) (a .check .now) (a .self .phase) (c .before .match .keys2),
       c .refused-transfer2 .ensures,
     )
 

@@ -9,7 +9,8 @@ use denote.Enum.Declared.{tagOf}
 use Rattle.common.specs.Pick.{pick}
 use Rattle.common.specs.Refusals.{linkNotAwaited}
 use Rattle.link.specs.declared.state.Phase.{Phase}
-use Rattle.link.specs.declared.state.Phase.the-variants.{Collecting, AckOffered, Sending, GoOffered, DataAwaited, ResultAwaited, EndOffered}
+use Rattle.link.specs.declared.state.Phase.the-variants.{Collecting, AckOffered, Sending, GoOffered, DataAwaited}
+use Rattle.link.specs.declared.state.Phase.the-variants.{ResultAwaited, EndOffered}
 use Rattle.link.specs.declared.state.Body.{Body}
 use Rattle.link.proofs.state.Phase.{the-type}
 use Rattle.controller.specs.declared.controller.Controller.{Controller}
@@ -23,7 +24,8 @@ use Rattle.controller.proofs.controller.Controller.taken.Tie as tie
 abbrev six : List ℕ
 six = 0 ∷ 2 ∷ 3 ∷ 4 ∷ 5 ∷ 6 ∷ []
 
-others : (c : Controller) (b : Body) (phase : Phase) → OneOf six (tagOf the-type phase) → takenIn c b phase ≡ refused linkNotAwaited c
+others : (c : Controller) (b : Body) (phase : Phase) → OneOf six (tagOf the-type phase)
+    → takenIn c b phase ≡ refused linkNotAwaited c
 unfolding takenIn
 others c b (Collecting s) key = refl
 others c b (AckOffered s) key = absurd (miss six 1 tt key)
@@ -41,7 +43,12 @@ refused-requires c κs = search needs
 
 returns : tie.Need-returns
 unfolding takenCall pick
-returns c = rw (damaged (c .before .before .before .args .self) (c .before .before .is-damaged .ensures) (c .before .if1 .taken), c .refused .ensures)
+returns c =
+    rw (
+      damaged (c .before .before .before .args .self) (c .before .before .is-damaged .ensures)
+          (c .before .if1 .taken),
+      c .refused .ensures,
+    )
 
 enum-known-phase : tie.Need-enum-known-phase
 enum-known-phase c = search needs
@@ -54,7 +61,12 @@ unfolding takenCall pick
 returns-2 c =
     let e = c .before .before in
     let s = e .before .before .args .self in
-    rw (undamaged (e .before .before .args .self) (e .before .is-damaged .ensures) (e .if1 .left), others s (s .body) (s .phase) (c .before .match .keys2), c .refused2 .ensures)
+    rw (
+      undamaged (e .before .before .args .self) (e .before .is-damaged .ensures) (e .if1 .left),
+      others s (s .body)
+          (s .phase) (c .before .match .keys2),
+      c .refused2 .ensures,
+    )
 
 carry-out-string-requires : tie.Need-carry-out-string-requires
 carry-out-string-requires c κs = search needs

@@ -1,38 +1,14 @@
--- `controller::controller::Controller::tick` meets its contract: whether the state is damaged, by the phase, and whether nothing is collected.
+-- `controller::controller::Controller::tick` meets its contract: whether the state is damaged, and whether it is idle.
 -- Assumes nothing.
 use borrow.Author.Needs.{needs}
-use borrow.Author.Tests.{eq-eqb, ne-eqb}
-use Prim.Native.Nat.{ℕ}
-use mathlib.Core.Path.{_≡_, refl}
-use mathlib.Core.List.{List, [], _∷_}
-use types.Run.{OneOf, miss}
-use denote.Enum.Declared.{tagOf}
+use borrow.Author.Tests.{not-true, not-false}
+use mathlib.Core.Path.{sym, _∙_}
 use Rattle.common.specs.Pick.{pick}
-use Rattle.common.specs.Refusals.{notIdle}
-use Rattle.link.specs.declared.state.Phase.{Phase}
-use Rattle.link.specs.declared.state.Phase.the-variants.{Collecting, AckOffered, Sending, GoOffered, DataAwaited, ResultAwaited, EndOffered}
-use Rattle.link.specs.declared.state.Body.{Body}
-use Rattle.link.proofs.state.Phase.{the-type}
-use Rattle.controller.specs.declared.controller.Controller.{Controller}
-use Rattle.controller.specs.Controller.{refused}
-use Rattle.controller.specs.Machine.{tickIn, tickCall}
+use Rattle.controller.specs.Machine.{tickCall}
 use Rattle.controller.proofs.DamageLaws.{damaged, undamaged}
+use Rattle.controller.proofs.IdleLaws.{tick-by-idle}
 use Rattle.controller.proofs.controller.Controller.tick.Statement.{statement}
 use Rattle.controller.proofs.controller.Controller.tick.Tie as tie
-
--- the phases other than collecting, by their numbers
-abbrev six : List ℕ
-six = 1 ∷ 2 ∷ 3 ∷ 4 ∷ 5 ∷ 6 ∷ []
-
-others : (c : Controller) (b : Body) (phase : Phase) → OneOf six (tagOf the-type phase) → tickIn c b phase ≡ refused notIdle c
-unfolding tickIn
-others c b (Collecting s) key = absurd (miss six 0 tt key)
-others c b (AckOffered s) key = refl
-others c b (Sending send) key = refl
-others c b (GoOffered store) key = refl
-others c b (DataAwaited store) key = refl
-others c b (ResultAwaited operation store) key = refl
-others c b (EndOffered interrupt) key = refl
 
 is-damaged-requires : tie.Need-is-damaged-requires
 is-damaged-requires c κs = search needs
@@ -42,10 +18,15 @@ refused-requires c κs = search needs
 
 returns : tie.Need-returns
 unfolding tickCall pick
-returns c = rw (damaged (c .before .before .before .args .self) (c .before .before .is-damaged .ensures) (c .before .if1 .taken), c .refused .ensures)
+returns c =
+    rw (
+      damaged (c .before .before .before .args .self) (c .before .before .is-damaged .ensures)
+          (c .before .if1 .taken),
+      c .refused .ensures,
+    )
 
-enum-known-phase : tie.Need-enum-known-phase
-enum-known-phase c = search needs
+is-idle-requires : tie.Need-is-idle-requires
+is-idle-requires c κs = search needs
 
 refused-requires-2 : tie.Need-refused-requires-2
 refused-requires-2 c κs = search needs
@@ -53,9 +34,15 @@ refused-requires-2 c κs = search needs
 returns-2 : tie.Need-returns-2
 unfolding tickCall pick
 returns-2 c =
-    let e = c .before .before in
+    let i = c .before .before in
+    let e = i .before in
     let s = e .before .before .args .self in
-    rw (undamaged (e .before .before .args .self) (e .before .is-damaged .ensures) (e .if1 .left), others s (s .body) (s .phase) (c .before .match .keys2), c .refused2 .ensures)
+    rw (
+      undamaged s (e .before .is-damaged .ensures) (e .if1 .left),
+      tick-by-idle s (s .body) (s .phase),
+      sym (i .is-idle .ensures) ∙ not-true _ (c .before .if2 .taken),
+      c .refused2 .ensures,
+    )
 
 idle-tick-requires : tie.Need-idle-tick-requires
 idle-tick-requires c κs = search needs
@@ -64,33 +51,17 @@ carried-requires : tie.Need-carried-requires
 carried-requires c κs = search needs
 
 returns-3 : tie.Need-returns-3
-unfolding tickCall tickIn pick
+unfolding tickCall pick
 returns-3 c =
-    let i = c .before .before in
-    let t = i .before .before .before in
-    let e = t .before .before in
+    let i = c .before .before .before in
+    let e = i .before in
+    let s = e .before .before .args .self in
     rw (
-      undamaged (e .before .before .args .self) (e .before .is-damaged .ensures) (e .if1 .left),
-      t .phase .given .1,
-      eq-eqb _ _ (i .if2 .taken),
+      undamaged s (e .before .is-damaged .ensures) (e .if1 .left),
+      tick-by-idle s (s .body) (s .phase),
+      sym (i .is-idle .ensures) ∙ not-false _ (c .before .before .if2 .left),
       c .carried .ensures,
       c .before .idle-tick .ensures,
-    )
-
-refused-requires-3 : tie.Need-refused-requires-3
-refused-requires-3 c κs = search needs
-
-returns-4 : tie.Need-returns-4
-unfolding tickCall tickIn pick
-returns-4 c =
-    let i = c .before in
-    let t = i .before .before .before in
-    let e = t .before .before in
-    rw (
-      c .refused3 .ensures,
-      undamaged (e .before .before .args .self) (e .before .is-damaged .ensures) (e .if1 .left),
-      t .phase .given .1,
-      ne-eqb _ _ (i .if2 .left),
     )
 
 pub tick-spec : {M : Type 1} → statement M
@@ -100,11 +71,9 @@ tick-spec =
     is-damaged-requires
     refused-requires
     returns
-    enum-known-phase
+    is-idle-requires
     refused-requires-2
     returns-2
     idle-tick-requires
     carried-requires
-    returns-3
-    refused-requires-3
-    returns-4)
+    returns-3)

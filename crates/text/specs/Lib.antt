@@ -1,0 +1,5 @@
+pub mod Limits
+pub mod Characters
+pub mod Digits
+pub mod Fields
+pub mod Print
