@@ -2,32 +2,44 @@
 -- `calls-refine-the-machine`: a list of exchanges from a fresh controller in which every answer is one that the
 -- contract of its call's own function allows is the machine's run. 3: `drives-do-not-interfere`: the drives are
 -- separate in any two such lists; `stores-on-different-drives-commute`: stores of different drives may be reordered,
--- from any idle state. And of every such list: `calls-count-their-own-record`, and `calls-order-what-was-asked` and
--- `calls-hand-back-each-record`; of any result: `calls-ask-trusted-retries`.
+-- from any idle state, and `stores-complete-in-every-order`: they are completed in each, by `six-answers-suffice` in
+-- six answers. And of every such list: `calls-count-their-own-record`, `calls-order-what-was-asked` and
+-- `calls-hand-back-each-record`; in the papers' own numbers `drives-are-a-ledger`, `orders-are-allowed-by-the-ledger`
+-- and `what-is-carried-out-is-what-came`; of any result: `calls-ask-trusted-retries`.
 -- Assumes nothing.
 pub mod Contracts
 use mathlib.Core.Path.{_≡_, refl, sym, ap, ap₂, subst, subst₂, _∙_}
 use Prim.Native.Nat.{ℕ}
+use mathlib.Core.Bool.{true}
 use mathlib.Core.List.{List, [], _∷_, _++_}
+use Rattle.status.specs.Drives.{driveOf}
 use Rattle.controller.specs.declared.controller.Controller.{Controller}
-use Rattle.controller.specs.Controller.{fresh}
+use Rattle.controller.specs.Controller.{fresh, isIdle}
 use Rattle.controller.specs.Records.{Answer}
 use Rattle.controller.specs.Machine.{Call, Exchange, step, run}
 use Rattle.controller.specs.Machine.Call.{result}
 use Rattle.transfers.specs.Results.{Result}
 use Rattle.controller.specs.Refused.{RefusedUnchanged}
 use Rattle.controller.specs.Lists.{after}
-use Rattle.controller.specs.Separation.{Separate}
+use Rattle.controller.specs.Separation.{EndsAlike, Separate}
 use Rattle.controller.specs.JobOrder.{allOf, OrderIsFree}
+use Rattle.controller.specs.AnyOrder.{Entry, afterAll, allCalls}
+use Rattle.controller.specs.Scripts.{Script, scriptCalls, Scheduled, entriesOf, SixSuffice, StoresComplete}
 use Rattle.controller.specs.Counts.{CountsAreOwn}
 use Rattle.controller.specs.Orders.{OrdersAreAsked}
+use Rattle.controller.specs.Ledger.{DrivesAreALedger, OrdersAreAllowed}
+use Rattle.controller.specs.Received.{CarriedOutAsReceived}
 use Rattle.controller.specs.Retry.{RetryTrusted}
 use Rattle.controller.specs.Handed.{RecordsAreHanded}
 use Rattle.controller.proofs.RefusedCalls.{steps-refused-unchanged}
 use Rattle.controller.proofs.DrivesAreSeparate.{drives-are-separate}
 use Rattle.controller.proofs.OrderIsFree.{runs, order-is-free}
+use Rattle.controller.proofs.TicksRest.{scripts-in-any-order, all-calls-after, all-done-idle}
+use Rattle.controller.proofs.SixAnswers.{six-suffice}
 use Rattle.controller.proofs.CountsAreOwn.{counts-are-own}
 use Rattle.controller.proofs.OrdersAreAsked.{orders-are-asked}
+use Rattle.controller.proofs.DrivesAreALedger.{ledger-is-kept, orders-are-allowed}
+use Rattle.controller.proofs.ReceivedStrings.{carried-out-as-received}
 use Rattle.controller.proofs.RetriesAreTrusted.{retries-are-trusted}
 use Rattle.controller.proofs.RecordsAreHanded.{records-are-handed}
 use Rattle.controller.proofs.controller.fresh_controller.Reads as fresh-reads
@@ -129,6 +141,44 @@ stores-on-different-drives-commute c stores others one two =
     subst₂ (OrderIsFree c) (sym (made-all-run c stores one)) (sym (made-all-run c others two))
     (order-is-free c (callsOfAll stores) (callsOfAll others))
 
+-- the state that calls of transactions leave, one after the other
+made-after : (c : Controller) (entries : List Entry) (xs : List Exchange) → Made c xs → callsOf xs ≡ allCalls c entries
+    → afterAll c entries ≡ after c xs
+made-after c entries xs made same =
+    sym (all-calls-after c entries)
+    ∙ sym (ap (after c) (made-runs c xs made ∙ ap (run c) same))
+
+-- Stores that were completed in one order are completed in every other that keeps each drive's own, and the drives end
+-- alike: nothing is assumed of the other list but that it has the same stores, with the same answers. From any idle and
+-- undamaged state.
+pub stores-complete-in-every-order : (c : Controller) (scripts others : List Scheduled) (xs ys : List Exchange)
+    → Made c xs
+    → callsOf xs ≡ allCalls c (entriesOf scripts)
+    → Made c ys
+    → callsOf ys ≡ allCalls c (entriesOf others)
+    → StoresComplete c scripts others xs ys
+stores-complete-in-every-order c scripts others xs ys one first two second idle sound done own =
+    let both = scripts-in-any-order c scripts others idle sound done own in
+    let here = made-after c (entriesOf scripts) xs one first in
+    let there = made-after c (entriesOf others) ys two second in
+    record {
+      done = both .done;
+      idle =
+          subst (λ (k : Controller). isIdle k ≡ true) there
+          (all-done-idle c (entriesOf others) idle (both .done));
+      ends =
+          λ d low.
+          subst₂ (λ (k l : Controller). EndsAlike (driveOf (k .body .drives) d) (driveOf (l .body .drives) d))
+          here there
+          (both .ends d low);
+    }
+
+-- A store of which no call is refused ends idle within the six answers of its script: whatever state it begins in.
+pub six-answers-suffice : (c : Controller) (script : Script) (xs : List Exchange) → Made c xs
+    → callsOf xs ≡ scriptCalls script c → SixSuffice c xs
+six-answers-suffice c script xs made same =
+    subst (SixSuffice c) (sym (made-runs c xs made ∙ ap (run c) same)) (six-suffice c script)
+
 -- ---- claims over every list, resets and stores that name no drive included
 
 -- Wherever primary's bit 22 is set, secondary is the count of the record that the last store carried out itself passed
@@ -148,6 +198,28 @@ calls-order-what-was-asked xs made =
 pub calls-hand-back-each-record : (xs : List Exchange) → FromFresh xs → RecordsAreHanded xs
 calls-hand-back-each-record xs made =
     subst RecordsAreHanded (sym (calls-refine-the-machine xs made)) (records-are-handed (callsOf xs))
+
+-- ---- claims in the papers' own numbers, over every list
+
+-- Each drive's report, track, density, gap and guard are what its reports, stores and results give it: "A report without
+-- 32 makes that gap 3."; "A new track sets the gap to 0 if BOT is reported, else 3"; "Gap: 00 keeps it, 11 gives 3; ..".
+pub drives-are-a-ledger : (xs : List Exchange) → FromFresh xs → DrivesAreALedger xs
+drives-are-a-ledger xs made =
+    subst (λ (l : List Exchange). DrivesAreALedger l) (sym (calls-refine-the-machine xs made))
+    (ledger-is-kept (callsOf xs))
+
+-- Every motion order was allowed by the drive's report, guard and gap in that ledger when its store was carried out: an
+-- order 50, 24 or 60 by a report with 32 and 2 and none of 4, 8 and 128, and by a guard that is clear, a gap 0 or a
+-- report with 16; every other by its own line.
+pub orders-are-allowed-by-the-ledger : (xs : List Exchange) → FromFresh xs → OrdersAreAllowed xs
+orders-are-allowed-by-the-ledger xs made =
+    subst OrdersAreAllowed (sym (calls-refine-the-machine xs made)) (orders-are-allowed (callsOf xs))
+
+-- A store that is carried out is the last eight bytes that came, #64 first, and a load the last four, #62 first; "All
+-- bytes XOR to 0".
+pub what-is-carried-out-is-what-came : (xs : List Exchange) → FromFresh xs → CarriedOutAsReceived xs
+what-is-carried-out-is-what-came xs made =
+    subst CarriedOutAsReceived (sym (calls-refine-the-machine xs made)) (carried-out-as-received (callsOf xs))
 
 -- ---- the retry bit
 

@@ -33,7 +33,7 @@ use Rattle.controller.proofs.DrivesAreSeparate.{determined, seen-alike}
 
 -- ---- an idle state
 
-idle-free : (phase : Phase) → isIdleIn phase ≡ true → Free phase
+pub idle-free : (phase : Phase) → isIdleIn phase ≡ true → Free phase
 unfolding isIdleIn Free
 idle-free =
     each-phase (λ (phase : Phase). isIdleIn phase ≡ true → Free phase) (λ s idle. tt) (λ s idle. tt) (λ send idle. tt)
@@ -60,7 +60,7 @@ told-all-without v (event ∷ events) =
 
 module _ (d : ℕ) where
   -- no store of these is the drive's
-  NoneOf : List Store → Type 0
+  unfoldable pub NoneOf : List Store → Type 0
   NoneOf [] = Unit
   NoneOf (store ∷ stores) = (isOf d store ≡ false) × NoneOf stores
 
@@ -94,7 +94,7 @@ module _ (d : ℕ) where
       ∙ pick-both (notRefused x) [])
 
   -- a list without reports, and without a store of the drive, is not in its history
-  no-history :
+  pub no-history :
       (xs : List Exchange) (last : Store) (c : Controller)
       → isOf d last ≡ false
       → NoneOf (storesFrom c xs)
@@ -120,7 +120,7 @@ module _ (d : ℕ) where
 -- ---- a completed store
 
 -- before the first store nothing is any drive's
-none-names : (d : ℕ) → isOf d noStore ≡ false
+pub none-names : (d : ℕ) → isOf d noStore ≡ false
 unfolding isOf namesDrive
 none-names d = refl
 
@@ -153,7 +153,7 @@ module _ (d : ℕ) (low : d ≤ 3) where
         ∙ sym (ap (λ (v : View). v .drive) (told-all-without (resting (seen d (c .body))) _))
 
     -- a store of another
-    other-ended : eqb (namedDrive (firstOf (storesFrom c (run c calls)))) d ≡ false
+    pub other-ended : eqb (namedDrive (firstOf (storesFrom c (run c calls)))) d ≡ false
         → seen d (after c (run c calls) .body) ≡ seen d (c .body)
     unfolding NoneOf isOf toldAll
     other-ended other =

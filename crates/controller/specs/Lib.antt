@@ -6,7 +6,11 @@ pub mod Refused
 pub mod Lists
 pub mod Separation
 pub mod JobOrder
+pub mod AnyOrder
+pub mod Scripts
 pub mod Counts
 pub mod Orders
+pub mod Ledger
+pub mod Received
 pub mod Retry
 pub mod Handed

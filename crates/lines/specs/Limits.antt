@@ -3,6 +3,7 @@
 -- program's own, and do not follow the most bytes of a record.
 -- Assumes nothing.
 use Prim.Native.Nat.{ℕ, _+_, _*_}
+use Rattle.text.specs.Limits.{refusalMost}
 
 -- "Host bytes and space go to 16,384"
 abbrev pub hostLimit : ℕ
@@ -28,7 +29,7 @@ actionMost = 2 * 6
 
 -- a refusal of two digits, the action's letter and its bytes, each with a comma
 abbrev pub headMost : ℕ
-headMost = 3 + 2 + actionMost + 1
+headMost = refusalMost + 1 + 2 + actionMost + 1
 
 -- a head and #0A
 abbrev pub replyMost : ℕ

@@ -1,6 +1,7 @@
 // The limits of a line and of the text that is printed for it. Document 01: "Host bytes and space go to 16,384, an
 // image to 16,898 bytes, marks to 66; beyond that a line is unreadable. The program's image space is 16,898 bytes".
 // They are the session program's own, and do not follow the most bytes of a record.
+use text::limits::REFUSAL_MOST;
 
 // The most host bytes of a data line, and the most space that a result is lent.
 pub const HOST_LIMIT: usize = 16384;
@@ -24,7 +25,7 @@ pub const FLAG_LIMIT: usize = 1;
 const ACTION_MOST: usize = 2 * 6;
 
 // The longest head of an answer: a refusal of two digits, the action's letter and its bytes, each with a comma.
-const HEAD_MOST: usize = 3 + 2 + ACTION_MOST + 1;
+const HEAD_MOST: usize = REFUSAL_MOST + 1 + 2 + ACTION_MOST + 1;
 
 // The longest answer that gives no bytes: a head and #0A.
 const REPLY_MOST: usize = HEAD_MOST + 1;

@@ -16,6 +16,9 @@ ghost use Rattle.queues.specs.Jobs.{nextStore, served};
 // The number of jobs.
 pub const JOBS: u8 = 4;
 
+// Served last before any: "job 0 comes first at the start (last served 3)".
+const LAST_JOB: u8 = JOBS - 1;
+
 // A queue for each job, and the job that was served last.
 pub struct Queues {
     pub q0: Queue,
@@ -41,7 +44,7 @@ pub fn fresh_queues() -> Queues
         q1: empty,
         q2: empty,
         q3: empty,
-        last: 3,
+        last: LAST_JOB,
     }
 }
 

@@ -9,7 +9,7 @@ ghost use Rattle.text.specs.Limits.{refusalMost, recordMost};
 ghost use Rattle.text.specs.Print.{digitOf, byteText, bytesText, decimalText, refusalText, recordText};
 
 // A digit below 16.
-pub fn digit_of(n: u8) -> u8
+fn digit_of(n: u8) -> u8
     requires { ⌜ n < 16 ⌝ }
     ensures { λ r. ⌜ r ≡ digitOf n ⌝ }
 {

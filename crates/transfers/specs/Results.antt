@@ -1,4 +1,4 @@
--- The result (document 01, Records; document 02, Wishes 1 and 2), as far as it concerns one drive: its refusals, the
+-- The result (document 01, Records; document 02, requests 1 and 2), as far as it concerns one drive: its refusals, the
 -- verdict on it, and what is told by that: the bytes that are delivered, the check store, the status words and the gap.
 -- Assumes nothing.
 use Prim.Native.Nat.{ℕ, _*_, _/_, _%_, min}
