@@ -1,5 +1,6 @@
-# Makes must-fail edits: each 'old:' text must stand exactly once in the file that the 'file:' line before it names, the changes before it made.
-# What does not fit is told. With `into`, a folder, the changed files of the edit are written there; without, nothing is.
+# Makes the edits that must fail: those of a crate's must-fail/, in that crate, and the wrong machines of tests/wrong, in the whole repository.
+# Each 'old:' text must stand exactly once in the file that the 'file:' line before it names, the changes before it made. What does not fit is
+# told. With `into`, a folder, the changed files of the edit are written there; without, nothing is.
 function fail(what) {
     failed++
     bad = 1
@@ -9,7 +10,7 @@ function fail(what) {
 function opened(name,    path, line) {
     if (name in text) return
     path = edit
-    sub(/must-fail\/.*/, "", path)
+    sub(/(must-fail|tests\/wrong)\/.*/, "", path)
     path = path name
     text[name] = ""
     while ((getline line < path) > 0) text[name] = text[name] line "\n"
@@ -44,7 +45,7 @@ $1 == "new:" && at { text[file] = substr(text[file], 1, at - 1) value() substr(t
 END {
     done()
     if (into == "") {
-        if (passed && !failed) print "ok " passed " must-fail edits find what they edit"
+        if (passed && !failed) print "ok " passed " edits find what they edit"
         print (passed && !failed) + 0 " passed, " (passed ? failed + 0 : failed + 1) " failed"
     }
     exit failed > 0 || passed == 0

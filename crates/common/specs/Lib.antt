@@ -1,3 +1,4 @@
 pub mod Pick
 pub mod Space
 pub mod Refusals
+pub mod FirstOf

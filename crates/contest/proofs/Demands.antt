@@ -1,7 +1,8 @@
 -- The theorems of the contest, of the functions by their contracts. They return, whatever they are handed:
--- `calls-meet-their-contracts`. Yes is answered exactly where the stores are enough: `yes-from-a-proper-gap`,
--- `yes-from-an-improper-gap`. The first store that is given wins, and a write is given wherever one wins:
--- `first-store-given-wins`, `write-given-wherever-it-wins`, `store-given-with-a-yes`.
+-- `calls-meet-their-contracts`. They are refused above the limits, and nowhere else:
+-- `questions-are-refused-above-their-limits`, `contests-are-refused-above-their-limits`. Yes is answered exactly where
+-- the stores are enough: `yes-from-a-proper-gap`, `yes-from-an-improper-gap`. The first store that is given wins, and a
+-- write is given wherever one wins: `first-store-given-wins`, `write-given-wherever-it-wins`, `store-given-with-a-yes`.
 -- Assumes nothing.
 use mathlib.Core.Path.{_≡_, sym, ap, subst, _∙_}
 use Prim.Native.Nat.{ℕ, _+_, _*_}
@@ -23,10 +24,13 @@ use Rattle.contest.specs.declared.contest.Answer.the-variants.{Refused, 
 use Rattle.contest.specs.Contest.{Position, positionOf, isFinished, forces, begins, openingOf}
 use Rattle.contest.specs.Bound.{neededStores}
 use Rattle.contest.specs.Answer.{isAboveLimit, solve, isYes}
+use Rattle.contest.specs.Refused.{SolveRefused, ContestRefused}
+use Rattle.contest.proofs.RefusedQuestions.{solve-refused, contest-refused}
 use Rattle.contest.proofs.ContestLaws.{fails-and-holds, forces-none, forces-some, begun-forces, else-skip-first}
 use Rattle.contest.proofs.contest.solve.Reads as answer-reads
 use Rattle.contest.proofs.contest.solve.Met as answer-met
 use Rattle.contest.proofs.contest.solve.Statement as answer-statement
+use Rattle.contest.proofs.interface.ctc_contest.Reads as contest-reads
 use Rattle.contest.proofs.interface.ctc_contest.Met as contest-met
 use Rattle.contest.proofs.interface.ctc_contest.Statement as contest-statement
 
@@ -92,6 +96,10 @@ write-wherever-it-wins n p some write = simp (some, begun-forces n Write p write
 
 module _ (κs : Lfts 0) (gap : Gap) (w n f : ℕ) (r : Answer)
     (allowed : answer-reads.Post κs (gap, (w, (n, (f, tt)))) r (gap, (w, (n, (f, tt))))) where
+  -- "20 a number above its limit", and no other refusal
+  pub questions-are-refused-above-their-limits : SolveRefused w n f r
+  questions-are-refused-above-their-limits = subst (SolveRefused w n f) (sym allowed) (solve-refused gap w n f)
+
   -- within the limits, yes exactly where the driver can force all
   answer-is-yes : isAboveLimit w n f ≡ false → isYes r ≡ forces n (positionOf gap w f)
   unfolding solve isYes pick
@@ -142,3 +150,11 @@ module _ (κs : Lfts 0) (gap : Gap) (w n f : ℕ) (r : Answer)
       (λ none. no-store-is-no-store {store = SkipReverse}
       (sym (cc (simp (within, yes, ne-eqb w 0 some, none) at says)))))
       (λ no. no-is-no-yes (simp (within, no) at says)))
+
+-- ---- the number that C is answered
+
+-- "20 a number above its limit", the gap's too, and no other refusal
+pub contests-are-refused-above-their-limits : (κs : Lfts 0) (gap w n f r : ℕ)
+    → contest-reads.Post κs (gap, (w, (n, (f, tt)))) r (gap, (w, (n, (f, tt)))) → ContestRefused gap w n f r
+contests-are-refused-above-their-limits κs gap w n f r allowed =
+    subst (ContestRefused gap w n f) (sym allowed) (contest-refused gap w n f)

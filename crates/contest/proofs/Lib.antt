@@ -1,3 +1,4 @@
 pub mod ContestLaws
+pub mod RefusedQuestions
 pub mod Demands
 pub mod WrongAnswers

@@ -6,6 +6,6 @@ use Prim.Native.Nat.{ℕ, _+_}
 abbrev pub contestMost : ℕ
 contestMost = 2 + 2 + 2 + 1
 
--- "?,-,-" and #0A
+-- ?,-,- and #0A
 abbrev pub contestUnreadableLength : ℕ
 contestUnreadableLength = 6

@@ -4,10 +4,10 @@
 -- Assumes nothing.
 use mathlib.Core.Path.{_≡_, refl, sym, ap, subst, _∙_}
 use Prim.Native.Nat.{ℕ, _≤_}
-use mathlib.Core.Bool.{true, false, not, _&&_, false≢true}
+use mathlib.Core.Bool.{Bool, true, false, not, _&&_, false≢true}
 use mathlib.Core.List.{List, [], _∷_}
 use lib.Dec.{leb, eqb}
-use borrow.Author.Tests.{eqb-true, eq-eqb, leb-true, le-leb, not-true}
+use borrow.Author.Tests.{eqb-true, eq-eqb, ne-eqb, leb-true, le-leb, not-true}
 use Rattle.common.specs.Pick.{pick}
 use Rattle.common.proofs.PickLaws.{by-test, both-hold, pick-yes, pick-no}
 use Rattle.status.specs.declared.drives.Drive.{Drive}
@@ -29,7 +29,7 @@ use Rattle.controller.specs.Separation.{Event, historyFrom, resets, admi
 use Rattle.controller.specs.JobOrder.{storesFrom, firstOf}
 use Rattle.controller.specs.AnyOrder.{Transaction, afterCalls, afterTransaction, Sound, DoneBy, Done, Rests}
 use Rattle.controller.specs.AnyOrder.{Entry, begun, afterEntry, AllDone, AllRest, afterAll, ownTransactions}
-use Rattle.controller.specs.AnyOrder.{AnyOrder, SameDrive, ByOwnDrive}
+use Rattle.controller.specs.AnyOrder.{AnyOrder, SameDrive, ByOwnDrive, SameInOrder}
 use Rattle.controller.proofs.Steps.Resting.{seen}
 use Rattle.controller.proofs.DrivesAreSeparate.{determined, seen-alike}
 use Rattle.controller.proofs.DrivesAreSeparate.OneDrive.{View, resting, toldAll}
@@ -285,36 +285,74 @@ own-done d c (entry ∷ transactions) idle (rests, (done, all)) =
 
 -- ---- the other order
 
-record Ends (o : Controller) (others : List Entry) (last : ℕ → Drive) : Type 0 where
-  done : AllDone o others
-  ends : (d : ℕ) → kept d (afterAll o others .body) ≡ last d
+-- a transaction of a number of which no order is kept is done wherever it begins idle and undamaged
+unfoldable pub AllAnywhere : (ℕ → Bool) → List Entry → Type 0
+AllAnywhere ordered [] = Unit
+AllAnywhere ordered (entry ∷ entries) =
+    (ordered (entry .transaction .drive) ≡ false → (o : Controller) → isIdle o ≡ true → Sound o
+    → Done o (entry .transaction))
+    × AllAnywhere ordered entries
 
-reordered : (others : List Entry) (o : Controller) (last : ℕ → Drive) → isIdle o ≡ true → Sound o → AllRest o others
-    → ((d : ℕ) → DoneOn d (kept d (o .body)) (last d) (ownTransactions d others))
-    → Ends o others last
-unfolding AllDone AllRest afterAll ownTransactions DoneOn
-reordered [] o last idle sound rest each = record { done = tt; ends = each }
-reordered (entry ∷ others) o last idle sound (first, all) each =
-    let transaction = entry .transaction in
-    let n = transaction .drive in
-    let at = begun o entry in
-    let rests = first idle sound in
-    let now : (d : ℕ) → DoneOn d (kept d (at .body)) (last d) (ownTransactions d (entry ∷ others)) =
-    λ d. subst (λ (drive : Drive). DoneOn d drive (last d) (ownTransactions d (entry ∷ others)))
-    (sym (between d o (entry .before o) idle rests)) (each d)
-    in
-    let (next, (does, rest)) = subst (DoneOn n (kept n (at .body)) (last n)) (pick-yes _ _ (eq-eqb n n refl)) (now n) in
-    let (done, ends) = does .does at (rests .idle) (rests .sound) refl in
-    let after-it = afterEntry o entry in
-    let more = reordered others after-it last (done .by .completes .ends) (done .by .sound) all
-    (λ d. by-test (eqb n d)
-    (λ own. subst (λ (e : ℕ). DoneOn e (kept e (after-it .body)) (last e) (ownTransactions e others)) (eqb-true n d own)
-    (subst (λ (drive : Drive). DoneOn n drive (last n) (ownTransactions n others)) (sym ends) rest))
-    (λ other. subst (λ (drive : Drive). DoneOn d drive (last d) (ownTransactions d others))
-    (sym (passes d at transaction (rests .idle) done other))
-    (subst (DoneOn d (kept d (at .body)) (last d)) (pick-no _ _ other) (now d))))
-    in
-    record { done = (rests, (done, more .done)); ends = more .ends }
+module _ (ordered : ℕ → Bool) where
+  record Ends (o : Controller) (others : List Entry) (last : ℕ → Drive) : Type 0 where
+    done : AllDone o others
+    ends : (d : ℕ) → ordered d ≡ true → kept d (afterAll o others .body) ≡ last d
+
+  -- what is left to be done, drive by drive
+  Left : Controller → (ℕ → Drive) → List Entry → Type 0
+  Left o last others = (d : ℕ) → ordered d ≡ true → DoneOn d (kept d (o .body)) (last d) (ownTransactions d others)
+
+  -- the first is done, and the rest is left
+  first-done : (entry : Entry) (others : List Entry) (at : Controller) (last : ℕ → Drive) → isIdle at ≡ true → Sound at
+      → (ordered (entry .transaction .drive) ≡ false → Done at (entry .transaction))
+      → Left at last (entry ∷ others)
+      → Done at (entry .transaction) × Left (afterTransaction at (entry .transaction)) last others
+  unfolding ownTransactions DoneOn Left
+  first-done entry others at last idle sound anywhere left =
+      let transaction = entry .transaction in
+      let n = transaction .drive in
+      let next = afterTransaction at transaction in
+      let others-left : Done at transaction → (d : ℕ) → ordered d ≡ true → eqb n d ≡ false
+      → DoneOn d (kept d (next .body)) (last d) (ownTransactions d others) =
+      λ done d mine other. subst (λ (drive : Drive). DoneOn d drive (last d) (ownTransactions d others))
+      (sym (passes d at transaction idle done other))
+      (subst (DoneOn d (kept d (at .body)) (last d)) (pick-no _ _ other) (left d mine))
+      in
+      by-test (ordered n)
+      (λ own-order.
+      let (after-it, (does, rest)) = subst (DoneOn n (kept n (at .body)) (last n)) (pick-yes _ _ (eq-eqb n n refl))
+      (left n own-order) in
+      let (done, ends) = does .does at idle sound refl in (
+        done,
+        λ d mine. by-test (eqb n d)
+            (λ own. subst (λ (e : ℕ). DoneOn e (kept e (next .body)) (last e) (ownTransactions e others))
+            (eqb-true n d own)
+            (subst (λ (drive : Drive). DoneOn n drive (last n) (ownTransactions n others)) (sym ends) rest))
+            (others-left done d mine),
+      ))
+      (λ free. let done = anywhere free in (
+        done,
+        λ d mine. others-left done d mine (ne-eqb n d (λ e. false≢true (sym free ∙ ap ordered e ∙ mine))),
+      ))
+
+  reordered : (others : List Entry) (o : Controller) (last : ℕ → Drive) → isIdle o ≡ true → Sound o → AllRest o others
+      → AllAnywhere ordered others
+      → Left o last others
+      → Ends o others last
+  unfolding AllDone AllRest AllAnywhere afterAll DoneOn ownTransactions Left
+  reordered [] o last idle sound rest anywhere left = record { done = tt; ends = left }
+  reordered (entry ∷ others) o last idle sound (first, all) (free, anywhere) left =
+      let at = begun o entry in
+      let rests = first idle sound in
+      let (done, more-left) = first-done entry others at last (rests .idle) (rests .sound)
+      (λ none. free none at (rests .idle) (rests .sound))
+      (λ d mine. subst (λ (drive : Drive). DoneOn d drive (last d) (ownTransactions d (entry ∷ others)))
+      (sym (between d o (entry .before o) idle rests)) (left d mine))
+      in
+      let more = reordered others (afterEntry o entry) last (done .by .completes .ends) (done .by .sound) all anywhere
+      more-left
+      in
+      record { done = (rests, (done, more .done)); ends = more .ends }
 
 -- ---- the theorems
 
@@ -324,9 +362,41 @@ by-own-drive c other transaction meet done =
     (λ low. drive-same _ _ (meet .same low)) done in
     (more .done, λ low. same-drive _ _ (more .ends low))
 
+-- of all transactions whose own order is kept, where the others are done anywhere
+ordered-among : (ordered : ℕ → Bool) (c : Controller) (transactions others : List Entry) → isIdle c ≡ true → Sound c
+    → AllDone c transactions
+    → AllRest c others
+    → AllAnywhere ordered others
+    → ((d : ℕ) → ordered d ≡ true → ownTransactions d transactions ≡ ownTransactions d others)
+    → Ends ordered c others (λ d. kept d (afterAll c transactions .body))
+unfolding Left
+ordered-among ordered c transactions others idle sound all rest anywhere same =
+    let last : ℕ → Drive = λ d. kept d (afterAll c transactions .body) in
+    reordered ordered others c last idle sound rest anywhere
+    (λ d mine. subst (DoneOn d (kept d (c .body)) (last d)) (same d mine) (own-done d c transactions idle all))
+
+all-ordered : (entries : List Entry) → AllAnywhere (λ d. true) entries
+unfolding AllAnywhere
+all-ordered [] = tt
+all-ordered (entry ∷ entries) = (λ free. absurd (false≢true (sym free)), all-ordered entries)
+
 pub any-order : (c : Controller) (transactions others : List Entry) → AnyOrder c transactions others
 any-order c transactions others idle sound all rest same =
-    let last : ℕ → Drive = λ d. kept d (afterAll c transactions .body) in
-    let more = reordered others c last idle sound rest
-    (λ d. subst (DoneOn d (kept d (c .body)) (last d)) (same d) (own-done d c transactions idle all)) in
-    record { done = more .done; ends = λ d low. seen-alike _ _ (same-kept d _ _ (sym (more .ends d)) low) }
+    let more = ordered-among (λ d. true) c transactions others idle sound all rest (all-ordered others)
+    (λ d mine. same d) in
+    record { done = more .done; ends = λ d low. seen-alike _ _ (same-kept d _ _ (sym (more .ends d refl)) low) }
+
+-- only the order of the four drives is kept
+pub any-order-of-drives : (c : Controller) (transactions others : List Entry) → isIdle c ≡ true → Sound c
+    → AllDone c transactions
+    → AllRest c others
+    → AllAnywhere (λ d. leb d 3) others
+    → ((d : ℕ) → d ≤ 3 → ownTransactions d transactions ≡ ownTransactions d others)
+    → SameInOrder c transactions others
+any-order-of-drives c transactions others idle sound all rest anywhere same =
+    let more = ordered-among (λ d. leb d 3) c transactions others idle sound all rest anywhere
+    (λ d mine. same d (leb-true d 3 mine)) in
+    record {
+      done = more .done;
+      ends = λ d low. seen-alike _ _ (same-kept d _ _ (sym (more .ends d (le-leb d 3 low))) low);
+    }

@@ -69,7 +69,7 @@ use Rattle.controller.specs.Scripts.{ownScripts}
 use Rattle.controller.proofs.TicksRest.{scripts-in-any-order}
 
 -- a tape in drive 0 and one in drive 1
-abbrev taped : Controller
+abbrev pub taped : Controller
 taped = lists.after fresh (run fresh (report 0 0x22 ∷ report 1 0x22 ∷ []))
 
 -- with a yes to GO, two bytes of data and a good result, where it asks for them
@@ -86,17 +86,17 @@ scriptOf store =
       resultCheck = replicate 512 0;
     }
 
-abbrev alone : ℕ → ℕ → Script
+abbrev pub alone : ℕ → ℕ → Script
 alone address value = scriptOf (record { address = address; first = 0x00; second = 0x00; third = 0x00; fourth = value })
 
 -- enable is set by a store for drive 0, a guard by one for drive 1, and two bytes are written on drive 0
-abbrev enableOnZero : Script
+abbrev pub enableOnZero : Script
 enableOnZero = alone 0x38 0x09
 
-abbrev guardOnOne : Script
+abbrev pub guardOnOne : Script
 guardOnOne = alone 0x39 0x0B
 
-abbrev writeOnZero : Script
+abbrev pub writeOnZero : Script
 writeOnZero = alone 0xD8 0x02
 
 -- with a tick before it, or without
@@ -107,7 +107,7 @@ abbrev unticked : Script → Scheduled
 unticked script = record { ticks = false; script = script }
 
 -- the tick before the guard sends an interrupt if it comes behind the enable, and only then
-abbrev inOneOrder : List Scheduled
+abbrev pub inOneOrder : List Scheduled
 inOneOrder = ticked guardOnOne ∷ unticked enableOnZero ∷ unticked writeOnZero ∷ []
 
 abbrev inTheOther : List Scheduled

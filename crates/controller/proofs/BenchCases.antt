@@ -144,7 +144,7 @@ tornRead =
 pub record BenchCases : Type 0 where
   pub ack : played (readStore 0x2D) .reply .action ≡ Byte 0x06
   pub nack : played (readStore 0x2C) .reply .action ≡ Byte 0x15
-  -- ".. MFM count 5: primary 81200222; a mark instead: 81A00022."
+  -- ".. MFM count 5: primary 81200222"; "a mark instead: 81A00022."
   pub counted : primaryNow (left (readOn 0x22 (0x80 ∷ 0x02 ∷ 1 ∷ 2 ∷ 3 ∷ 4 ∷ 5 ∷ []) false))
       ≡ record { b0 = 0x81; b1 = 0x20; b2 = 0x02; b3 = 0x22 }
   pub marked : primaryNow (left (readOn 0x22 [] true)) ≡ record { b0 = 0x81; b1 = 0xA0; b2 = 0x00; b3 = 0x22 }

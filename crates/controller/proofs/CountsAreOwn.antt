@@ -3,7 +3,6 @@
 -- Assumes nothing.
 use mathlib.Core.Path.{_≡_, refl, sym, ap, ap₂, subst, subst₂, _∙_}
 use Prim.Native.Nat.{ℕ}
-use native.Mathlib.Omega.{arith}
 use mathlib.Core.Bool.{Bool, true, false, not, _&&_, _||_, false≢true, and-false}
 use mathlib.Core.List.{List, [], _∷_}
 use lib.Dec.{eqb}
@@ -16,10 +15,15 @@ use Rattle.status.specs.Drives.{withTrack, withDensity, withGuard}
 use Rattle.status.specs.Words.{noOutcome}
 use Rattle.operations.specs.declared.operation.Operation.{Operation}
 use Rattle.operations.specs.declared.operation.Operation.the-variants.{SuppliedCount, Write}
+use Rattle.records.specs.Count.{unrotated, countOf}
+use Rattle.status.specs.Words.{secondaryWord}
+use Rattle.link.specs.Frames.{stringOf}
+use Rattle.link.specs.declared.state.Handed.{Handed}
+use Rattle.link.specs.declared.state.Handed.the-variants.{NoneHanded, OneHanded}
 use Rattle.operations.specs.declared.decode.Decoded.{Decoded}
 use Rattle.operations.specs.declared.decode.Decoded.the-variants.{Reset, Code, Track, Enable, Guard, Density, Operate}
 use Rattle.operations.specs.declared.store.Store.{Store}
-use Rattle.operations.specs.Operation.{numberOf, moveOf, sameOperation, suppliesCount}
+use Rattle.operations.specs.Operation.{numberOf, sameOperation, suppliesCount}
 use Rattle.operations.specs.Codes.{illegalDrive, illegalMotion}
 use Rattle.operations.specs.Store.{namesUnknown, askedFor, askedIn, heldCount, suppliedCount}
 use Rattle.operations.specs.Course.{courseOf}
@@ -37,21 +41,30 @@ use Rattle.transfers.specs.Data.{Host, dataWords, settleData}
 use Rattle.transfers.specs.Results.{Result, resultRefusal, isGone, findingsRead, codeReported, recordCount, usedCount}
 use Rattle.transfers.specs.Results.{verdictOf, wroteWell, resultCount, resultBits, withRetry, resultWords, settleResult}
 use Rattle.transfers.proofs.ResultLaws.{supplied-none, final-zero, reported-zero}
+use Rattle.controller.specs.OnTape.{countSaid}
 use Rattle.controller.specs.declared.controller.Controller.{Controller}
-use Rattle.controller.specs.Controller.{fresh, carried}
-use Rattle.controller.specs.Stores.{orderMove, begin, follow, clearOutcome, carryOutOn, carryOut, yesToGo}
+use Rattle.controller.specs.Controller.{fresh, refused}
+use Rattle.controller.specs.Stores.{endOperation, orderMove, begin, follow, clearOutcome, carryOutOn, carryOut}
+use Rattle.controller.specs.Stores.{yesToGo}
 use Rattle.controller.specs.Records.{wordsOf, withAfter, dataDone, resultDone}
-use Rattle.controller.specs.Machine.{unchanged, reportNoted, dataIn, resultIn, Call, Exchange, plain, step, run}
-use Rattle.controller.specs.Machine.Call.{taken, hostData, result, hand}
-use Rattle.controller.specs.Lists.{notRefused, holdsStore, bringsStore, storeBrought, carriesOut, lastStore}
-use Rattle.controller.specs.Lists.{noStore, asksFor}
+use Rattle.controller.specs.Machine.{dataIn, resultIn, Call, Exchange, step, run}
+use Rattle.controller.specs.Machine.Call.{hostData, result, hand}
+use Rattle.controller.specs.Lists.{notRefused, holdsStore, heldStore}
+use Rattle.controller.specs.Ledger.{Ledger, ledgerFresh, ledgerCarried, ledgerEnded, ledgerCall, ledgerAfter}
+use Rattle.controller.specs.Ledger.{countAsked}
+use Rattle.controller.specs.Shown.{orderOfStore, tapeGone}
 use Rattle.controller.specs.Counts.{OwnRecord, suppliedBy, passedBy, recordAfter, ownRecord, Sends, ValidFrom}
 use Rattle.controller.specs.Counts.{CountsAreOwn}
 use Rattle.controller.specs.Counts.OwnRecord.{noRecord, recordOf}
 use Rattle.controller.proofs.Courses.{decoded, by-test-of, by-beginning}
+use Rattle.controller.proofs.DrivesAreALedger.{Kept as KeptDrives, Keeps as KeepsDrives, keeping, fresh-kept}
+use Rattle.controller.proofs.StatusIsALedger.Numbers.{numbered}
+use Rattle.controller.proofs.StatusIsALedger.Ending.{gone-said}
+use Rattle.controller.proofs.StatusIsALedger.Beginning.{order-said}
+use Rattle.controller.proofs.StatusIsALedger.{carried-store, current}
 use Rattle.controller.proofs.Steps.Resting.{by-free, Free, Rests, ended-rests, settled-rests, go-refused-rests}
 use Rattle.controller.proofs.Steps.Resting.{ending-rests}
-use Rattle.controller.proofs.Steps.Strings.{marked, HeldUpToDate, SentUpToDate, StringsUpToDate, ended-strings}
+use Rattle.controller.proofs.Steps.Strings.{HeldUpToDate, SentUpToDate, StringsUpToDate, ended-strings}
 use Rattle.controller.proofs.Steps.Strings.{settled-strings, go-refused-strings, ending-strings}
 use Rattle.controller.proofs.Steps.LinkCall.{byteCame, ticked, loadTaken}
 use Rattle.controller.proofs.Steps.SaysNo.{byteRefused}
@@ -86,9 +99,10 @@ record Goes (last : Store) (own : OwnRecord) (t : Transition) : Type 0 where
 -- what is claimed of a call
 abbrev Keeps : Controller → Exchange → Type 0
 Keeps c x =
-    (last : Store) (own : OwnRecord)
-    → Kept last own (c .body) (c .phase)
-    → Goes (lastStore last c x) (ownRecord (lastStore last c x) own c x) (turnOf (x .answer .reply))
+    (l : Ledger) (own : OwnRecord)
+    → KeptDrives l (c .body) (c .phase)
+    → Kept (l .store) own (c .body) (c .phase)
+    → Goes (ledgerAfter l c x .store) (ownRecord l own c x) (turnOf (x .answer .reply))
 
 rests-keep :
     (last : Store) (own : OwnRecord) (b : Body) (t : Transition)
@@ -109,45 +123,34 @@ rests-keep last own b t rests strings valid =
 
 -- ---- calls that carry out no store
 
--- the last store and its record are as before
-as-before :
-    (c : Controller) (x : Exchange) (last : Store) (own : OwnRecord) (t : Transition)
-    → carriesOut c x ≡ false
-    → ownRecord last own c x ≡ own
-    → Goes last own t
-    → Goes (lastStore last c x) (ownRecord (lastStore last c x) own c x) t
-unfolding lastStore
-as-before c x last own t none same goes =
-    subst (λ (store : Store). Goes store (ownRecord store own c x) t)
-    (sym (pick-no (storeBrought c (x .call)) last none))
-    (subst (λ (later : OwnRecord). Goes last later t) (sym same) goes)
-
 refusals-case : OfRefusals Keeps
-unfolding carriesOut notRefused ownRecord SentUpToDate
-refusals-case c call number space check some at-space at-check last own before =
-    as-before c (exchanged call (unchanged number c space check)) last own _
-    (ap (λ (t : Bool). t && bringsStore c call) some) (pick-no (recordAfter last own c call) own some)
+unfolding ledgerAfter notRefused ownRecord SentUpToDate
+refusals-case c call number space check some at-space at-check l own drives before =
+    subst₂ (λ (store : Store) (later : OwnRecord). Goes store later (turnOf (refused number c)))
+    (ap (λ (x : Ledger). x .store) (sym (pick-no (ledgerCall l c NoneHanded call) l some)))
+    (sym (pick-no (recordAfter l own c call) own some))
     (record { kept = record { hand = before .hand; valid = before .valid; holds = before .holds }; says = tt })
 
 link-case : OfLink Keeps
-unfolding lastStore carriesOut bringsStore storeBrought notRefused holdsStore ownRecord recordAfter pick
-link-case c call t (byteCame value) free rests strings none last own before =
-    rests-keep last own (c .body) t rests (strings (before .holds)) (before .valid)
-link-case c call t LinkCall.linkBroke free rests strings none last own before =
-    rests-keep last own (c .body) t rests (strings (before .holds)) (before .valid)
-link-case c call t ticked free rests strings none last own before =
-    rests-keep last own (c .body) t rests (strings (before .holds)) (before .valid)
-link-case c call t (loadTaken load) free rests strings none last own before =
-    let none = ap not load in
-    as-before c (exchanged taken (plain (carried t))) last own t none (pick-no noRecord own none)
-    (rests-keep last own (c .body) t rests (strings (before .holds)) (before .valid))
+unfolding ledgerAfter ledgerCall notRefused holdsStore ownRecord recordAfter pick
+link-case c call t (byteCame value) free rests strings none l own drives before =
+    rests-keep (l .store) own (c .body) t rests (strings (before .holds)) (before .valid)
+link-case c call t LinkCall.linkBroke free rests strings none l own drives before =
+    rests-keep (l .store) own (c .body) t rests (strings (before .holds)) (before .valid)
+link-case c call t ticked free rests strings none l own drives before =
+    rests-keep (l .store) own (c .body) t rests (strings (before .holds)) (before .valid)
+link-case c call t (loadTaken load) free rests strings none l own drives before =
+    subst₂ (λ (store : Store) (later : OwnRecord). Goes store later t)
+    (ap (λ (x : Ledger). x .store) (sym (pick-no (ledgerCarried l (heldStore c)) l (ap not load))))
+    (sym (pick-no noRecord own (ap not load)))
+    (rests-keep (l .store) own (c .body) t rests (strings (before .holds)) (before .valid))
 
 no-case : OfNo Keeps
-unfolding lastStore carriesOut bringsStore storeBrought notRefused ownRecord recordAfter pick
-no-case b held call (byteRefused value refuses) last own before =
-    rests-keep last own b _ (go-refused-rests b held) (go-refused-strings b held) (before .valid)
-no-case b held call SaysNo.linkBroke last own before =
-    rests-keep last own b _ (go-refused-rests b held) (go-refused-strings b held) (before .valid)
+unfolding ledgerAfter ledgerCall notRefused ownRecord recordAfter pick
+no-case b held call (byteRefused value refuses) l own drives before =
+    rests-keep (l .store) own b _ (go-refused-rests b held) (go-refused-strings b held) (before .valid)
+no-case b held call SaysNo.linkBroke l own drives before =
+    rests-keep (l .store) own b _ (go-refused-rests b held) (go-refused-strings b held) (before .valid)
 
 -- ---- a store is carried out: it has no record yet, and bit 22 is clear
 
@@ -222,16 +225,19 @@ module _ (store : Store) where
       (λ drive. decoded-opens _ (askedIn store _) refl (asked-operation _ (askedFor store)))
 
 stores-case : OfStores Keeps
-unfolding lastStore carriesOut bringsStore storeBrought notRefused holdsStore offered ownRecord recordAfter pick
-stores-case b s lead last own before =
+unfolding ledgerAfter ledgerCall notRefused holdsStore offered ownRecord recordAfter pick
+stores-case b s lead l own drives before =
     let store = storeOf s in
     let t = carryOut b store in
-    subst₂ (λ (next : Store) (later : OwnRecord). Goes next later t) (sym (pick-yes store last (ap not lead)))
+    subst₂ (λ (next : Store) (later : OwnRecord). Goes next later t)
+    (sym (ap (λ (x : Ledger). x .store) (pick-yes (ledgerCarried l store) l (ap not lead)) ∙ carried-store l store))
     (sym (pick-yes noRecord own (ap not lead))) (carried-opens store b)
 
 handings-case : OfHandings Keeps
-unfolding lastStore carriesOut bringsStore storeBrought notRefused ownRecord recordAfter pick
-handings-case b s store last own before = carried-opens store b
+unfolding ledgerAfter ledgerCall notRefused ownRecord recordAfter pick
+handings-case b s store l own drives before =
+    subst (λ (next : Store). Goes next noRecord (carryOut b store)) (sym (carried-store l store))
+    (carried-opens store b)
 
 -- ---- the calls of a store
 
@@ -240,9 +246,9 @@ written :
     (b : Body) (held : Store) (drive : Drive) (host : Host) (space check : List ℕ)
     → Keeps (stated b (DataAwaited held))
     (exchanged (hostData host space check) (dataDone b drive held host space check))
-unfolding dataDone settleData dataWords orderMove lastStore carriesOut bringsStore storeBrought notRefused ownRecord
-    recordAfter InHand HeldUpToDate SentUpToDate pick
-written b held drive host space check last own before =
+unfolding dataDone settleData dataWords orderMove ledgerAfter ledgerCall notRefused ownRecord recordAfter InHand
+    HeldUpToDate SentUpToDate pick
+written b held drive host space check l own drives before =
     record { kept = record { hand = before .hand; valid = before .valid; holds = tt }; says = tt }
 
 writes-case : OfData Keeps
@@ -250,30 +256,36 @@ unfolding dataIn
 writes-case b held host space check =
     data-for Keeps refusals-case b held _ host space check (written b held _ host space check)
 
-module _ (drive : Drive) (operation : Operation) (last store : Store) (r : Result) (before check : ℕ)
-    (same : store ≡ last) (asks : askedFor last ≡ Operate operation)
+module _ (drive : Drive) (operation : Operation) (last store : Store) (r : Result) (before check report : ℕ)
+    (same : store ≡ last) (asks : askedFor last ≡ Operate operation) (reported : drive .report ≡ report)
     (good : resultRefusal drive operation store r check ≡ 0) where
   abbrev verdict : Verdict
   verdict = verdictOf drive operation store r
 
   abbrev told : Type 0
-  told = passedBy last r ≡ recordOf (resultCount verdict operation store before)
+  told = passedBy last report r ≡ recordOf (resultCount verdict operation store before)
 
   -- the last store asks for the operation that ends
-  asks-is : (this : Operation) → asksFor this (askedFor last) ≡ sameOperation operation this
-  unfolding asksFor
-  asks-is this = ap (asksFor this) asks
+  supplies-is : eqb (orderOfStore last) 0x80 ≡ suppliesCount operation
+  supplies-is = ap (λ (n : ℕ). eqb n 0x80) (order-said last operation asks) ∙ sym (numbered operation .supplies)
+
+  writes-is : eqb (orderOfStore last) 0x50 ≡ sameOperation operation Write
+  writes-is = ap (λ (n : ℕ). eqb n 0x50) (order-said last operation asks) ∙ sym (numbered operation .writes)
+
+  gone-is : tapeGone (orderOfStore last) report ≡ isGone drive operation
+  gone-is =
+      ap₂ tapeGone (order-said last operation asks) (sym reported) ∙ sym (gone-said drive operation store r)
 
   -- a supplied count is the store's own
   supplied-told : verdict .supplied ≡ true → told
-  unfolding passedBy suppliedBy resultCount verdictOf suppliedCount
+  unfolding passedBy suppliedBy resultCount verdictOf suppliedCount heldCount
   supplied-told set =
       by-test (suppliesCount operation)
       (λ supplies.
       let some : eqb (heldCount store) 0
       ≡ false = sym (ap (λ (n : ℕ). eqb n 0) (pick-yes _ _ supplies)) ∙ not-true _ set in
-      pick-yes _ _ (asks-is SuppliedCount ∙ supplies)
-      ∙ ap (λ (s : Store). pick (eqb (heldCount s) 0) noRecord (recordOf (heldCount s))) (sym same)
+      pick-yes _ _ (supplies-is ∙ supplies)
+      ∙ ap (λ (s : Store). pick (eqb (countAsked s) 0) noRecord (recordOf (countAsked s))) (sym same)
       ∙ pick-no _ _ some
       ∙ sym (ap recordOf (pick-yes _ _ set)))
       (λ none. absurd (false≢true (ap (λ (n : ℕ). not (eqb n 0)) (sym (pick-no _ _ none)) ∙ set)))
@@ -282,29 +294,31 @@ module _ (drive : Drive) (operation : Operation) (last store : Store) (r : Resul
   module _ (unset : verdict .supplied ≡ false) where
     -- an image that counts is the result's own
     image-told : suppliesCount operation ≡ false → verdict .used ≡ true → told
-    unfolding passedBy resultCount verdictOf usedCount recordCount
+    unfolding passedBy resultCount verdictOf usedCount recordCount countSaid countOf unrotated
     image-told own uses =
         let (there, some) = both-hold (not (isGone drive operation)) (not (eqb (length (r .image)) 0)) uses in
-        pick-no _ _ (asks-is SuppliedCount ∙ own)
+        pick-no _ _ (supplies-is ∙ own)
+        ∙ pick-no _ _ (gone-is ∙ not-true (isGone drive operation) there)
         ∙ pick-no _ _ (not-true (eqb (length (r .image)) 0) some)
         ∙ sym (ap recordOf (pick-no _ _ unset ∙ pick-yes _ _ uses ∙ pick-yes _ _ uses ∙ pick-no _ _ own))
 
     -- a write well done is the store's own
     write-told : suppliesCount operation ≡ false → verdict .used ≡ false → wroteWell operation (verdict .code) ≡ true
         → told
-    unfolding passedBy resultCount verdictOf wroteWell
+    unfolding passedBy resultCount verdictOf wroteWell heldCount
     write-told own unused well =
         let (writes, zero) = both-hold (sameOperation operation Write) (eqb (verdict .code) 0) well in
-        let (there, reported) = final-zero (isGone drive operation) (codeReported operation store (r .code))
+        let (there, zero-told) = final-zero (isGone drive operation) (codeReported operation store (r .code))
         (findingsRead operation (r .marks)) (eqb-true (verdict .code) 0 zero) in
-        let code = reported-zero operation store (r .code) reported in
+        let code = reported-zero operation store (r .code) zero-told in
         let empty : eqb (length (r .image)) 0
         ≡ true = not-false (eqb (length (r .image)) 0)
         (sym (ap (λ (t : Bool). not t && not (eqb (length (r .image)) 0)) there) ∙ unused) in
-        pick-no _ _ (asks-is SuppliedCount ∙ own)
+        pick-no _ _ (supplies-is ∙ own)
+        ∙ pick-no _ _ (gone-is ∙ there)
         ∙ pick-yes _ _ empty
-        ∙ pick-yes _ _ (ap₂ (λ (t : Bool) (n : ℕ). t && eqb n 0) (asks-is Write ∙ writes) code)
-        ∙ ap (λ (s : Store). recordOf (heldCount s)) (sym same)
+        ∙ pick-yes _ _ (ap₂ (λ (t : Bool) (n : ℕ). t && eqb n 0) (writes-is ∙ writes) code)
+        ∙ ap (λ (s : Store). recordOf (countAsked s)) (sym same)
         ∙ sym (ap recordOf (pick-no _ _ unset ∙ pick-no _ _ unused ∙ pick-yes _ _ well))
 
     -- a supplied 0 marks nothing
@@ -334,34 +348,45 @@ module _ (drive : Drive) (operation : Operation) (last store : Store) (r : Resul
       (λ unset. image-or-write-told unset
       (sym (ap (λ (t : Bool). t || (verdict .used || wroteWell operation (verdict .code))) unset) ∙ set))
 
--- whatever drive moved
+-- a result leaves the last store
+ended-store : (l : Ledger) (h : Handed) → ledgerEnded l h .store ≡ l .store
+unfolding ledgerEnded
+ended-store l NoneHanded = refl
+ended-store l (OneHanded final) = refl
+
 ended :
-    (b : Body) (operation : Operation) (held : Store) (drive : Drive) (r : Result) (space check : List ℕ)
-    → resultRefusal drive operation held r (length check) ≡ 0
+    (b : Body) (operation : Operation) (held : Store) (r : Result) (space check : List ℕ)
+    → resultRefusal (currentDrive b) operation held r (length check) ≡ 0
     → Keeps (stated b (ResultAwaited operation held))
-    (exchanged (result r space check) (resultDone b drive operation held r space check))
-unfolding resultDone settleResult resultWords resultBits withRetry lastStore carriesOut bringsStore storeBrought
-    notRefused ownRecord recordAfter InHand pick
-ended b operation held drive r space check good last own before =
+    (exchanged (result r space check) (resultDone b (currentDrive b) operation held r space check))
+unfolding resultDone settleResult resultWords resultBits withRetry ledgerAfter ledgerCall notRefused ownRecord
+    recordAfter InHand pick
+ended b operation held r space check good l own drives before =
+    let drive = currentDrive b in
     let mine = before .hand in
     let verdict = verdictOf drive operation held r in
     let body = withAfter b (settleResult (wordsOf b) drive operation held r (length space) check) in
-    rests-keep last (passedBy last r) body _ (ending-rests body operation held) (ending-strings body operation held)
-    (λ set. either-told drive operation last held r (b .outcome .result .count) (length check) (mine .same) (mine .asks)
-    good
+    let report = l .tape (l .selected) .report in
+    let same = current l b (ResultAwaited operation held) drives in
+    subst (λ (store : Store). Goes store (passedBy (l .store) report r) (endOperation body operation held))
+    (sym (ended-store l (endOperation body operation held .handed)))
+    (rests-keep (l .store) (passedBy (l .store) report r) body _ (ending-rests body operation held)
+    (ending-strings body operation held)
+    (λ set. either-told drive operation (l .store) held r (b .outcome .result .count) (length check) report
+    (mine .same) (mine .asks) (ap (λ (x : Drive). x .report) same) good
     (sym (ap (λ (t : Bool). t || (verdict .supplied || (verdict .used || wroteWell operation (verdict .code))))
-    (mine .none)) ∙ set))
+    (mine .none)) ∙ set)))
 
 results-case : OfResults Keeps
 unfolding resultIn
 results-case b operation held r space check =
-    result-for Keeps refusals-case b held _ operation r space check (ended b operation held _ r space check)
+    result-for Keeps refusals-case b held _ operation r space check (ended b operation held r space check)
 
 -- ---- every call, and every list
 
 keeps : Kinds Keeps
-unfolding yesToGo resetState startBody noOutcome lastStore carriesOut bringsStore storeBrought notRefused ownRecord
-    recordAfter InHand HeldUpToDate SentUpToDate pick
+unfolding yesToGo resetState startBody noOutcome ledgerAfter ledgerCall notRefused ownRecord recordAfter InHand
+    HeldUpToDate SentUpToDate pick
 keeps =
     record {
       refusals = refusals-case;
@@ -369,16 +394,16 @@ keeps =
       stores = stores-case;
       handings = handings-case;
       reports =
-          λ c n r within last own before.
+          λ c n r within l own drives before.
           record { kept = record { hand = before .hand; valid = before .valid; holds = before .holds }; says = tt };
       yes =
-          λ b held value accepts last own before.
+          λ b held value accepts l own drives before.
           record { kept = record { hand = before .hand; valid = before .valid; holds = tt }; says = tt };
       no = no-case;
       writes = writes-case;
       results = results-case;
       resets =
-          λ c last own before.
+          λ c l own drives before.
           record { kept = record { hand = tt; valid = λ set. absurd (false≢true set); holds = tt }; says = tt };
     }
 
@@ -388,7 +413,7 @@ sends-own :
     → (counted ≡ true → own ≡ recordOf count)
     → SentUpToDate counted count action
     → Sends own count action
-unfolding SentUpToDate Sends
+unfolding SentUpToDate Sends stringOf secondaryWord
 sends-own own counted count (Text string) valid honest =
     record {
       secondary = λ lead. (valid (honest .brings lead .0), honest .brings lead .1);
@@ -399,24 +424,26 @@ sends-own own counted count (Byte b) valid honest = tt
 sends-own own counted count (Order order) valid honest = tt
 
 own-from :
-    (calls : List Call) (last : Store) (own : OwnRecord) (c : Controller)
-    → Kept last own (c .body) (c .phase)
-    → ValidFrom last own c (run c calls)
+    (calls : List Call) (l : Ledger) (own : OwnRecord) (c : Controller)
+    → KeptDrives l (c .body) (c .phase)
+    → Kept (l .store) own (c .body) (c .phase)
+    → ValidFrom l own c (run c calls)
 unfolding run ValidFrom
-own-from [] last own c before = tt
-own-from (call ∷ calls) last own c before =
+own-from [] l own c drives before = tt
+own-from (call ∷ calls) l own c drives before =
     let x = exchanged call (step c call) in
     let reply = step c call .reply in
-    let store = lastStore last c x in
-    let goes = by-step Keeps keeps c call last own before in (
+    let goes = by-step Keeps keeps c call l own drives before in (
       record {
-        stands = λ set. goes .kept .valid (marked (reply .controller .body) set);
+        stands = goes .kept .valid;
         sends = sends-own _ _ _ (reply .action) (goes .kept .valid) (goes .says);
       },
-      own-from calls store (ownRecord store own c x) (reply .controller) (goes .kept),
+      own-from calls (ledgerAfter l c x) (ownRecord l own c x) (reply .controller)
+          (by-step KeepsDrives keeping c call l drives .kept) (goes .kept),
     )
 
 pub counts-are-own : (calls : List Call) → CountsAreOwn (run fresh calls)
 unfolding fresh startBody noOutcome InHand HeldUpToDate
 counts-are-own calls =
-    own-from calls noStore noRecord fresh (record { hand = tt; valid = λ set. absurd (false≢true set); holds = tt })
+    own-from calls ledgerFresh noRecord fresh fresh-kept
+    (record { hand = tt; valid = λ set. absurd (false≢true set); holds = tt })

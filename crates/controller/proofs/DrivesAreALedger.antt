@@ -51,15 +51,14 @@ use Rattle.link.specs.State.{withCurrentDrive, currentDrive, resetState, whenIn
 use Rattle.transfers.specs.Data.{Host}
 use Rattle.transfers.specs.Results.{Result, resultBits, withRetry, resultWords, resultGap, settleResult}
 use Rattle.controller.specs.declared.controller.Controller.{Controller}
-use Rattle.controller.specs.Controller.{fresh, carried, refused}
+use Rattle.controller.specs.Controller.{fresh, refused}
 use Rattle.controller.specs.Stores.{settle, endOperation, motionOrder, orderMove, begin, follow}
 use Rattle.controller.specs.Stores.{clearOutcome, carryOutOn, carryOut, yesToGo}
 use Rattle.controller.specs.Records.{wordsOf, withAfter, dataDone, resultDone}
 use Rattle.controller.specs.Machine.{dataIn, resultIn, Call, Exchange, step, run}
-use Rattle.controller.specs.Machine.Call.{byte, report, hostData, result, hand}
+use Rattle.controller.specs.Machine.Call.{report, hostData, result, hand}
 use Rattle.controller.specs.Lists.{notRefused, holdsStore, heldStore, after}
-use Rattle.controller.specs.Orders.{entered}
-use Rattle.controller.specs.Ledger.{among, Allowed, Tape, freshTape, tapeReported, tapeTracked}
+use Rattle.controller.specs.Ledger.{entered, among, Allowed, Tape, freshTape, tapeReported, tapeTracked}
 use Rattle.controller.specs.Ledger.{tapeControlled, tapeStored, motionMade, gapLeft, tapeLeft, Ledger}
 use Rattle.controller.specs.Ledger.{ledgerReset, ledgerFresh, ledgerStored, ledgerCarried, ledgerEnded}
 use Rattle.controller.specs.Ledger.{ledgerReported, ledgerCall, ledgerAfter, ledgerFrom, ledger, IsTape}
@@ -79,7 +78,7 @@ use Rattle.controller.proofs.Steps.{by-step}
 -- ---- the ledger agrees with the controller
 
 -- the drive's record that the list gives, its report copied
-abbrev told : Tape → Drive
+abbrev pub told : Tape → Drive
 told t =
     record {
       report = t .report;
@@ -90,16 +89,16 @@ told t =
       guard = t .guard;
     }
 
-record Agrees (l : Ledger) (now : ℕ) (drives : Drives) : Type 0 where
+pub record Agrees (l : Ledger) (now : ℕ) (drives : Drives) : Type 0 where
   pub selected : now ≡ l .selected
   pub low : now ≤ 3
   pub drive : (d : ℕ) → d ≤ 3 → copyReport (driveOf drives d) ≡ told (l .tape d)
 
-abbrev Agreeing : Ledger → Body → Type 0
+abbrev pub Agreeing : Ledger → Body → Type 0
 Agreeing l b = Agrees l (b .selected) (b .drives)
 
 -- a write in hand is the last store's, was allowed, and finds the track and density of then
-record Writing (store held : Store) (was now : Tape) : Type 0 where
+pub record Writing (store held : Store) (was now : Tape) : Type 0 where
   pub same : held ≡ store
   pub asks : askedFor store ≡ Operate Write
   pub allows : Allowed 0x50 (was .report) (was .guard) (was .gap)
@@ -107,21 +106,21 @@ record Writing (store held : Store) (was now : Tape) : Type 0 where
   pub density : now .density ≡ was .density
 
 -- an operation in hand is the one that the last store asked for
-unfoldable InHand : Ledger → Phase → Type 0
+unfoldable pub InHand : Ledger → Phase → Type 0
 InHand l =
     whenInHand (λ held. Writing (l .store) held (l .was) (l .tape (l .selected)))
     (λ held. Writing (l .store) held (l .was) (l .tape (l .selected)))
-    (λ operation held. askedFor (l .store) ≡ Operate operation) Unit
+    (λ operation held. (askedFor (l .store) ≡ Operate operation) × (held ≡ l .store)) Unit
 
-record Kept (l : Ledger) (b : Body) (phase : Phase) : Type 0 where
+pub record Kept (l : Ledger) (b : Body) (phase : Phase) : Type 0 where
   pub agrees : Agreeing l b
   pub hand : InHand l phase
 
-record KeptBy (l : Ledger) (t : Transition) : Type 0 where
+pub record KeptBy (l : Ledger) (t : Transition) : Type 0 where
   pub kept : Kept l (t .body) (t .phase)
   pub tells : ActionAllowed l (t .action)
 
-abbrev Keeps : Controller → Exchange → Type 0
+abbrev pub Keeps : Controller → Exchange → Type 0
 Keeps c x = (l : Ledger) → Kept l (c .body) (c .phase) → KeptBy (ledgerAfter l c x) (turnOf (x .answer .reply))
 
 quiet-allowed : (l : Ledger) (action : Action) → NoOrder action → ActionAllowed l action
@@ -178,11 +177,11 @@ again tapes n t d same =
 
 -- ---- what changes a drive
 
-and-of : {a b : Bool} → a ≡ true → b ≡ true → (a && b) ≡ true
+pub and-of : {a b : Bool} → a ≡ true → b ≡ true → (a && b) ≡ true
 and-of one also = rw one also
 
 -- two choices by one test
-pick-pair : {A B : Type 0} (P : A → B → Type 0) (t : Bool) {x x' : A} {y y' : B} → (t ≡ true → P x y)
+pub pick-pair : {A B : Type 0} (P : A → B → Type 0) (t : Bool) {x x' : A} {y y' : B} → (t ≡ true → P x y)
     → (t ≡ false → P x' y') → P (pick t x x') (pick t y y')
 unfolding pick
 pick-pair P true first second = first refl
@@ -249,7 +248,7 @@ tracked drive t n same =
     (bot-bit (t .report)))
 
 -- the gap that a result leaves
-lost-said : (code : ℕ) → among code (0x6 ∷ 0x7 ∷ 0x8 ∷ 0x9 ∷ 0x17 ∷ 0x18 ∷ []) ≡ losesTape code
+pub lost-said : (code : ℕ) → among code (0x6 ∷ 0x7 ∷ 0x8 ∷ 0x9 ∷ 0x17 ∷ 0x18 ∷ []) ≡ losesTape code
 unfolding among losesTape
 lost-said code = simp or-false
 
@@ -304,7 +303,8 @@ gap-said store operation code gap asks =
 
 -- ---- a store is carried out
 
-reset-drive : (drives : Drives) (n : ℕ) → n ≤ 3 → driveOf (resetDrives drives) n ≡ freshWith (driveOf drives n .report)
+pub reset-drive : (drives : Drives) (n : ℕ) → n ≤ 3
+    → driveOf (resetDrives drives) n ≡ freshWith (driveOf drives n .report)
 unfolding driveOf resetDrives pick
 reset-drive drives =
     by-four (λ n. driveOf (resetDrives drives) n ≡ freshWith (driveOf drives n .report)) refl refl refl refl
@@ -420,7 +420,7 @@ module _ (l : Ledger) (b : Body) (store : Store) (low : b .selected ≤ 3)
   unfolding orderMove motionOrder orderOf InHand ActionAllowed
   moves outcome operation asks moving may =
       record {
-        kept = record { agrees = still was refl; hand = asks };
+        kept = record { agrees = still was refl; hand = (asks, refl) };
         tells =
             record {
               first = first-said store operation asks moving;
@@ -455,7 +455,7 @@ module _ (l : Ledger) (b : Body) (store : Store) (low : b .selected ≤ 3)
             };
         tells = tt;
       })
-      (λ asks may. record { kept = record { agrees = still was refl; hand = asks }; tells = tt })
+      (λ asks may. record { kept = record { agrees = still was refl; hand = (asks, refl) }; tells = tt })
       (λ operation outcome same ordered asks may. moves outcome operation asks (ordered .moves) may)
 
   operates : (operation : Operation) (density : ℕ) → askedFor store ≡ Operate operation
@@ -639,7 +639,7 @@ written b held drive host space check l before =
     let current : copyReport (currentDrive b) ≡ told (l .tape (l .selected)) = agrees .drive (b .selected) (agrees .low)
     ∙ ap (λ (n : ℕ). told (l .tape n)) (agrees .selected) in
     record {
-      kept = record { agrees = agrees; hand = w .asks };
+      kept = record { agrees = agrees; hand = (w .asks, w .same) };
       tells =
           record {
             first = first-said (l .store) Write (w .asks) refl;
@@ -658,7 +658,8 @@ writes-case b held host space check =
     data-for Keeps refusals-case b held _ host space check
     (written b held _ host space check)
 
-ended-hands : (b : Body) (operation : Operation) (store : Store)
+-- the end of an operation hands its record back
+pub ended-hands : (b : Body) (operation : Operation) (store : Store)
     → endOperation b operation store .handed ≡ OneHanded (b .outcome .result)
 unfolding endOperation settle
 ended-hands b operation store =
@@ -683,11 +684,12 @@ module _ (b : Body) (operation : Operation) (held : Store) (r : Result) (space c
   ended l before =
       let agrees = before .agrees in
       let t : Tape = l .tape (b .selected) in
+      let (asks, same) = before .hand in
       let current : copyReport (currentDrive b) ≡ told t = agrees .drive (b .selected) (agrees .low) in
       let gaps : settleResult (wordsOf b) (currentDrive b) operation held r (length space) check .gap
       ≡ gapLeft (l .store .address / 16 % 8) (l .store .first) (l .store .fourth) (final .code) (t .gap) =
       gap-left ∙ ap (λ (x : Drive). gapAfter (moveOf operation) (final .code) (x .gap)) current
-      ∙ sym (gap-said (l .store) operation (final .code) (t .gap) (before .hand)) in
+      ∙ sym (gap-said (l .store) operation (final .code) (t .gap) asks) in
       subst (λ (h : Handed). KeptBy (ledgerEnded l h) (endOperation body operation held))
       (sym (ended-hands body operation held))
       (rests-keep _ body _ (ending-rests body operation held)
@@ -720,7 +722,7 @@ results-case b operation held r space check =
 
 -- ---- every call, and every list
 
-keeping : Kinds Keeps
+pub keeping : Kinds Keeps
 unfolding yesToGo ledgerAfter ledgerCall notRefused InHand ActionAllowed pick
 keeping =
     record {
@@ -750,12 +752,11 @@ is-tape drive t same =
 
 kept-from :
     (calls : List Call) (l : Ledger) (c : Controller) → Kept l (c .body) (c .phase)
-    → (d : ℕ) → d ≤ 3 → IsTape (driveOf (after c (run c calls) .body .drives) d) (ledgerFrom l c (run c calls) .tape d)
+    → Kept (ledgerFrom l c (run c calls)) (after c (run c calls) .body) (after c (run c calls) .phase)
 unfolding run after ledgerFrom
-kept-from [] l c before d within = is-tape _ _ (before .agrees .drive d within)
-kept-from (call ∷ calls) l c before d within =
-    kept-from calls _ (step c call .reply .controller)
-    (by-step Keeps keeping c call l before .kept) d within
+kept-from [] l c before = before
+kept-from (call ∷ calls) l c before =
+    kept-from calls _ (step c call .reply .controller) (by-step Keeps keeping c call l before .kept)
 
 fresh-drive : (n : ℕ) → n ≤ 3 → copyReport (driveOf freshDrives n) ≡ told (freshTape 4)
 unfolding driveOf freshDrives pick
@@ -769,12 +770,17 @@ allowed-from (call ∷ calls) l c before =
     let goes = by-step Keeps keeping c call l before in
     (goes .tells, allowed-from calls _ (step c call .reply .controller) (goes .kept))
 
-fresh-kept : Kept ledgerFresh (fresh .body) (fresh .phase)
+pub fresh-kept : Kept ledgerFresh (fresh .body) (fresh .phase)
 unfolding fresh startBody InHand
 fresh-kept = record { agrees = record { selected = refl; low = omega arith; drive = fresh-drive }; hand = tt }
 
+-- after every list
+pub kept-at : (calls : List Call)
+    → Kept (ledger (run fresh calls)) (after fresh (run fresh calls) .body) (after fresh (run fresh calls) .phase)
+kept-at calls = kept-from calls ledgerFresh fresh fresh-kept
+
 pub ledger-is-kept : (calls : List Call) → DrivesAreALedger (run fresh calls)
-ledger-is-kept calls = kept-from calls ledgerFresh fresh fresh-kept
+ledger-is-kept calls d within = is-tape _ _ (kept-at calls .agrees .drive d within)
 
 pub orders-are-allowed : (calls : List Call) → OrdersAreAllowed (run fresh calls)
 orders-are-allowed calls = allowed-from calls ledgerFresh fresh fresh-kept

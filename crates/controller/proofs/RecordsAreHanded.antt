@@ -2,9 +2,10 @@
 -- (`records-are-handed`, over the definitions).
 -- Assumes nothing.
 use mathlib.Core.Path.{_≡_, refl, sym, ap, subst, _∙_}
-use Prim.Native.Nat.{ℕ}
-use mathlib.Core.Bool.{Bool, true, false, not, _&&_, and-false}
+use Prim.Native.Nat.{ℕ, _/_, _%_}
+use mathlib.Core.Bool.{Bool, true, false, not, _&&_}
 use mathlib.Core.List.{List, [], _∷_}
+use lib.Dec.{eqb}
 use lib.ListN.{length}
 use Rattle.common.specs.Pick.{pick}
 use Rattle.common.proofs.PickLaws.{pick-by, pick-yes, pick-no}
@@ -18,7 +19,7 @@ use Rattle.operations.specs.declared.decode.Decoded.the-variants.{Reset, Code, 
 use Rattle.operations.specs.declared.store.Store.{Store}
 use Rattle.operations.specs.Operation.{offersEnd}
 use Rattle.operations.specs.Codes.{illegalDrive, illegalMotion}
-use Rattle.operations.specs.Store.{asksInterrupt, namesUnknown, askedFor, askedIn}
+use Rattle.operations.specs.Store.{asksInterrupt, namesDrive, namedDrive, namesUnknown, askedFor, askedIn}
 use Rattle.operations.specs.Course.{courseOf}
 use Rattle.operations.proofs.DensityLaws.{by-density}
 use Rattle.link.specs.declared.state.Phase.{Phase}
@@ -27,10 +28,10 @@ use Rattle.link.specs.declared.state.Handed.{Handed}
 use Rattle.link.specs.declared.state.Handed.the-variants.{NoneHanded, OneHanded}
 use Rattle.link.specs.declared.state.Body.{Body}
 use Rattle.link.specs.declared.state.Transition.{Transition}
-use Rattle.link.specs.State.{storeOf, offered, startBody, withFlags, withOutcome, withCurrentDrive, currentDrive}
+use Rattle.link.specs.State.{storeOf, offered, withFlags, withOutcome, withCurrentDrive, currentDrive}
 use Rattle.link.specs.State.{resetState}
 use Rattle.operations.specs.After.{withCode}
-use Rattle.transfers.specs.Results.{Result, resultRefusal, settleResult}
+use Rattle.transfers.specs.Results.{Result, settleResult}
 use Rattle.transfers.specs.Data.{Host}
 use Rattle.controller.specs.declared.controller.Controller.{Controller}
 use Rattle.controller.specs.declared.controller.Reply.{Reply}
@@ -38,13 +39,15 @@ use Rattle.controller.specs.Controller.{fresh, carried}
 use Rattle.controller.specs.Stores.{settle, endWith, endOperation, orderMove, begin, follow, clearOutcome}
 use Rattle.controller.specs.Stores.{carryOutOn, carryOut, noToGo, yesToGo}
 use Rattle.controller.specs.Records.{wordsOf, withAfter, dataDone, resultDone}
-use Rattle.controller.specs.Machine.{unchanged, dataIn, resultIn, Call, Exchange, plain, step, run}
+use Rattle.controller.specs.Machine.{dataIn, resultIn, Call, Exchange, plain, step, run}
 use Rattle.controller.specs.Machine.Call.{byte, taken, broken, hostData, result, tick}
 use Rattle.controller.specs.Lists.{notRefused, holdsStore, heldStore}
 use Rattle.controller.specs.Separation.{asksReset}
 use Rattle.controller.specs.Handed.{resetsAll, owedAfter, owes, holdsStoreIn, Due, owedStill, DueFrom}
 use Rattle.controller.specs.Handed.{RecordsAreHanded}
+use Rattle.controller.proofs.Asking.{Asks, by-asked}
 use Rattle.controller.proofs.Courses.{decoded, by-test-of, by-beginning}
+use Rattle.controller.proofs.DrivesAreALedger.{ended-hands}
 use Rattle.controller.proofs.RetriesAreTrusted.{completed-outcome, ended-outcome}
 use Rattle.controller.proofs.Steps.Resting.{by-free, Free, Rests, settled-rests, ending-rests}
 use Rattle.controller.proofs.Steps.LinkCall.{byteCame, ticked, loadTaken}
@@ -76,15 +79,42 @@ unfolding Due
 one-due owed t final one due shown free =
     subst (Due owed (carried t)) (sym one) (due, shown, free-holds (t .phase) free)
 
--- the end of an operation hands its record back
-ended-hands : (b : Body) (operation : Operation) (store : Store)
-    → endOperation b operation store .handed ≡ OneHanded (b .outcome .result)
-unfolding endOperation settle
-ended-hands b operation store =
-    pick-by (λ (t : Transition). t .handed ≡ OneHanded (b .outcome .result)) (offersEnd operation) (λ offers. refl)
-    (λ none. refl)
-
 -- ---- a store
+
+-- a reset is asked for by operation 0
+resets-said : Asks (λ (operation f l : ℕ) (asked : Decoded). asksReset asked ≡ eqb operation 0)
+unfolding asksReset
+resets-said =
+    record {
+      resets = λ f l. refl;
+      track = λ f l low. refl;
+      noTrack = λ f l past low. refl;
+      disables = λ f. refl;
+      enables = λ f. refl;
+      unguards = λ f. refl;
+      guards = λ f. refl;
+      mfm = λ f. refl;
+      gcr = λ f. refl;
+      rewind = λ f. refl;
+      fastForward = λ f. refl;
+      skipForward = λ f. refl;
+      skipReverse = λ f. refl;
+      searchForward = λ f. refl;
+      searchReverse = λ f. refl;
+      writeMark = λ f. refl;
+      noControl = λ f l high no-a no-b no-c no-d. refl;
+      read = λ l. refl;
+      checkBytes = λ l. refl;
+      suppliedCount = λ l. refl;
+      noRead = λ f l. refl;
+      write = λ f l. refl;
+      erase = λ f l. refl;
+      none = λ operation f l no-0 no-3. sym no-0;
+    }
+
+pub reset-said : (store : Store) → asksReset (askedFor store) ≡ eqb (store .address / 16 % 8) 0
+unfolding askedFor
+reset-said store = by-asked _ resets-said (store .address / 16 % 8) (store .first) (store .fourth)
 
 module _ (store : Store) where
   settled-due : (b : Body) (owed : Bool) → owed ≡ true → Due owed (carried (settle b store)) (settle b store .handed)
@@ -140,11 +170,14 @@ module _ (store : Store) where
   choose-due true ended turned ends turns = ends
   choose-due false ended turned ends turns = turns
 
-  carried-due : (b : Body) → Due (not (resetsAll store)) (carried (carryOut b store)) (carryOut b store .handed)
-  unfolding carryOut resetsAll
+  pub carried-due : (b : Body) → Due (not (resetsAll store)) (carried (carryOut b store)) (carryOut b store .handed)
+  unfolding carryOut resetsAll namesUnknown namesDrive namedDrive
   carried-due b =
-      choose-due (namesUnknown store) _ _ (coded-due (clearOutcome b) illegalDrive true refl)
-      (selecting-due (clearOutcome b) _)
+      subst
+      (λ (t : Bool). Due (not (not (namesUnknown store) && t)) (carried (carryOut b store)) (carryOut b store .handed))
+      (reset-said store)
+      (choose-due (namesUnknown store) _ _ (coded-due (clearOutcome b) illegalDrive true refl)
+      (selecting-due (clearOutcome b) _))
 
 stores-case : OfStores Dues
 unfolding owes owedAfter notRefused holdsStore offered pick

@@ -1,10 +1,10 @@
 -- A tick between transactions, answered where it sends an interrupt, rests from every idle and undamaged state.
 -- Assumes nothing.
 use mathlib.Core.Path.{_≡_, refl, sym, ap, ap₂, subst, _∙_}
-use Prim.Native.Nat.{ℕ}
+use Prim.Native.Nat.{ℕ, _≤_}
 use mathlib.Core.Bool.{Bool, true, false, not, _&&_, and-false}
 use mathlib.Core.List.{List, [], _∷_, _++_}
-use lib.Dec.{eqb}
+use lib.Dec.{leb, eqb}
 use Rattle.common.specs.Pick.{pick}
 use Rattle.common.proofs.PickLaws.{by-test, both-hold, pick-yes, pick-no, pick-by}
 use Rattle.link.specs.declared.state.Collected.{Collected}
@@ -22,20 +22,21 @@ use Rattle.link.specs.Damaged.{soundDrive, soundBody, soundPart, soundPhase, is
 use Rattle.controller.specs.declared.controller.Controller.{Controller}
 use Rattle.controller.specs.declared.controller.Reply.{Reply}
 use Rattle.controller.specs.Controller.{isIdleIn, isIdle, carried}
-use Rattle.controller.specs.Machine.{tickIn, tickCall, byteIn, byteCall, Call, Exchange, step, run}
+use Rattle.controller.specs.Records.{Answer}
+use Rattle.controller.specs.Machine.{tickIn, tickCall, byteIn, byteCall, Call, Exchange, plain, step, run}
 use Rattle.controller.specs.Machine.Call.{byte, tick}
 use Rattle.controller.specs.Lists.{notRefused, bringsStore, carriesOut, after}
 use Rattle.controller.specs.Separation.{isReset, admits, admittedFrom}
 use Rattle.controller.specs.JobOrder.{storesFrom, isReport, reportsFixed}
 use Rattle.operations.specs.Store.{namedDrive}
 use Rattle.controller.specs.AnyOrder.{Sound, afterCalls, Transaction, Rests, Entry, begun, afterEntry, afterAll}
-use Rattle.controller.specs.AnyOrder.{AllDone, AllRest, ownTransactions, allCalls}
+use Rattle.controller.specs.AnyOrder.{AllDone, AllRest, ownTransactions, allCalls, SameInOrder}
 use Rattle.controller.specs.Scripts.{Script, transactionOf, pause, Scheduled, entryOf, entriesOf, AllScriptsDone}
-use Rattle.controller.specs.Scripts.{ownScripts, ScriptsInAnyOrder}
+use Rattle.controller.specs.Scripts.{ownScripts, ScriptsInAnyOrder, noneRefused}
 use Rattle.controller.proofs.Steps.{stated}
 use Rattle.controller.proofs.GoesAlike.{body-damage, copied}
 use Rattle.controller.proofs.ScriptsGoAlike.{script-steady}
-use Rattle.controller.proofs.AnyOrder.{idles, any-order}
+use Rattle.controller.proofs.AnyOrder.{idles, any-order, any-order-of-drives, AllAnywhere}
 
 -- ---- calls of the link
 
@@ -82,7 +83,7 @@ review-sound b =
       count = refl;
     })
 
-sound-of : (b : Body) (phase : Phase) → soundBody b ≡ true → soundPhase phase ≡ true → isSound b phase ≡ true
+pub sound-of : (b : Body) (phase : Phase) → soundBody b ≡ true → soundPhase phase ≡ true → isSound b phase ≡ true
 unfolding isSound
 sound-of b phase body held = ap₂ (λ (s t : Bool). s && t) body held
 
@@ -95,9 +96,12 @@ module _ (b : Body) (s : Collected) (empty : eqb (s .length) 0 ≡ true) (body :
   still = rw empty
 
   -- what a tick comes to
-  ticked : step at tick .reply .controller ≡ carried (idleTick b (Collecting s)) .controller
+  ticked-so : step at tick ≡ plain (carried (idleTick b (Collecting s)))
   unfolding step tickCall tickIn
-  ticked = ap (λ (r : Reply). r .controller) (pick-yes _ _ (sound-of b (Collecting s) body still) ∙ pick-yes _ _ empty)
+  ticked-so = ap (λ (r : Reply). plain r) (pick-yes _ _ (sound-of b (Collecting s) body still) ∙ pick-yes _ _ empty)
+
+  ticked : step at tick .reply .controller ≡ carried (idleTick b (Collecting s)) .controller
+  ticked = ap (λ (a : Answer). a .reply .controller) ticked-so
 
   abbrev sent : Controller
   sent = carried (sendWord (review b) Change interrupt (primaryNow (review b))) .controller
@@ -115,12 +119,15 @@ module _ (b : Body) (s : Collected) (empty : eqb (s .length) 0 ≡ true) (body :
       sound-of (review (withFlags (review b) false false)) (Collecting nothingCollected)
       (review-sound (withFlags (review b) false false) ∙ review-sound b ∙ body) refl
 
-  accepted : step sent (byte ack) .reply .controller ≡ rested
+  accepted-so : step sent (byte ack) ≡ plain (carried (idle (withFlags (review b) false false) Nothing))
   unfolding step byteCall byteIn answerToSend yesToSend sendWord soundPhase pick
-  accepted =
-      ap (λ (r : Reply). r .controller)
+  accepted-so =
+      ap (λ (r : Reply). plain r)
       (pick-yes _ _ (sound-of (review b) (sendWord (review b) Change interrupt (primaryNow (review b)) .phase)
       (review-sound b ∙ body) refl))
+
+  accepted : step sent (byte ack) .reply .controller ≡ rested
+  accepted = ap (λ (a : Answer). a .reply .controller) accepted-so
 
   -- the answer to an interrupt
   accepts : Rests sent (byte ack ∷ [])
@@ -142,7 +149,30 @@ module _ (b : Body) (s : Collected) (empty : eqb (s .length) 0 ≡ true) (body :
       (nothing-more (stated (review b) (Collecting s)) empty
       (sound-of (review b) (Collecting s) (review-sound b ∙ body) still)))))
 
-all-rest : (c : Controller) (scripts : List Scheduled) → AllRest c (entriesOf scripts)
+  -- none of its calls is refused
+  unrefused : noneRefused (run at (pause at)) ≡ true
+  unfolding pause run noneRefused notRefused idleTick tickAfterReview sendWord isIdleIn pick
+  unrefused =
+      let P : Answer → Type 0 = λ a. (eqb (a .reply .refusal) 0
+      && noneRefused (run (a .reply .controller) (pick (isIdle (a .reply .controller)) [] (byte ack ∷ [])))) ≡ true in
+      subst P (sym ticked-so)
+      (pick-by (λ (t : Transition). P (plain (carried t))) (review b .changed && review b .enable)
+      (λ sends. ap (λ (a : Answer). eqb (a .reply .refusal) 0 && true) accepted-so)
+      (λ quiet. ap (λ (calls : List Call). noneRefused (run (stated (review b) (Collecting s)) calls))
+      (pick-yes [] (byte ack ∷ []) empty)))
+
+pub pause-unrefused : (c : Controller) (ticks : Bool) → isIdle c ≡ true → Sound c
+    → noneRefused (run c (pick ticks (pause c) [])) ≡ true
+unfolding isSound run noneRefused
+pause-unrefused c ticks is sound =
+    pick-by (λ (calls : List Call). noneRefused (run c calls) ≡ true) ticks
+    (λ yes. let here = idles (c .phase) is in
+    subst (λ (p : Phase). noneRefused (run (stated (c .body) p) (pause (stated (c .body) p))) ≡ true) (sym (here .is))
+    (unrefused (c .body) (here .string) (here .empty)
+    (both-hold (soundBody (c .body)) (soundPhase (c .phase)) sound .0)))
+    (λ no. refl)
+
+pub all-rest : (c : Controller) (scripts : List Scheduled) → AllRest c (entriesOf scripts)
 unfolding AllRest entriesOf isSound
 all-rest c [] = tt
 all-rest c (scheduled ∷ scripts) = (
@@ -155,7 +185,7 @@ all-rest c (scheduled ∷ scripts) = (
   all-rest _ scripts,
 )
 
-all-done : (c : Controller) (scripts : List Scheduled) → isIdle c ≡ true → Sound c → AllScriptsDone c scripts
+pub all-done : (c : Controller) (scripts : List Scheduled) → isIdle c ≡ true → Sound c → AllScriptsDone c scripts
     → AllDone c (entriesOf scripts)
 unfolding AllDone AllRest AllScriptsDone entriesOf
 all-done c [] is sound all = tt
@@ -187,6 +217,17 @@ pub scripts-in-any-order : (c : Controller) (scripts others : List Scheduled) �
 scripts-in-any-order c scripts others is sound all same =
     any-order c (entriesOf scripts) (entriesOf others) is sound (all-done c scripts is sound all) (all-rest c others)
     (λ d. own-transactions d scripts ∙ ap transactionsOf (same d) ∙ sym (own-transactions d others))
+
+-- only the order of the four drives is kept, where the others are done anywhere
+pub scripts-among-drives : (c : Controller) (scripts others : List Scheduled) → isIdle c ≡ true → Sound c
+    → AllScriptsDone c scripts
+    → AllAnywhere (λ d. leb d 3) (entriesOf others)
+    → ((d : ℕ) → d ≤ 3 → ownScripts d scripts ≡ ownScripts d others)
+    → SameInOrder c (entriesOf scripts) (entriesOf others)
+scripts-among-drives c scripts others is sound all anywhere same =
+    any-order-of-drives c (entriesOf scripts) (entriesOf others) is sound (all-done c scripts is sound all)
+    (all-rest c others) anywhere
+    (λ d low. own-transactions d scripts ∙ ap transactionsOf (same d low) ∙ sym (own-transactions d others))
 
 -- ---- the whole list of calls
 

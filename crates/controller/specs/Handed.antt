@@ -4,10 +4,9 @@
 use mathlib.Core.Path.{_≡_}
 use mathlib.Core.Bool.{Bool, true, false, not, _&&_}
 use mathlib.Core.List.{List, [], _∷_}
+use lib.Dec.{eqb}
 use Rattle.common.specs.Pick.{pick}
-use Rattle.status.specs.declared.words.ResultRecord.{ResultRecord}
 use Rattle.operations.specs.declared.store.Store.{Store}
-use Rattle.operations.specs.Store.{namesUnknown, askedFor}
 use Rattle.link.specs.declared.state.Phase.{Phase}
 use Rattle.link.specs.State.{whenInHand}
 use Rattle.link.specs.declared.state.Handed.{Handed}
@@ -17,13 +16,13 @@ use Rattle.controller.specs.declared.controller.Reply.{Reply}
 use Rattle.controller.specs.Controller.{fresh}
 use Rattle.controller.specs.Machine.{Call, Exchange, whenStoreComes, whenReportOrReset}
 use Rattle.controller.specs.Lists.{notRefused, holdsStore, heldStore}
-use Rattle.controller.specs.Separation.{asksReset}
+use Rattle.controller.specs.Ledger.{namesNone, operationOf}
 
 -- ---- a store whose record is owed
 
--- a store that is carried out as a reset: not one that names drive 4-7, which is code 01
+-- "0: reset": a store of operation 0, and not one that names drive 4-7, which is code 01
 unfoldable pub resetsAll : Store → Bool
-resetsAll store = not (namesUnknown store) && asksReset (askedFor store)
+resetsAll store = not (namesNone store) && eqb (operationOf store) 0
 
 -- a call not refused: a store that is carried out owes its record, but for one that resets the controller; a reset
 -- drops what is owed

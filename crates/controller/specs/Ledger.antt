@@ -5,7 +5,7 @@
 -- like, or what gap a result leaves. Over every list of calls from Fresh.
 -- Assumes nothing.
 use mathlib.Core.Path.{_≡_}
-use Prim.Native.Nat.{ℕ, _≤_, _/_, _%_}
+use Prim.Native.Nat.{ℕ, _≤_, _+_, _*_, _/_, _%_}
 use mathlib.Core.Bool.{Bool, true, false, _&&_, _||_}
 use mathlib.Core.List.{List, [], _∷_}
 use lib.Dec.{leb, eqb}
@@ -22,7 +22,6 @@ use Rattle.controller.specs.declared.controller.Controller.{Controller}
 use Rattle.controller.specs.Controller.{fresh}
 use Rattle.controller.specs.Machine.{Call, Exchange, whenStoreComes, whenLent, whenReportOrReset}
 use Rattle.controller.specs.Lists.{notRefused, holdsStore, heldStore, noStore, after}
-use Rattle.controller.specs.Orders.{entered}
 
 -- ---- a store's bytes
 
@@ -41,6 +40,10 @@ driveFor selected store = pick (names store) (store .address % 8) selected
 -- "1-3 are the operation"
 abbrev pub operationOf : Store → ℕ
 operationOf store = store .address / 16 % 8
+
+-- of a write, "last two: count"; with a supplied count, "the count in the last two" (document 02, request 1)
+abbrev pub countAsked : Store → ℕ
+countAsked store = store .third * 256 + store .fourth
 
 -- one of these numbers
 unfoldable pub among : ℕ → List ℕ → Bool
@@ -135,6 +138,10 @@ tapeLeft t store code =
     }
 
 -- ---- the ledger of a list
+
+-- the entry of one drive is set
+unfoldable pub entered : {A : Type 0} → (ℕ → A) → ℕ → A → ℕ → A
+entered entries drive value d = pick (eqb d drive) value (entries d)
 
 -- the drive selected, the four drives, the last store carried out, and the drive that it was for as that was then
 pub record Ledger : Type 0 where
@@ -279,3 +286,17 @@ AllowedFrom l c (x ∷ xs) =
 -- from Fresh
 abbrev pub OrdersAreAllowed : List Exchange → Type 0
 OrdersAreAllowed = AllowedFrom ledgerFresh fresh
+
+-- ---- a claim of each call of a list, by the ledger before it
+
+unfoldable pub EachFrom : (Ledger → Exchange → Type 0) → Ledger → Controller → List Exchange → Type 0
+EachFrom Claim l c [] = Unit
+EachFrom Claim l c (x ∷ xs) = Claim l x × EachFrom Claim (ledgerAfter l c x) (x .answer .reply .controller) xs
+
+-- from Fresh
+abbrev pub Each : (Ledger → Exchange → Type 0) → List Exchange → Type 0
+Each Claim = EachFrom Claim ledgerFresh fresh
+
+-- the drive selected, as it is now
+abbrev pub tapeNow : Ledger → Tape
+tapeNow l = l .tape (l .selected)

@@ -2,38 +2,32 @@
 -- turns until its job is next: that number falls with every handing that is not refused.
 -- Assumes nothing.
 use mathlib.Core.Path.{_≡_, refl, sym, ap, subst, _∙_}
-use mathlib.Core.Bool.{Bool, true, false}
 use mathlib.Core.List.{List, [], _∷_, _++_, append-nil}
 use Prim.Native.Nat.{ℕ, zero, suc, _+_, _*_, _≤_, _<_}
 use native.Mathlib.Numerals.{add-one}
 use native.Mathlib.Omega.{arith}
 use lib.Dec.{eqb}
-use lib.ListN.{length, take, drop, length-append}
+use lib.ListN.{length, take, length-append}
 use lib.Seq.{take-append-le, take-append-add}
 use borrow.Author.Tests.{eqb-true, eqb-false}
 use Rattle.common.specs.Pick.{pick}
 use Rattle.common.proofs.PickLaws.{by-test, pick-yes, pick-no, pick-both}
 use Rattle.operations.specs.declared.store.Store.{Store}
-use Rattle.controller.specs.Machine as machine
 use Rattle.queues.specs.declared.jobs.Queues.{Queues}
-use Rattle.queues.specs.declared.jobs.Turn.{Turn}
 use Rattle.queues.specs.declared.jobs.Turn.the-variants.{Nobody, Job}
-use Rattle.queues.specs.Queue.{waitingIn}
-use Rattle.queues.specs.Jobs.{queueOf, turnOf, queued, nextStore, served}
-use Rattle.queues.proofs.JobLaws.{Served}
+use Rattle.queues.specs.Jobs.{queued, nextStore, served}
 use Rattle.queues.proofs.WaitingLaws.{waiting, AllKept, waits-some, queued-same, queued-other, queued-last, next-first}
 use Rattle.queues.proofs.WaitingLaws.{served-same, served-other, served-last}
 use Rattle.queues.proofs.TurnLaws.{away, nearer}
 use Rattle.dispatcher.specs.declared.dispatcher.Dispatcher.{Dispatcher}
-use Rattle.dispatcher.specs.Dispatcher.{Answer, isWhole, queueRefusal, handOver}
-use Rattle.controller.specs.Controller.{isIdle}
-use Rattle.dispatcher.specs.Lists.{Call, Exchange, plain, step, run, notRefused, ofTurn, handedBy, handedIn}
-use Rattle.dispatcher.specs.Lists.Call.{queue, hand, passed}
+use Rattle.dispatcher.specs.Dispatcher.{handOver}
+use Rattle.dispatcher.specs.Lists.{Call, Exchange, plain, step, run, notRefused, handedBy, handedIn}
+use Rattle.dispatcher.specs.Lists.Call.{hand}
 use Rattle.dispatcher.specs.Fairness.{isHanding, handings, Fair}
 use Rattle.dispatcher.proofs.Laws.{queue-room, queue-low, hand-accepted}
 use Rattle.dispatcher.proofs.Steps.{exchanged, OfRefusals, OfPassed, OfQueueing, OfNothing, OfHandings, Kinds}
 use Rattle.dispatcher.proofs.Steps.{passed-queues, by-step}
-use Rattle.dispatcher.proofs.InOrder.{handedAt, kept-by}
+use Rattle.dispatcher.proofs.InOrder.{handedAt, none-handed, first-handed, kept-by}
 
 -- whether a call is a handing that counts
 abbrev handingAt : Exchange → ℕ
@@ -96,35 +90,35 @@ module _ (job : ℕ) (within : job ≤ 3) where
 
   -- where the job waits, somebody is served
   nothing-case : OfNothing Moves
-  unfolding notRefused handedBy ofTurn isHanding pick
+  unfolding notRefused isHanding pick
   nothing-case d is kept =
-      passedBy [] (sym (append-nil (lineOf d))) (ap (ofTurn job (d .queues)) is)
+      passedBy [] (sym (append-nil (lineOf d))) (none-handed (lineOf d) (lineOf d) refl)
       (λ waits.
       let next = nearer (d .queues) job (omega (arith, kept .low)) within (waits-some (d .queues) kept job within waits)
       in
       job-some (next .next) (sym is ∙ next .is))
 
   hands-case : OfHandings Moves
-  unfolding notRefused handedBy handOver isHanding ofTurn
+  unfolding notRefused handOver isHanding
   hands-case d k whole idle is served-now kept =
       let queues = d .queues in
       let low : k ≤ 3 = omega (arith, served-now .low) in
       let some = served-now .some in
       let x = exchanged hand (plain (handOver d k)) in
       let accepted = hand-accepted d k whole idle in
-      let handed : handedAt job d x ≡ ofTurn job queues (Job k) = pick-yes _ _ accepted ∙ ap (ofTurn job queues) is in
+      let rest = waiting (served queues k) job in
+      let handed : handedAt job d x ≡ handedBy (lineOf d) rest hand = pick-yes _ _ accepted in
       let one : handingAt x ≡ 1 = pick-yes _ _ accepted in
       by-test (eqb k job)
       (λ same.
-      servedBy (nextStore queues k)
-      (subst (λ (n : ℕ). waiting queues n ≡ nextStore queues k ∷ waiting (served queues k) n) (eqb-true k job same)
+      let first = subst (λ (n : ℕ). waiting queues n ≡ nextStore queues k ∷ waiting (served queues k) n)
+      (eqb-true k job same)
       (next-first queues kept k low some
-      ∙ ap (λ (l : List Store). nextStore queues k ∷ l) (sym (served-same queues kept k low some))))
-      (handed ∙ pick-yes _ _ same) (omega arith))
+      ∙ ap (λ (l : List Store). nextStore queues k ∷ l) (sym (served-same queues kept k low some))) in
+      servedBy (nextStore queues k) first (handed ∙ first-handed _ _ rest first) (omega arith))
       (λ differ.
-      passedBy []
-      (served-other queues kept k low some job within (eqb-false k job differ) ∙ sym (append-nil (lineOf d)))
-      (handed ∙ pick-no _ _ differ)
+      let stays = served-other queues kept k low some job within (eqb-false k job differ) in
+      passedBy [] (stays ∙ sym (append-nil (lineOf d))) (handed ∙ none-handed _ rest stays)
       (λ waits.
       let next = nearer queues job (omega (arith, kept .low)) within (waits-some queues kept job within waits) in
       let same = job-same (next .next) k (sym (next .is) ∙ is) in

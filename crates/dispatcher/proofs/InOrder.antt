@@ -2,31 +2,24 @@
 -- the definitions): what waits and what is queued is, at each call, what is handed over and what waits then.
 -- Assumes nothing.
 use mathlib.Core.Path.{_≡_, refl, sym, ap, subst, _∙_}
-use mathlib.Core.Bool.{Bool, true, false}
 use mathlib.Core.List.{List, [], _∷_, _++_, append-nil, append-assoc}
-use Prim.Native.Nat.{ℕ, _≤_, _<_}
+use Prim.Native.Nat.{ℕ, suc, _-_, _≤_}
 use native.Mathlib.Omega.{arith}
-use lib.Dec.{eqb, leb}
-use lib.ListN.{drop}
-use borrow.Author.Tests.{eqb-true, eqb-false, leb-false, ne-eqb}
+use lib.Dec.{eqb}
+use lib.ListN.{length, take}
+use borrow.Author.Tests.{eqb-true, eqb-false}
 use Rattle.common.specs.Pick.{pick}
 use Rattle.common.proofs.PickLaws.{by-test, pick-yes, pick-no, pick-both}
 use Rattle.operations.specs.declared.store.Store.{Store}
-use Rattle.controller.specs.Machine as machine
 use Rattle.queues.specs.declared.jobs.Queues.{Queues}
-use Rattle.queues.specs.declared.jobs.Turn.{Turn}
-use Rattle.queues.specs.declared.jobs.Turn.the-variants.{Nobody, Job}
-use Rattle.queues.specs.Queue.{waitingIn, emptyQueue}
-use Rattle.queues.specs.Jobs.{freshQueues, turnOf, queueOf, queued, nextStore, served}
+use Rattle.queues.specs.Jobs.{queued, nextStore, served}
 use Rattle.queues.proofs.WaitingLaws.{waiting, AllKept, fresh-kept, fresh-waiting, queued-same, queued-other}
 use Rattle.queues.proofs.WaitingLaws.{queued-kept, next-first, served-same, served-other, served-kept}
-use Rattle.queues.proofs.JobLaws.{Served}
 use Rattle.dispatcher.specs.declared.dispatcher.Dispatcher.{Dispatcher}
-use Rattle.dispatcher.specs.Dispatcher.{Answer, freshDispatcher, isWhole, queueRefusal, handOver}
-use Rattle.controller.specs.Controller.{isIdle}
-use Rattle.dispatcher.specs.Lists.{Call, Exchange, plain, step, run, after, notRefused, queuedBy, ofTurn}
+use Rattle.dispatcher.specs.Dispatcher.{freshDispatcher, handOver}
+use Rattle.dispatcher.specs.Lists.{Call, Exchange, plain, step, run, after, notRefused, queuedBy, line}
 use Rattle.dispatcher.specs.Lists.{handedBy, queuedIn, handedIn}
-use Rattle.dispatcher.specs.Lists.Call.{queue, hand, passed}
+use Rattle.dispatcher.specs.Lists.Call.{hand}
 use Rattle.dispatcher.specs.Order.{InOrder}
 use Rattle.dispatcher.proofs.Laws.{queue-room, queue-low, hand-accepted}
 use Rattle.dispatcher.proofs.Steps.{exchanged, OfRefusals, OfPassed, OfQueueing, OfNothing, OfHandings, Kinds}
@@ -37,7 +30,24 @@ abbrev queuedAt : ℕ → Exchange → List Store
 queuedAt job x = pick (notRefused x) (queuedBy job (x .call)) []
 
 abbrev pub handedAt : ℕ → Dispatcher → Exchange → List Store
-handedAt job d x = pick (notRefused x) (handedBy job (d .queues) (x .call)) []
+handedAt job d x = pick (notRefused x) (handedBy (line job d) (line job (x .answer .reply .dispatcher)) (x .call)) []
+
+-- what a handing leaves of a line: all of it, or all but the first
+pub none-handed : (before after : List Store) → after ≡ before → handedBy before after hand ≡ []
+unfolding handedBy
+none-handed before after same =
+    let none : length before - length after ≡ 0 = omega (arith, ap length same) in
+    ap (λ (n : ℕ). take n before) none
+
+pub first-handed : (store : Store) (before after : List Store) → before ≡ store ∷ after
+    → handedBy before after hand ≡ store ∷ []
+unfolding handedBy
+first-handed store before after first =
+    let one : length before - length after ≡ 1 = omega (arith, longer) in
+    ap (λ (n : ℕ). take n before) one ∙ ap (take 1) first
+  where
+    longer : length before ≡ suc (length after)
+    longer = ap length first
 
 -- at each call, of each job
 pub record Ordered (d : Dispatcher) (x : Exchange) : Type 0 where
@@ -71,8 +81,8 @@ unfolding queuedBy handedBy
 passed-case d call = still d _ (passed-queues d call) (λ job. pick-both _ []) (λ job. pick-both _ [])
 
 nothing-case : OfNothing Orders
-unfolding notRefused queuedBy handedBy ofTurn pick
-nothing-case d is = still d _ refl (λ job. refl) (λ job. ap (ofTurn job (d .queues)) is)
+unfolding notRefused queuedBy pick
+nothing-case d is = still d _ refl (λ job. refl) (λ job. none-handed (line job d) (line job d) refl)
 
 queueing-case : OfQueueing Orders
 unfolding notRefused queuedBy handedBy pick
@@ -94,13 +104,14 @@ queueing-case d k store good kept =
     }
 
 hands-case : OfHandings Orders
-unfolding notRefused queuedBy handedBy handOver ofTurn
+unfolding notRefused queuedBy handOver
 hands-case d k whole idle is served-now kept =
     let low : k ≤ 3 = omega (arith, served-now .low) in
     let some = served-now .some in
     let accepted = hand-accepted d k whole idle in
-    let handed : (job : ℕ) → handedAt job d (exchanged hand (plain (handOver d k))) ≡ ofTurn job (d .queues) (Job k) =
-    λ job. pick-yes _ _ accepted ∙ ap (ofTurn job (d .queues)) is in
+    let handed : (job : ℕ) → handedAt job d (exchanged hand (plain (handOver d k)))
+    ≡ handedBy (waiting (d .queues) job) (waiting (served (d .queues) k) job) hand =
+    λ job. pick-yes _ _ accepted in
     record {
       kept = served-kept (d .queues) kept k low some;
       same = λ job within.
@@ -114,10 +125,10 @@ hands-case d k whole idle is served-now kept =
           (eqb-true k job same)
           (next-first queues kept k low some
           ∙ ap (λ (l : List Store). nextStore queues k ∷ l) (sym (served-same queues kept k low some))) in
-          alone ∙ first ∙ ap (λ (l : List Store). l ++ rest) (sym (handed job ∙ pick-yes _ _ same)))
+          alone ∙ first ∙ ap (λ (l : List Store). l ++ rest) (sym (handed job ∙ first-handed _ _ rest first)))
           (λ differ.
-          alone ∙ sym (served-other queues kept k low some job within (eqb-false k job differ))
-          ∙ ap (λ (l : List Store). l ++ rest) (sym (handed job ∙ pick-no _ _ differ)));
+          let stays = served-other queues kept k low some job within (eqb-false k job differ) in
+          alone ∙ sym stays ∙ ap (λ (l : List Store). l ++ rest) (sym (handed job ∙ none-handed _ rest stays)));
     }
 
 ordered : Kinds Orders

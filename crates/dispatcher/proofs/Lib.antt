@@ -3,6 +3,12 @@ pub mod Steps
 pub mod RefusedCalls
 pub mod InOrder
 pub mod Fair
+pub mod JobsAreALedger
+pub mod InTurn
 pub mod DrivesAreSeparate
+pub mod ReasonsAreLowest
+pub mod StaysInRange
+pub mod BenchCases
+pub mod JobOrderCase
 pub mod Demands
 pub mod WrongAnswers

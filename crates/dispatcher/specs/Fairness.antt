@@ -1,6 +1,6 @@
 -- Fairness: "A store with j of its own job's before it is handed over within 4 times (j+1) handings that are not
--- refused, whatever the other jobs queue." (document 02, request 8). Of every state that a list of calls from a fresh
--- dispatcher leaves, and of whatever is called after it.
+-- refused, whatever the other jobs queue." (document 02, request 8). Of every state whose queues are sound, and of
+-- whatever is called after it.
 -- Assumes nothing.
 use mathlib.Core.Path.{_≡_}
 use mathlib.Core.List.{List, [], _∷_, _++_}
@@ -8,10 +8,8 @@ use Prim.Native.Nat.{ℕ, _+_, _*_, _≤_}
 use lib.ListN.{length, take}
 use Rattle.common.specs.Pick.{pick}
 use Rattle.operations.specs.declared.store.Store.{Store}
-use Rattle.queues.specs.Queue.{waitingIn}
-use Rattle.queues.specs.Jobs.{queueOf}
 use Rattle.dispatcher.specs.declared.dispatcher.Dispatcher.{Dispatcher}
-use Rattle.dispatcher.specs.Lists.{Call, Exchange, notRefused, handedIn}
+use Rattle.dispatcher.specs.Lists.{Call, Exchange, notRefused, line, handedIn}
 use Rattle.dispatcher.specs.Lists.Call.{queue, hand, passed}
 
 -- a handing
@@ -31,6 +29,6 @@ abbrev pub Fair : Dispatcher → List Exchange → Type 0
 Fair d xs =
     (job : ℕ) (before behind : List Store) (store : Store)
     → job ≤ 3
-    → waitingIn (queueOf (d .queues) job) ≡ before ++ store ∷ behind
+    → line job d ≡ before ++ store ∷ behind
     → 4 * (length before + 1) ≤ handings xs
     → take (length before + 1) (handedIn job d xs) ≡ before ++ (store ∷ [])

@@ -3,4 +3,9 @@ pub mod Lists
 pub mod Refused
 pub mod Order
 pub mod Fairness
+pub mod JobLedger
 pub mod Separation
+pub mod Reasons
+pub mod InRange
+pub mod Turns
+pub mod JobOrder

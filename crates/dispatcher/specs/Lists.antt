@@ -1,17 +1,16 @@
 -- Lists of the dispatcher's calls: one step of it, a run, and the calls that reach its controller.
 -- Assumes nothing.
-use Prim.Native.Nat.{ℕ}
-use mathlib.Core.Bool.{Bool, true, false, _&&_}
+use Prim.Native.Nat.{ℕ, _-_}
+use mathlib.Core.Bool.{Bool}
 use mathlib.Core.List.{List, [], _∷_, _++_}
 use lib.Dec.{eqb}
+use lib.ListN.{length, take}
 use Rattle.common.specs.Pick.{pick}
 use Rattle.operations.specs.declared.store.Store.{Store}
 use Rattle.controller.specs.Machine as machine
 use Rattle.controller.specs.Refused.{lentSpace, lentCheck}
-use Rattle.queues.specs.declared.jobs.Queues.{Queues}
-use Rattle.queues.specs.declared.jobs.Turn.{Turn}
-use Rattle.queues.specs.declared.jobs.Turn.the-variants.{Nobody, Job}
-use Rattle.queues.specs.Jobs.{turnOf, nextStore}
+use Rattle.queues.specs.Queue.{waitingIn}
+use Rattle.queues.specs.Jobs.{queueOf}
 use Rattle.dispatcher.specs.declared.dispatcher.Dispatcher.{Dispatcher}
 use Rattle.dispatcher.specs.declared.dispatcher.Dispatched.{Dispatched}
 use Rattle.dispatcher.specs.Dispatcher.{Answer, queueCall, handCall, passedAnswer}
@@ -59,16 +58,15 @@ queuedBy job (queue k store) = pick (eqb k job) (store ∷ []) []
 queuedBy job hand = []
 queuedBy job (passed call) = []
 
--- the one whose turn it is
-unfoldable pub ofTurn : ℕ → Queues → Turn → List Store
-ofTurn job queues Nobody = []
-ofTurn job queues (Job k) = pick (eqb k job) (nextStore queues k ∷ []) []
+-- those of a job that wait, the one that came first in front
+abbrev pub line : ℕ → Dispatcher → List Store
+line job d = waitingIn (queueOf (d .queues) job)
 
--- those that a call hands over
-unfoldable pub handedBy : ℕ → Queues → Call → List Store
-handedBy job queues hand = ofTurn job queues (turnOf queues)
-handedBy job queues (queue k store) = []
-handedBy job queues (passed call) = []
+-- those that a handing hands over: those in front that wait no more
+unfoldable pub handedBy : List Store → List Store → Call → List Store
+handedBy before after hand = take (length before - length after) before
+handedBy before after (queue job store) = []
+handedBy before after (passed call) = []
 
 -- in a list, in order; a refused call neither queues nor hands over
 unfoldable pub queuedIn : ℕ → List Exchange → List Store
@@ -78,4 +76,5 @@ queuedIn job (x ∷ xs) = pick (notRefused x) (queuedBy job (x .call)) [] ++ que
 unfoldable pub handedIn : ℕ → Dispatcher → List Exchange → List Store
 handedIn job d [] = []
 handedIn job d (x ∷ xs) =
-    pick (notRefused x) (handedBy job (d .queues) (x .call)) [] ++ handedIn job (x .answer .reply .dispatcher) xs
+    pick (notRefused x) (handedBy (line job d) (line job (x .answer .reply .dispatcher)) (x .call)) []
+    ++ handedIn job (x .answer .reply .dispatcher) xs

@@ -4,14 +4,12 @@
 use mathlib.Core.Path.{_≡_}
 use mathlib.Core.List.{List, _++_}
 use Prim.Native.Nat.{ℕ, _≤_}
-use Rattle.queues.specs.Queue.{waitingIn}
-use Rattle.queues.specs.Jobs.{queueOf}
 use Rattle.dispatcher.specs.Dispatcher.{freshDispatcher}
-use Rattle.dispatcher.specs.Lists.{Exchange, after, queuedIn, handedIn}
+use Rattle.dispatcher.specs.Lists.{Exchange, after, queuedIn, line, handedIn}
 
 -- what a job queued is what was handed over of it, and then what still waits
 abbrev pub InOrder : List Exchange → Type 0
 InOrder xs =
     (job : ℕ)
     → job ≤ 3
-    → queuedIn job xs ≡ handedIn job freshDispatcher xs ++ waitingIn (queueOf (after freshDispatcher xs .queues) job)
+    → queuedIn job xs ≡ handedIn job freshDispatcher xs ++ line job (after freshDispatcher xs)

@@ -11,14 +11,12 @@ use Rattle.controller.specs.declared.controller.Controller.{Controller}
 use Rattle.controller.specs.Records as records
 use Rattle.controller.specs.Machine as machine
 use Rattle.controller.specs.Separation.{history, Agree, admits}
-use Rattle.queues.specs.declared.jobs.Queues.{Queues}
-use Rattle.queues.specs.declared.jobs.Turn.{Turn}
-use Rattle.queues.specs.declared.jobs.Turn.the-variants.{Nobody, Job}
-use Rattle.queues.specs.Jobs.{areSound, turnOf, nextStore}
+use Rattle.operations.specs.declared.store.Store.{Store}
 use Rattle.dispatcher.specs.declared.dispatcher.Dispatcher.{Dispatcher}
 use Rattle.dispatcher.specs.Dispatcher.{Answer, freshDispatcher}
 use Rattle.dispatcher.specs.Lists.{Call, Exchange, notRefused}
 use Rattle.dispatcher.specs.Lists.Call.{queue, hand, passed}
+use Rattle.dispatcher.specs.JobLedger.{JobLedger, freshLedger, next, ledgerAfter}
 
 -- ---- what reaches the controller
 
@@ -41,27 +39,26 @@ ownAnswer a =
 abbrev pub ownExchange : machine.Call → Answer → machine.Exchange
 ownExchange call a = record { call = call; answer = ownAnswer a }
 
--- by whose turn it is
-unfoldable pub sentAt : Queues → Answer → Turn → List machine.Exchange
-sentAt queues a Nobody = []
-sentAt queues a (Job job) = ownExchange (machine.hand (nextStore queues job)) a ∷ []
+-- a store that is handed over, or none
+unfoldable pub sentAt : Answer → List Store → List machine.Exchange
+sentAt a [] = []
+sentAt a (store ∷ stores) = ownExchange (machine.hand store) a ∷ []
 
--- a call comes to none of the controller's calls, or to one with its answer: a handing not refused to the store that it
--- hands over
-unfoldable pub sentBy : Queues → Bool → Answer → Call → List machine.Exchange
-sentBy queues accepted a (queue job store) = []
-sentBy queues accepted a hand = pick accepted (sentAt queues a (turnOf queues)) []
-sentBy queues accepted a (passed call) = pick (areSound queues) (ownExchange call a ∷ []) []
+-- a call comes to none of the controller's calls, or to one with its answer: a handing not refused to that of the store
+-- which is next by the ledger of the jobs, and a call that is passed on to itself, refused or not
+unfoldable pub sentBy : JobLedger → Bool → Answer → Call → List machine.Exchange
+sentBy l accepted a (queue job store) = []
+sentBy l accepted a hand = pick accepted (sentAt a (next l)) []
+sentBy l accepted a (passed call) = ownExchange call a ∷ []
 
 -- in a list, in order
-unfoldable pub sentFrom : Dispatcher → List Exchange → List machine.Exchange
-sentFrom d [] = []
-sentFrom d (x ∷ xs) =
-    sentBy (d .queues) (notRefused x) (x .answer) (x .call) ++ sentFrom (x .answer .reply .dispatcher) xs
+unfoldable pub sentFrom : JobLedger → List Exchange → List machine.Exchange
+sentFrom l [] = []
+sentFrom l (x ∷ xs) = sentBy l (notRefused x) (x .answer) (x .call) ++ sentFrom (ledgerAfter l x) xs
 
--- the controller's list in a list of the dispatcher's
+-- the controller's list in a list of the dispatcher's, from a fresh one
 abbrev pub sent : List Exchange → List machine.Exchange
-sent = sentFrom freshDispatcher
+sent = sentFrom freshLedger
 
 -- ---- the condition on a list
 

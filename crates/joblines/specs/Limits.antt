@@ -1,11 +1,11 @@
--- The limits of a job line and of the text that is printed for it (document 02, request 8), beyond those of the session
--- program.
+-- The limits of a line of the jobs program and of the text that is printed for it, beyond those of the session program.
+-- No paper has this program: its lines and its text are the house's own (`docs/JOBS.md`).
 -- Assumes nothing.
 use Prim.Native.Nat.{ℕ, _+_, _*_}
 use Rattle.text.specs.Limits.{recordMost}
 use Rattle.lines.specs.Limits.{imageLimit, replyMost}
 
--- "operand eight hexadecimal digits"
+-- an operand has eight hexadecimal digits
 abbrev pub operandLength : ℕ
 operandLength = 8
 
@@ -19,6 +19,6 @@ jobReplyMost = replyMost + 1 + recordMost
 abbrev pub jobAnswerMost : ℕ
 jobAnswerMost = jobReplyMost + 2 * imageLimit
 
--- "?,-,,,-" and #0A
+-- ?,-,,,- and #0A
 abbrev pub jobUnreadableLength : ℕ
 jobUnreadableLength = 8

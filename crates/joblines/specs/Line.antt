@@ -1,6 +1,7 @@
--- What a line of the jobs program says (document 02, request 8): "the session program's lines with the same limits and
--- spaces, and two more, Q,job,address,operand (job decimal 0-255, address two and operand eight hexadecimal digits,
--- letters capital) and H". A line is given without its #0A.
+-- What a line of the jobs program says, over the dispatcher of document 02, request 8. No paper has this program: its
+-- lines are the house's own (`docs/JOBS.md`), those of the session program with the same limits and spaces, and two
+-- more: Q,job,address,operand, the job in decimal, 0 to 255, the address two hexadecimal digits and the operand eight,
+-- letters capital; and H. A line is given without its #0A.
 -- Assumes nothing.
 use Prim.Native.Nat.{ℕ}
 use mathlib.Core.Path.{_≡_}
@@ -19,7 +20,7 @@ use Rattle.joblines.specs.Limits.{operandLength}
 use Rattle.joblines.specs.declared.line.JobReading.{JobReading}
 use Rattle.joblines.specs.declared.line.JobReading.the-variants.{Queueing, Handing, SessionLine}
 
--- "Q,job,address,operand", "H", or one of "the session program's lines", readable or not
+-- Q,job,address,operand; H; or one of the session program's lines, readable or not
 pub data JobLine : Type 0 where
   queueing : ℕ → Store → JobLine
   handing : JobLine
@@ -37,7 +38,7 @@ handLetter = 72
 
 -- ---- a job that queues a store
 
--- "operand eight hexadecimal digits, letters capital"
+-- an operand: eight hexadecimal digits, letters capital
 unfoldable pub isOperand : List ℕ → Bool
 isOperand s = eqb (length s) operandLength && allDigits 16 s
 
@@ -52,20 +53,20 @@ storeOf address operand =
       fourth = getD (bytesOf operand) 3 0;
     }
 
--- "job decimal 0-255, address two and operand eight hexadecimal digits"
+-- the job in decimal, 0 to 255, the address two hexadecimal digits and the operand eight
 unfoldable pub storeLine : List ℕ → List ℕ → List ℕ → JobLine
 storeLine job address operand =
     pick (isDecimal byteLimit job && (isByte address && isOperand operand))
     (queueing (decimalOf job) (storeOf address operand))
     (sessionLine unreadable)
 
--- "Q,job,address,operand", behind its first comma
+-- Q,job,address,operand, behind its first comma
 unfoldable pub queueLine : List ℕ → JobLine
 queueLine s = storeLine (fieldOf s) (fieldOf (afterFields 1 s)) (afterFields 2 s)
 
 -- ---- the lines
 
--- "H": one letter alone
+-- H: one letter alone
 unfoldable pub isHand : List ℕ → Bool
 isHand line = eqb (length line) 1 && eqb (getD line 0 0) handLetter
 

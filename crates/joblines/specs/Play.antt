@@ -1,5 +1,5 @@
--- What the jobs program does with a line: the dispatcher's call that it makes, and the text that it prints (document
--- 02, request 8).
+-- What the jobs program does with a line: the dispatcher's call that it makes (document 02, request 8), and the text
+-- that it prints.
 -- Assumes nothing.
 use Prim.Native.Nat.{ℕ, min}
 use mathlib.Core.List.{List, _++_}
@@ -29,7 +29,7 @@ pub record JobLeft : Type 0 where
   pub check : List ℕ
   pub text : List ℕ
 
--- a call's answer: "refusal, action, its bytes, bytes delivered or image, and the record handed back"
+-- a call's answer: refusal, action, its bytes, bytes delivered or image, and the record handed back
 unfoldable pub dispatchedLeft : Answer → JobLeft
 dispatchedLeft a =
     record {
@@ -56,8 +56,8 @@ inWholeSpace a rest = record {
   check = a .check;
 }
 
--- the answer to one of "the session program's lines with the same limits and spaces": an unreadable one changes
--- nothing, a data call is lent the whole space and no place of a bad host byte, a result as much as it says
+-- the answer to one of the session program's lines, with the same limits and spaces: an unreadable one changes nothing,
+-- a data call is lent the whole space and no place of a bad host byte, a result as much as it says
 unfoldable pub sessionLeft : Dispatcher → Line → List ℕ → List ℕ → JobLeft
 sessionLeft d unreadable space check = record { dispatcher = d; space = space; check = check; text = jobUnreadableText }
 sessionLeft d (byte b) space check = replyLeft (byteCall d b) space check
@@ -71,7 +71,7 @@ sessionLeft d (result code mark late image marks lent) space check =
 sessionLeft d tick space check = replyLeft (tickCall d) space check
 sessionLeft d reset space check = replyLeft (resetCall d) space check
 
--- a line's answer: "Q,job,address,operand" queues a store, "H" hands one over
+-- a line's answer: Q,job,address,operand queues a store, H hands one over
 unfoldable pub jobLineLeft : Dispatcher → JobLine → List ℕ → List ℕ → JobLeft
 jobLineLeft d (queueing job store) space check = replyLeft (queueCall d job store) space check
 jobLineLeft d handing space check = replyLeft (handCall d) space check

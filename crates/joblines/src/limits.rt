@@ -3,7 +3,7 @@
 use lines::limits::ANSWER_MOST;
 use text::limits::RECORD_MOST;
 
-// An operand's bytes, of two digits each: "operand eight hexadecimal digits".
+// An operand's bytes, of two hexadecimal digits each.
 pub const OPERAND_BYTES: usize = 4;
 
 pub const OPERAND_LENGTH: usize = 2 * OPERAND_BYTES;

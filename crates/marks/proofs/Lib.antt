@@ -1,3 +1,5 @@
+pub mod LegalLaws
 pub mod ScanLaws
 pub mod FindingLaws
 pub mod TornLaws
+pub mod StopLaws

@@ -1,11 +1,13 @@
--- What the scan finds: in marks with at most one error of each parity it reaches the end and finds each error, by
--- induction over the marks that are left with what is known of the places found so far.
+-- What the scan finds: it reaches the end and finds the only error of each parity, or stops at the second of one; by
+-- induction over the marks that are left with what is known of the places found so far. So in marks with at most one
+-- error of each parity it reaches the end.
 -- Assumes nothing.
 use Prim.Native.Nat.{ℕ, zero, suc, _≤_, _<_, _-_, _%_}
 use native.Mathlib.Decide.{ℕ-discrete}
 use native.Mathlib.Omega.{arith}
 use mathlib.Core.Bool.{Bool, true, false, not, false≢true}
 use mathlib.Core.List.{List, [], _∷_}
+use mathlib.Core.Logic.{_⊎_, inl, inr, ⊎-elim}
 use mathlib.Core.Path.{_≡_, refl, sym, ap, subst, _∙_}
 use borrow.Author.Count.{below-more}
 use borrow.Author.Tests.{eqb-true, eqb-false, ne-eqb, ltb-true, ltb-false}
@@ -31,15 +33,24 @@ pub record Found (marks : List ℕ) (parity at place : ℕ) : Type 0 where
   pub of-parity : place < length marks → (length marks - 1 - place) % 2 ≡ parity
   pub only : (j : ℕ) → j < at → IsOnly marks parity place j
 
--- what the scan finds in such marks: it comes to the end, and knows the only error of each parity
+-- the scan comes to the end, and knows the only error of each parity
 pub record ScannedOnce (marks : List ℕ) : Type 0 where
   pub stop : scanMarks marks .stop ≡ length marks
   pub odd : Found marks 1 (length marks) (scanMarks marks .odd)
   pub even : Found marks 0 (length marks) (scanMarks marks .even)
 
+-- or it stops at an error, with another of its parity before it
+pub record Stopped (marks : List ℕ) (r : Scan) : Type 0 where
+  pub below : r .stop < length marks
+  pub other : ℕ
+  pub earlier : other < r .stop
+  pub other-error : isError (getD marks other 0) ≡ true
+  pub error : isError (getD marks (r .stop) 0) ≡ true
+  pub one-parity : (length marks - 1 - other) % 2 ≡ (length marks - 1 - r .stop) % 2
+
 module _ (marks : List ℕ) (parity : ℕ) where
   -- nothing is found at the start
-  found-none : Found marks parity 0 (length marks)
+  pub found-none : Found marks parity 0 (length marks)
   found-none =
       record {
         before = omega arith;
@@ -50,7 +61,7 @@ module _ (marks : List ℕ) (parity : ℕ) where
 
   module _ (at place : ℕ) (f : Found marks parity at place) where
     -- what is no error of the parity changes nothing
-    found-still : (isError (getD marks at 0) ≡ true → (length marks - 1 - at) % 2 ≡ parity → ⊥)
+    pub found-still : (isError (getD marks at 0) ≡ true → (length marks - 1 - at) % 2 ≡ parity → ⊥)
         → Found marks parity (suc at) place
     found-still none =
         record {
@@ -63,7 +74,7 @@ module _ (marks : List ℕ) (parity : ℕ) where
     module _ (below : at < length marks) (e : isError (getD marks at 0) ≡ true)
         (p : (length marks - 1 - at) % 2 ≡ parity) where
       -- the first error of the parity is found
-      found-here : length marks ≤ place → Found marks parity (suc at) at
+      pub found-here : length marks ≤ place → Found marks parity (suc at) at
       found-here none =
           record {
             before = omega arith;
@@ -75,10 +86,18 @@ module _ (marks : List ℕ) (parity : ℕ) where
                 (λ ek pk. refl) j (omega arith);
           }
 
-      -- there is no second
-      found-twice : Once marks → place < length marks → ⊥
-      found-twice once one =
-          omega (arith, f .before one, once place at one below (f .error one) e (f .of-parity one ∙ sym p))
+      -- at a second the scan stops
+      found-twice : (odd even : ℕ) → place < length marks
+          → Stopped marks (record { odd = odd; even = even; stop = at })
+      found-twice odd even one =
+          record {
+            below = below;
+            other = place;
+            earlier = f .before one;
+            other-error = f .error one;
+            error = e;
+            one-parity = f .of-parity one ∙ sym p;
+          }
 
     -- at the end
     found-end : length marks ≤ at → Found marks parity (length marks) place
@@ -89,89 +108,115 @@ module _ (marks : List ℕ) (parity : ℕ) where
 abbrev Done : List ℕ → Scan → Type 0
 Done marks r = (r .stop ≡ length marks) × Found marks 1 (length marks) (r .odd) × Found marks 0 (length marks) (r .even)
 
+abbrev Ended : List ℕ → Scan → Type 0
+Ended marks r = Done marks r ⊎ Stopped marks r
+
 -- a scan of the marks that are left, from what is found before the place `at`, comes to such an end
 abbrev Ends : List ℕ → List ℕ → ℕ → Type 0
 Ends marks rest at =
     (odd even : ℕ) → Found marks 1 at odd → Found marks 0 at even
-    → Done marks (scanFrom rest at (length marks) odd even)
+    → Ended marks (scanFrom rest at (length marks) odd even)
 
 module _ (marks : List ℕ) (at mark : ℕ) (rest : List ℕ) (left : drop at marks ≡ mark ∷ rest) where
   -- the first of the marks that are left
-  next-after : length marks - at ≡ suc (length rest)
+  pub next-after : length marks - at ≡ suc (length rest)
   next-after = simp length-drop at (ap length left)
 
-  next-below : at < length marks
+  pub next-below : at < length marks
   next-below = omega (arith, next-after)
 
   next-mark : getD marks at 0 ≡ mark
   next-mark = cc (drop-cons marks at 0 next-below)
 
-  next-rest : drop (suc at) marks ≡ rest
+  pub next-rest : drop (suc at) marks ≡ rest
   next-rest = cc (drop-cons marks at 0 next-below)
 
-  next-error : {b : Bool} → isError mark ≡ b → isError (getD marks at 0) ≡ b
+  pub next-error : {b : Bool} → isError mark ≡ b → isError (getD marks at 0) ≡ b
   next-error h = ap isError next-mark ∙ h
 
-  next-good : isError mark ≡ false → isError (getD marks at 0) ≡ true → ⊥
+  pub next-good : isError mark ≡ false → isError (getD marks at 0) ≡ true → ⊥
   next-good good bad = subst T (sym bad ∙ next-error good) tt
 
-  next-odd : eqb (length rest % 2) 1 ≡ true → (length marks - 1 - at) % 2 ≡ 1
+  pub next-odd : eqb (length rest % 2) 1 ≡ true → (length marks - 1 - at) % 2 ≡ 1
   next-odd h = omega (arith, next-after, eqb-true (length rest % 2) 1 h)
 
-  next-even : eqb (length rest % 2) 1 ≡ false → (length marks - 1 - at) % 2 ≡ 0
+  pub next-even : eqb (length rest % 2) 1 ≡ false → (length marks - 1 - at) % 2 ≡ 0
   next-even h = omega (arith, next-after, eqb-false (length rest % 2) 1 h)
 
   -- what the scan does at it
-  module _ (once : Once marks) (go : Ends marks rest (suc at)) (odd even : ℕ) (o : Found marks 1 at odd)
+  module _ (go : Ends marks rest (suc at)) (odd even : ℕ) (o : Found marks 1 at odd)
       (e : Found marks 0 at even) where
-    turn-good : isError mark ≡ false → Done marks (scanFrom rest (suc at) (length marks) odd even)
+    turn-good : isError mark ≡ false → Ended marks (scanFrom rest (suc at) (length marks) odd even)
     turn-good good =
         let none = next-good good in
         go odd even (found-still marks 1 at odd o (λ bad _. none bad))
         (found-still marks 0 at even e (λ bad _. none bad))
 
     turn-odd : isError mark ≡ true → eqb (length rest % 2) 1 ≡ true
-        → Done marks
+        → Ended marks
         (pick (ltb odd (length marks)) (record { odd = odd; even = even; stop = at })
         (scanFrom rest (suc at) (length marks) at even))
     turn-odd bad is-odd =
         let b = next-error bad in
         let p = next-odd is-odd in
-        pick-by (Done marks) (ltb odd (length marks))
-        (λ h. absurd (found-twice marks 1 at odd o next-below b p once (ltb-true odd (length marks) h)))
+        pick-by (Ended marks) (ltb odd (length marks))
+        (λ h. inr (found-twice marks 1 at odd o next-below b p odd even (ltb-true odd (length marks) h)))
         (λ h. go at even (found-here marks 1 at odd o next-below b p (ltb-false odd (length marks) h))
         (found-still marks 0 at even e (λ _ q. omega arith)))
 
     turn-even : isError mark ≡ true → eqb (length rest % 2) 1 ≡ false
-        → Done marks
+        → Ended marks
         (pick (ltb even (length marks)) (record { odd = odd; even = even; stop = at })
         (scanFrom rest (suc at) (length marks) odd at))
     turn-even bad is-even =
         let b = next-error bad in
         let p = next-even is-even in
-        pick-by (Done marks) (ltb even (length marks))
-        (λ h. absurd (found-twice marks 0 at even e next-below b p once (ltb-true even (length marks) h)))
+        pick-by (Ended marks) (ltb even (length marks))
+        (λ h. inr (found-twice marks 0 at even e next-below b p odd even (ltb-true even (length marks) h)))
         (λ h. go odd at (found-still marks 1 at odd o (λ _ q. omega arith))
         (found-here marks 0 at even e next-below b p (ltb-false even (length marks) h)))
 
-ends : (marks : List ℕ) → Once marks → (rest : List ℕ) (at : ℕ) → drop at marks ≡ rest → Ends marks rest at
+ends : (marks rest : List ℕ) (at : ℕ) → drop at marks ≡ rest → Ends marks rest at
 unfolding scanFrom
-ends marks once [] at left odd even o e =
+ends marks [] at left odd even o e =
     let end : length marks ≤ at = omega (arith, simp length-drop at (ap length left)) in
-    (refl, found-end marks 1 at odd o end, found-end marks 0 at even e end)
-ends marks once (mark ∷ rest) at left odd even o e =
-    let go = ends marks once rest (suc at) (next-rest marks at mark rest left) in
-    pick-by (Done marks) (isError mark)
-    (λ bad. pick-by (Done marks) (eqb (length rest % 2) 1) (turn-odd marks at mark rest left once go odd even o e bad)
-    (turn-even marks at mark rest left once go odd even o e bad))
-    (turn-good marks at mark rest left once go odd even o e)
+    inl (refl, found-end marks 1 at odd o end, found-end marks 0 at even e end)
+ends marks (mark ∷ rest) at left odd even o e =
+    let go = ends marks rest (suc at) (next-rest marks at mark rest left) in
+    pick-by (Ended marks) (isError mark)
+    (λ bad. pick-by (Ended marks) (eqb (length rest % 2) 1) (turn-odd marks at mark rest left go odd even o e bad)
+    (turn-even marks at mark rest left go odd even o e bad))
+    (turn-good marks at mark rest left go odd even o e)
+
+pub scanned : (marks : List ℕ) → ScannedOnce marks ⊎ Stopped marks (scanMarks marks)
+unfolding scanMarks
+scanned marks =
+    let n = length marks in
+    ⊎-elim (λ d. inl (record { stop = d .0; odd = d .1; even = d .2 })) inr
+    (ends marks marks 0 refl n n (found-none marks 1) (found-none marks 0))
+
+-- an end that is reached has at most one error of each parity before it
+pub reached-once : (marks : List ℕ) → ScannedOnce marks → Once marks
+reached-once marks reached i j below-i below-j bad-i bad-j same =
+    elim (ℕ-discrete ((length marks - 1 - i) % 2) 1) [
+      | yes odd ↦
+          sym (reached .odd .only i below-i bad-i odd) ∙ reached .odd .only j below-j bad-j (sym same ∙ odd)
+      | no other ↦
+          let even : (length marks - 1 - i) % 2 ≡ 0 = omega arith in
+          sym (reached .even .only i below-i bad-i even) ∙ reached .even .only j below-j bad-j (sym same ∙ even)
+    ]
 
 pub scanned-once : (marks : List ℕ) → Once marks → ScannedOnce marks
-unfolding scanMarks
 scanned-once marks once =
-    let n = length marks in
-    let r = ends marks once marks 0 refl n n (found-none marks 1) (found-none marks 0) in
-    record { stop = r .0; odd = r .1; even = r .2 }
+    ⊎-elim (λ (reached : ScannedOnce marks). reached)
+    (λ (s : Stopped marks (scanMarks marks)).
+    let before : s .other < length marks = omega (arith, s .earlier, s .below) in
+    absurd (omega (
+      arith,
+      s .earlier,
+      once (s .other) (scanMarks marks .stop) before (s .below) (s .other-error) (s .error) (s .one-parity),
+    )))
+    (scanned marks)
 
 -- ---- good marks
 

@@ -24,7 +24,7 @@ legalMarks (mark ∷ marks) = legalMark mark && legalMarks marks
 unfoldable pub isError : ℕ → Bool
 isError mark = not (eqb mark good)
 
--- "at most one odd and one even": two errors of one parity are the same. A number has the parity of how many blockettes
+-- "At most one of each parity": two errors of one parity are the same. A number has the parity of how many blockettes
 -- follow.
 abbrev pub Once : List ℕ → Type 0
 Once marks =

@@ -14,8 +14,8 @@ use Rattle.marks.specs.declared.Scan.{Scan}
 use Rattle.marks.specs.declared.Defect.{Defect}
 use Rattle.marks.specs.declared.Findings.{Findings}
 
--- "the scan stops at the first blockette that is the second bad one of its parity"; "an error's parity is its number's,
--- check blockettes included". The marks that are left, the place of the first of them, the end, and the first odd and
+-- "the scan stops at the first blockette that is the second bad one of its parity"; "An error's parity is its number's,
+-- check blockettes included." The marks that are left, the place of the first of them, the end, and the first odd and
 -- the first even error so far.
 unfoldable pub scanFrom : List ℕ → ℕ → ℕ → ℕ → ℕ → Scan
 scanFrom [] at end odd even = record { odd = odd; even = even; stop = end }

@@ -1,2 +1,3 @@
 pub mod MergedLaws
+pub mod ClashLaws
 pub mod PassLaws

@@ -6,20 +6,20 @@ use Prim.Native.Nat.{ℕ, zero, suc, _+_, _*_, _≤_, _<_}
 use native.Mathlib.Nat.{le-of-eq, lt-of-not-le, mul-suc, one-mul, mul-le-mul-left}
 use native.Mathlib.Decide.{decLe}
 use native.Mathlib.Omega.{arith}
-use mathlib.Core.Bool.{Bool, true, false, not, _&&_, _||_}
+use mathlib.Core.Bool.{Bool, true, false, not, _&&_}
 use mathlib.Core.List.{List, [], _∷_, _++_}
 use lib.Dec.{eqb}
 use lib.ListN.{length, getD, take, drop, length-drop}
 use lib.Seq.{take-all, drop-at, take-append-le, drop-append-le, getD-take, getD-drop}
 use borrow.Author.Tests.{eq-eqb, eqb-true, not-false}
-use Rattle.common.specs.Pick.{pick}
-use Rattle.common.proofs.PickLaws.{by-test, both-hold, pick-by, pick-yes, pick-no}
+use Rattle.common.proofs.PickLaws.{by-test, pick-by, pick-yes, pick-no}
 use Rattle.blockettes.specs.Blockettes.{blocketteAt}
 use Rattle.blockettes.proofs.Checked.{blockette-length}
 use Rattle.marks.specs.Marks.{legalMark, legalMarks, isError}
-use Rattle.passes.specs.Passes.{sameBytes, anyPlace, clashAt, clashes, takesSecond, mergedMark, mergedMarks}
+use Rattle.marks.proofs.LegalLaws.{each-legal, all-legal}
+use Rattle.passes.specs.Passes.{sameBytes, clashAt, clashes, takesSecond, mergedMark, mergedMarks}
 use Rattle.passes.specs.Passes.{joined, mergedAt, mergedBlockettes}
-use Rattle.passes.proofs.PassLaws.{joined-length, merged-length}
+use Rattle.passes.proofs.PassLaws.{none-found, joined-length, merged-length}
 
 -- ---- parts one behind the other
 
@@ -92,22 +92,7 @@ mark-bad firstMark secondMark =
     ap isError (pick-no secondMark firstMark (ap (λ (a : Bool). a && not (isError secondMark)) good)) ∙ good
     ∙ sym (ap (λ (a : Bool). a && isError secondMark) good))
 
--- marks are legal where each is
-each-legal : (marks : List ℕ) → legalMarks marks ≡ true → (place : ℕ) → place < length marks
-    → legalMark (getD marks place 0) ≡ true
-unfolding legalMarks
-each-legal [] all place below = absurd (omega arith)
-each-legal (mark ∷ marks) all zero below = both-hold (legalMark mark) (legalMarks marks) all .0
-each-legal (mark ∷ marks) all (suc place) below =
-    each-legal marks (both-hold (legalMark mark) (legalMarks marks) all .1) place (omega arith)
-
-all-legal : (marks : List ℕ) → ((place : ℕ) → place < length marks → legalMark (getD marks place 0) ≡ true)
-    → legalMarks marks ≡ true
-unfolding legalMarks
-all-legal [] each = refl
-all-legal (mark ∷ marks) each =
-    ap₂ _&&_ (each 0 (omega arith)) (all-legal marks (λ place below. each (suc place) (omega arith)))
-
+-- legal marks merge to legal ones
 pub merged-legal : (firstMarks secondMarks : List ℕ) → length secondMarks ≡ length firstMarks
     → legalMarks firstMarks ≡ true
     → legalMarks secondMarks ≡ true → legalMarks (mergedMarks firstMarks secondMarks) ≡ true
@@ -153,18 +138,14 @@ module _ (first firstMarks second secondMarks : List ℕ) (long : length first �
 
 -- ---- no clash
 
-same-itself : (l : List ℕ) → sameBytes l l ≡ true
+-- a string is the same as itself
+pub same-itself : (l : List ℕ) → sameBytes l l ≡ true
 unfolding sameBytes
 same-itself [] = refl
 same-itself (x ∷ xs) = ap₂ _&&_ (eq-eqb x x refl) (same-itself xs)
 
-any-none : (test : ℕ → Bool) (n : ℕ) → ((place : ℕ) → place < n → test place ≡ false) → anyPlace test n ≡ false
-unfolding anyPlace
-any-none test zero none = refl
-any-none test (suc n) none = ap₂ _||_ (any-none test n (λ place below. none place (omega arith))) (none n (omega arith))
-
 -- a mark that is no error is 15
-good-mark : (mark : ℕ) → isError mark ≡ false → mark ≡ 15
+pub good-mark : (mark : ℕ) → isError mark ≡ false → mark ≡ 15
 unfolding isError
 good-mark mark fine = eqb-true mark 15 (not-false (eqb mark 15) fine)
 
@@ -177,7 +158,7 @@ pub none-clash : (first firstMarks second secondMarks built : List ℕ)
     → clashes first firstMarks second secondMarks ≡ false
 unfolding clashes clashAt
 none-clash first firstMarks second secondMarks built one two =
-    any-none _ (length firstMarks)
+    none-found _ (length firstMarks)
     (λ place below.
     let f = getD firstMarks place 0 in
     let s = getD secondMarks place 0 in

@@ -1,9 +1,10 @@
--- The theorems of the records, of the C functions themselves. 1: `calls-meet-their-contracts` and
--- `refused-calls-change-nothing`. 2: `calls-restore-what-was-built`: what `ctc_build` leaves, spoiled as demand 2 says,
--- `ctc_restore` gives back; and that this speaks of something: `every-record-can-be-spoiled-and-restored`. Of two
--- passes: `calls-merge-bad-only-where-both-are` and `calls-restore-what-two-passes-show`, and that this speaks of
--- something: `two-passes-are-restored-where-neither-is`. And of records within the limit of before:
--- `earlier-tapes-read-the-same`.
+-- The theorems of the records, of the C functions themselves. 1: `calls-meet-their-contracts`,
+-- `refused-calls-change-nothing`, and with which number they are refused: `refusals-are-the-first-that-hold`. 2:
+-- `calls-restore-what-was-built`: what `ctc_build` leaves, spoiled as demand 2 says, `ctc_restore` gives back; and that
+-- this speaks of something: `every-record-can-be-spoiled-and-restored`. Of two passes:
+-- `merged-blockettes-come-from-a-pass`, `calls-merge-bad-only-where-both-are` and `calls-restore-what-two-passes-show`,
+-- and that this speaks of something: `two-passes-are-restored-where-neither-is`. And of records within the limit of
+-- before: `earlier-tapes-read-the-same`.
 -- Assumes nothing.
 pub mod Contracts
 use mathlib.Core.Path.{_≡_, sym, ap, ap₂, subst, _∙_}
@@ -14,10 +15,9 @@ use native.Mathlib.Omega.{arith}
 use lib.Dec.{ltb, eqb}
 use borrow.Author.Tests.{le-ltb}
 use lib.ListN.{length, take, getD, List·getD-append}
-use lib.Seq.{take-at}
 use Rattle.common.specs.Pick.{pick}
 use Rattle.common.specs.Space.{overwrite}
-use Rattle.common.proofs.PickLaws.{by-test, pick-no, where-refused, where-done}
+use Rattle.common.proofs.PickLaws.{by-test, pick-no, where-refused}
 use Rattle.marks.specs.Marks.{isError, Once}
 use Rattle.marks.specs.Scan.{scanMarks}
 use Rattle.passes.specs.Passes.{mergedMarks}
@@ -28,13 +28,20 @@ use Rattle.records.specs.Place.{noPlace, isPlace}
 use Rattle.records.specs.Build.{buildRefusal, builtBytes, buildInto}
 use Rattle.records.specs.Whole.{wholeRefusal}
 use Rattle.records.specs.Restore.{restoreRefusal, restoredBytes, restoreInto}
-use Rattle.records.specs.Merge.{Pass, mergeRefusal, mergedImage, mergeImageInto, mergeMarksInto}
+use Rattle.records.specs.Merge.{Pass, mergeImageInto, mergeMarksInto}
 use Rattle.records.specs.Earlier.{earlierLimit, earlierBuildRefusal, earlierBuildInto, earlierWholeRefusal}
 use Rattle.records.specs.Earlier.{earlierRestoreRefusal, earlierRestoreInto}
 use Rattle.records.specs.Spoiled.{Spoiled}
 use Rattle.records.specs.Interface.{scanRefusal, scanInto}
+use Rattle.records.specs.Refused.{BuildRefused, RestoreRefused, MergeRefused, ScanRefused, LengthTold, MarksTold}
+use Rattle.records.specs.Refused.{CountTold}
+use Rattle.records.specs.Merged.{Merged}
 use Rattle.records.proofs.ImageLaws.{image-length}
 use Rattle.records.proofs.PlaceLaws.{written-length, built-as-came}
+use Rattle.records.proofs.MergeLaws.{mergeable}
+use Rattle.records.proofs.RefusedCalls.{build-refused, restore-refused, merge-refused, scan-refused, length-told}
+use Rattle.records.proofs.RefusedCalls.{marks-told, count-told}
+use Rattle.records.proofs.MergedBlockettes.{merged-blockettes}
 use Rattle.records.proofs.BuiltRecordsAreRestored.{built-records-are-restored}
 use Rattle.records.proofs.MergedRecordsAreRestored.{Shows, merged-shows, merging-is-accepted}
 use Rattle.records.proofs.MergedRecordsAreRestored.{merged-records-are-restored}
@@ -42,8 +49,10 @@ use Rattle.records.proofs.Spoiling.{IsBad, twoBad, ReallySpoiled, recor
 use Rattle.records.proofs.TwoPasses.{firstPass, secondPass, first-shows, second-shows, first-alone, second-alone}
 use Rattle.records.proofs.TwoPasses.{both-once}
 use Rattle.records.proofs.Demands.Contracts.{BuildAllows, RestoreAllows, MergeAllows, ScanAllows}
+use Rattle.records.proofs.Demands.Contracts.{LengthAllows, MarksAllows, CountAllows, counts-are-defined}
 use Rattle.records.proofs.Demands.Contracts.{builds-are-defined, restores-are-defined, merges-are-defined}
-use Rattle.records.proofs.Demands.Contracts.{marks-left, merged-marks-left, merged-image-left, scans-are-defined}
+use Rattle.records.proofs.Demands.Contracts.{marks-left, image-left, merged-marks-left, merged-image-left}
+use Rattle.records.proofs.Demands.Contracts.{scans-are-defined}
 use Rattle.records.proofs.Demands.Contracts.{restores-are-allowed, merges-are-allowed, built-within, built-image}
 use Rattle.records.proofs.Demands.Contracts.{builds-within, Meet, all-met}
 
@@ -87,9 +96,52 @@ refused-calls-change-nothing =
           (λ room. absurd (some (promised .0 ∙ simp room)));
     }
 
+-- The refusal is the first number of the papers' order whose condition holds, and 0 where none does; and what is told
+-- of a count or an image is the number that the papers give it.
+pub record RefusalsAreTheFirstThatHold : Type 0 where
+  pub build : (bytes : List ℕ) (density place : ℕ) (space : List ℕ) (refusal : ℕ) (after : List ℕ)
+      → BuildAllows bytes density place space refusal after
+      → BuildRefused (length bytes) density place (length space) refusal
+  pub restore : (image marks space : List ℕ) (refusal : ℕ) (after : List ℕ)
+      → RestoreAllows image marks space refusal after → RestoreRefused image marks (length space) refusal
+  pub merge : (first second : Pass) (image marks : List ℕ) (refusal : ℕ) (imageAfter marksAfter : List ℕ)
+      → MergeAllows first second image marks refusal imageAfter marksAfter
+      → MergeRefused first second (length image) (length marks) refusal
+  pub scan : (marks space : List ℕ) (refusal : ℕ) (after : List ℕ) → ScanAllows marks space refusal after
+      → ScanRefused (length space) refusal
+  pub image-length : (count density told : ℕ) → LengthAllows count density told → LengthTold count density told
+  pub mark-count : (count density told : ℕ) → MarksAllows count density told → MarksTold count density told
+  pub image-count : (image : List ℕ) (told : ℕ) → CountAllows image told → CountTold image told
+
+pub refusals-are-the-first-that-hold : RefusalsAreTheFirstThatHold
+refusals-are-the-first-that-hold =
+    record {
+      build = λ bytes density place space refusal after allowed.
+          subst (BuildRefused (length bytes) density place (length space))
+          (sym (builds-are-defined bytes density place space refusal after allowed .0))
+          (build-refused (length bytes) density place (length space));
+      restore = λ image marks space refusal after allowed.
+          subst (RestoreRefused image marks (length space))
+          (sym (restores-are-defined image marks space refusal after allowed .0))
+          (restore-refused image marks (length space));
+      merge = λ first second image marks refusal imageAfter marksAfter allowed.
+          subst (MergeRefused first second (length image) (length marks))
+          (sym (merges-are-defined first second image marks refusal imageAfter marksAfter allowed .answer))
+          (merge-refused first second (length image) (length marks));
+      scan = λ marks space refusal after allowed.
+          subst (ScanRefused (length space)) (sym (scans-are-defined marks space refusal after allowed .0))
+          (scan-refused (length space));
+      image-length = λ count density told allowed.
+          subst (LengthTold count density) (sym allowed) (length-told count density);
+      mark-count = λ count density told allowed.
+          subst (MarksTold count density) (sym allowed) (marks-told count density);
+      image-count = λ image told allowed.
+          subst (CountTold image) (sym (counts-are-defined image told allowed)) (count-told image);
+    }
+
 -- ---- demand 2
 
--- "A record's own bytes in demand 2 are those written" (document 02, request 6): all that came, or those up to the bad
+-- "a record's own bytes in demand 2 are those written" (document 02, request 6): all that came, or those up to the bad
 -- one and then zeros. Of bytes that the builder made an image of in GCR, the image at the start of the space that it
 -- left, spoiled with at most one odd and one even blockette bad and those alone marked: of image and marks the
 -- restorer, with room for the bytes, answers 0 and gives those written at the start of its space, and leaves the rest
@@ -203,6 +255,20 @@ calls-restore-what-two-passes-show
             given-back .1 ∙ ap₂ (λ (i m : List ℕ). restoreInto i m out) merged-image merged-marks ∙ restored .1,
           ),
     )
+
+-- "A blockette comes from the first pass if that marks it good, else from the second if that does, else from the first
+-- with its mark.": its bytes and its mark at each place, where merging answers 0; and the count bytes.
+pub merged-blockettes-come-from-a-pass :
+    (first second : Pass) (image marks imageAfter marksAfter : List ℕ)
+    → MergeAllows first second image marks 0 imageAfter marksAfter
+    → Merged first second image marks imageAfter marksAfter
+merged-blockettes-come-from-a-pass first second image marks imageAfter marksAfter merges =
+    let answer = merges-are-defined first second image marks 0 imageAfter marksAfter merges .answer in
+    let ok = mergeable first second (length image) (length marks) (sym answer) in
+    rw (
+      image-left first second image marks imageAfter marksAfter merges,
+      marks-left first second image marks imageAfter marksAfter merges,
+    ) (merged-blockettes first second image marks ok)
 
 -- "A merged blockette is bad only if both passes had it bad", and is good exactly if one had it good: at each place,
 -- where merging answers 0.

@@ -8,6 +8,8 @@ pub mod BuiltRecordsAreRestored
 pub mod MergedRecordsAreRestored
 pub mod Spoiling
 pub mod TwoPasses
+pub mod RefusedCalls
+pub mod MergedBlockettes
 pub mod Demands
 pub mod RecordCases
 pub mod WrongAnswers

@@ -5,6 +5,8 @@ pub mod Place
 pub mod Build
 pub mod Restore
 pub mod Merge
+pub mod Merged
 pub mod Spoiled
 pub mod Interface
 pub mod Earlier
+pub mod Refused

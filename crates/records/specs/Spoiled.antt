@@ -15,17 +15,17 @@ use Rattle.records.specs.Restore.{writtenAt}
 pub record Shown (built image marks : List ℕ) : Type 0 where
   -- nothing is lost
   pub whole : length image ≡ length built
-  -- "the count whole"
+  -- it still says "the built count"
   pub count : take 2 image ≡ take 2 built
   -- one mark for each blockette
   pub marked : length built ≡ 2 + blocketteLength * length marks
-  -- "any of 1-9 and all others 15"
+  -- "1-9 an error, 15 good"
   pub legal : legalMarks marks ≡ true
-  -- "those alone marked": a blockette marked good is as it was built
+  -- "the built bytes in every blockette that it marks good"
   pub good : (place : ℕ) → place < length marks → getD marks place 0 ≡ 15
       → blocketteAt (drop 2 image) place ≡ blocketteAt (drop 2 built) place
 
--- Some blockettes hold other bytes, "at most one odd and one even", "those alone marked".
+-- Some blockettes hold other bytes, those alone are marked, and "At most one of each parity".
 pub record Spoiled (built image marks : List ℕ) : Type 0 where
   pub shown : Shown built image marks
   pub once : Once marks

@@ -83,7 +83,7 @@ withDrive drives number drive =
     (pick (eqb number 2) (record { d0 = drives .d0; d1 = drives .d1; d2 = drive; d3 = drives .d3 })
     (record { d0 = drives .d0; d1 = drives .d1; d2 = drives .d2; d3 = drive })))
 
--- a report, of which "one without 32 makes that gap 3"
+-- a report: "A report without 32 makes that gap 3."
 unfoldable pub withReport : Drive → ℕ → Drive
 withReport drive report =
     record {

@@ -18,6 +18,6 @@ decimalMost = 10
 abbrev pub refusalMost : ℕ
 refusalMost = 2
 
--- "CC:M:N"
+-- CC:M:N
 abbrev pub recordMost : ℕ
 recordMost = 2 + 1 + decimalMost + 1 + decimalMost

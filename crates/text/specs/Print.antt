@@ -1,4 +1,5 @@
--- Numbers and bytes as they are printed (document 01, Loads, restorer, session; document 02, request 8).
+-- Numbers and bytes as they are printed (document 01, Loads, restorer, session), and a record as the jobs program
+-- prints it.
 -- Assumes nothing.
 use Prim.Native.Nat.{ℕ, zero, suc, _+_, _-_, _/_, _%_}
 use mathlib.Core.List.{List, [], _∷_, _++_}
@@ -29,7 +30,7 @@ decimalText (suc most) n = pick (ltb n 10) (digitOf n ∷ []) (decimalText most 
 abbrev pub refusalText : ℕ → List ℕ
 refusalText n = decimalText refusalMost n
 
--- a record, by its three numbers: "CC:M:N (code in two hexadecimal digits, motion and count decimal)"
+-- a record, by its three numbers: CC:M:N, the code in two hexadecimal digits, motion and count in decimal
 unfoldable pub recordText : ℕ → ℕ → ℕ → List ℕ
 recordText code motion count =
     byteText code ++ (colon ∷ (decimalText decimalMost motion ++ (colon ∷ decimalText decimalMost count)))

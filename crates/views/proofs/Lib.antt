@@ -6,5 +6,6 @@ pub mod StretchLaws
 pub mod StepLaws
 pub mod Along
 pub mod PlaceLaws
+pub mod ColumnLaws
 pub mod Demands
 pub mod WrongAnswers

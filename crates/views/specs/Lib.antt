@@ -3,3 +3,5 @@ pub mod View
 pub mod Window
 pub mod Held
 pub mod Places
+pub mod Refused
+pub mod Columns

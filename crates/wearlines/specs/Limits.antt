@@ -11,6 +11,6 @@ countLimit = 4294967295
 abbrev pub textMost : ℕ
 textMost = 3 * decimalMost + 3
 
--- "0,0,-" and #0A
+-- 0,0,- and #0A
 abbrev pub noStretchLength : ℕ
 noStretchLength = 6

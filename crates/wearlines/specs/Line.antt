@@ -1,6 +1,6 @@
--- What a line of a wear log says: the first is a width in decimal, each other a record as the jobs program prints it
--- (document 02, request 8: "CC:M:N (code in two hexadecimal digits, motion and count decimal)"). A line is given
--- without its #0A.
+-- What a line of a wear log says: the first is a width in decimal, each other a record as the jobs program prints it,
+-- CC:M:N, the code in two hexadecimal digits, motion and count in decimal. No paper has these lines; the view that is
+-- made of them is that of document 02, request 11. A line is given without its #0A.
 -- Assumes nothing.
 use Prim.Native.Nat.{ℕ, _+_}
 use mathlib.Core.Bool.{not, _&&_}
@@ -8,7 +8,6 @@ use mathlib.Core.List.{List}
 use lib.Dec.{eqb}
 use lib.ListN.{length}
 use Rattle.common.specs.Pick.{pick}
-use Rattle.status.specs.declared.words.ResultRecord.{ResultRecord}
 use Rattle.text.specs.Limits.{byteLimit}
 use Rattle.text.specs.Digits.{allDigits, isByte, byteOf, isDecimal, decimalOf}
 use Rattle.text.specs.Fields.{partOf, partEnd, after}
@@ -20,7 +19,7 @@ use Rattle.wearlines.specs.declared.line.RecordReading.the-variants.{NoR
 use Rattle.wearlines.specs.declared.line.WidthReading.{WidthReading}
 use Rattle.wearlines.specs.declared.line.WidthReading.the-variants.{NoWidth, OneWidth}
 
--- "code in two hexadecimal digits, motion and count decimal": a motion has 8 bits, a count 32
+-- the code in two hexadecimal digits, motion and count in decimal: a motion has 8 bits, a count 32
 unfoldable pub fieldsLine : List ℕ → List ℕ → List ℕ → RecordReading
 fieldsLine code motion count =
     pick (isByte code && (isDecimal byteLimit motion && isDecimal countLimit count))
@@ -31,7 +30,7 @@ fieldsLine code motion count =
 unfoldable pub afterColon : List ℕ → List ℕ
 afterColon s = after s (partEnd colon s)
 
--- "CC:M:N"
+-- CC:M:N
 unfoldable pub recordLine : List ℕ → RecordReading
 recordLine s = fieldsLine (partOf colon s) (partOf colon (afterColon s)) (afterColon (afterColon s))
 

@@ -22,13 +22,16 @@ use Rattle.records.specs.Place.{isPlace}
 use Rattle.records.specs.Build.{buildRefusal, builtBytes, buildInto}
 use Rattle.records.specs.Restore.{restoreRefusal, restoreInto}
 use Rattle.records.specs.Merge.{Pass, passOf, mergeRefusal, mergedImage, mergeImageInto, mergeMarksInto}
-use Rattle.records.specs.Interface.{scanRefusal, scanInto}
+use Rattle.records.specs.Interface.{imageCount, scanRefusal, scanInto}
 use Rattle.records.proofs.ImageLaws.{image-length, image-alike}
 use Rattle.records.proofs.PlaceLaws.{written-length}
 use Rattle.records.proofs.interface.ctc_build.Reads as build-reads
 use Rattle.records.proofs.interface.ctc_restore.Reads as restore-reads
 use Rattle.records.proofs.interface.ctc_merge.Reads as merge-reads
 use Rattle.records.proofs.interface.ctc_scan.Reads as scan-reads
+use Rattle.records.proofs.interface.ctc_image_length.Reads as length-reads
+use Rattle.records.proofs.interface.ctc_mark_count.Reads as marks-reads
+use Rattle.records.proofs.interface.ctc_image_count.Reads as count-reads
 use Rattle.records.proofs.interface.ctc_build.Met as build-met
 use Rattle.records.proofs.interface.ctc_build.Statement as build-statement
 use Rattle.records.proofs.interface.ctc_restore.Met as restore-met
@@ -103,6 +106,19 @@ pub record ScanAllows (marks space : List ℕ) (refusal : ℕ) (after : List ℕ
   pub promise : scan-reads.Post lifetimes (marks-slice, (space-slice, tt)) refusal
       (marks-slice, (at-last space-slice after, tt))
 
+-- what is told of a count, and of an image
+abbrev pub LengthAllows : ℕ → ℕ → ℕ → Type 0
+LengthAllows count density told = length-reads.Post tt (count, (density, tt)) told (count, (density, tt))
+
+abbrev pub MarksAllows : ℕ → ℕ → ℕ → Type 0
+MarksAllows count density told = marks-reads.Post tt (count, (density, tt)) told (count, (density, tt))
+
+pub record CountAllows (image : List ℕ) (told : ℕ) : Type 0 where
+  pub lifetimes : Lfts 1
+  pub image-slice : RefT (List ℕ)
+  pub holds-image : now image-slice ≡ image
+  pub promise : count-reads.Post lifetimes (image-slice, tt) told (image-slice, tt)
+
 -- an allowed answer is that of the definitions
 pub builds-are-defined : (bytes : List ℕ) (density place : ℕ) (space : List ℕ) (refusal : ℕ) (after : List ℕ)
     → BuildAllows bytes density place space refusal after
@@ -164,6 +180,9 @@ scans-are-defined marks space refusal after allowed = (
   allowed .promise .0 ∙ ap (λ (s : List ℕ). scanRefusal (length s)) (allowed .holds-space),
   allowed .promise .1 ∙ ap₂ scanInto (allowed .holds-marks) (allowed .holds-space),
 )
+
+pub counts-are-defined : (image : List ℕ) (told : ℕ) → CountAllows image told → told ≡ imageCount image
+counts-are-defined image told allowed = allowed .promise ∙ ap imageCount (allowed .holds-image)
 
 -- and that answer is allowed
 abbrev somewhere : List ℕ → RefT (List ℕ)
@@ -267,6 +286,13 @@ module _ (first second : Pass) (image marks imageAfter marksAfter : List ℕ)
       let promised = merges-are-defined first second image marks 0 imageAfter marksAfter allowed in
       promised .marks-after ∙ where-done _ _ _ (sym (promised .answer))
 
+  -- the merged image at the start of its own
+  pub image-left : imageAfter ≡ overwrite (mergedImage first second) image
+  unfolding mergeImageInto
+  image-left =
+      let promised = merges-are-defined first second image marks 0 imageAfter marksAfter allowed in
+      promised .image-after ∙ where-done _ _ _ (sym (promised .answer))
+
   pub merged-marks-left : take (length (first .marks)) marksAfter ≡ mergedMarks (first .marks) (second .marks)
   unfolding overwrite
   merged-marks-left =
@@ -274,14 +300,11 @@ module _ (first second : Pass) (image marks imageAfter marksAfter : List ℕ)
       ∙ take-at (mergedMarks (first .marks) (second .marks)) _ (length (first .marks))
       (marks-length (first .marks) (second .marks))
 
-  -- and the merged image at the start of its own
   pub merged-image-left : length (mergedImage first second) ≡ length (first .image)
       → take (length (first .image)) imageAfter ≡ mergedImage first second
-  unfolding mergeImageInto overwrite
+  unfolding overwrite
   merged-image-left long =
-      let promised = merges-are-defined first second image marks 0 imageAfter marksAfter allowed in
-      ap (λ (l : List ℕ). take (length (first .image)) l)
-      (promised .image-after ∙ where-done _ _ _ (sym (promised .answer)))
+      ap (λ (l : List ℕ). take (length (first .image)) l) image-left
       ∙ take-at (mergedImage first second) _ (length (first .image)) long
 
 -- ---- the functions
