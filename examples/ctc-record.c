@@ -1,5 +1,5 @@
 /*
- * ctc-record: builds, merges and restores tape records, file to file.
+ * ctc-record: builds, merges, verifies and restores tape records, file to file.
  *
  * An example of the library's use, to be copied from. The library decides what
  * is legal: the tool hands it whatever the files hold and puts its refusals into
@@ -28,6 +28,7 @@ static const char usage[] =
     "       ctc-record bytes DENSITY IMAGE-FILE BYTES-FILE\n"
     "       ctc-record restore IMAGE-FILE MARKS-FILE BYTES-FILE\n"
     "       ctc-record merge FIRST FIRST-MARKS SECOND SECOND-MARKS IMAGE-FILE MARKS-FILE\n"
+    "       ctc-record verify IMAGE-FILE\n"
     "       ctc-record show IMAGE-FILE DENSITY [MARKS-FILE]\n"
     "       ctc-record --help | --version\n";
 
@@ -40,7 +41,16 @@ static const char help[] =
     "merge    writes one image and its marks out of two passes over a GCR record: the\n"
     "         images FIRST and SECOND with their marks. A blockette is bad only where\n"
     "         both passes had it bad.\n"
-    "show     prints the count, the blockettes and the errors of an image.\n"
+    "verify   tells whether the check blockettes of a GCR image fit its data: check\n"
+    "         blockette 1 is the XOR of the odd-numbered data blockettes, check\n"
+    "         blockette 0 that of the even-numbered ones. It knows of no marks.\n"
+    "show     prints the count, the blockettes and every error of an image, and of a\n"
+    "         GCR image whether its check blockettes fit.\n"
+    "\n"
+    "Of an odd or even check blockette nothing can be told where a blockette of its\n"
+    "parity is marked bad. Where all of a parity are marked good and the check does\n"
+    "not fit, a blockette is damaged though its mark is good: restore and bytes gcr\n"
+    "then warn on standard error, and write the bytes as they are.\n"
     "\n"
     "DENSITY     mfm or gcr\n"
     "PLACE       which byte came with bad parity, counted from 0: those after it are\n"
@@ -53,8 +63,8 @@ static const char help[] =
     "is written is never a file that is read, and an earlier file is replaced whole\n"
     "or not at all, of two files neither before both are whole; it keeps its mode.\n"
     "\n"
-    "Exit status: 0 done; 1 refused, or a file could not be read or written;\n"
-    "2 wrong usage. A refused call writes no file.\n";
+    "Exit status: 0 done; 1 refused, or a check that verify finds not to fit, or a\n"
+    "file could not be read or written; 2 wrong usage. A refused call writes no file.\n";
 
 /* What was read of a file. */
 struct input {
@@ -90,7 +100,7 @@ static const char *refusal_in_words(uint32_t refusal)
     case CTC_REFUSED_SPACE:
         return "too little space for the answer";
     case CTC_REFUSED_UNRESTORABLE:
-        return "two bad blockettes of one parity, which cannot be restored";
+        return "two bad blockettes of one parity: merge this pass with another";
     case CTC_REFUSED_COUNTS:
         return "the counts of the two passes differ";
     case CTC_REFUSED_UNLIKE:
@@ -454,6 +464,41 @@ static bool marks_legal(const struct input *marks)
     return true;
 }
 
+/* By parity, which is 1 for odd and 0 for even: of a blockette, that of how many stand behind it. */
+static const uint32_t unfit_parity[] = {CTC_UNFIT_EVEN, CTC_UNFIT_ODD};
+
+/* Goes to the next bad blockette of a parity; SIZE_MAX is before the first. */
+static bool next_bad(const struct input *marks, size_t parity, size_t *place)
+{
+    while (++*place < marks->length) {
+        size_t behind = marks->length - 1 - *place;
+        if (behind % 2 == parity && marks->bytes[*place] != CTC_MARK_GOOD) {
+            return true;
+        }
+    }
+    return false;
+}
+
+static bool any_bad(const struct input *marks, size_t parity)
+{
+    size_t place = SIZE_MAX;
+    return next_bad(marks, parity, &place);
+}
+
+/* Warns of each parity that does not fit though all of it is marked good. */
+static void warn_of_checks(const struct input *image, const struct input *marks)
+{
+    uint32_t told = ctc_verify(image->bytes, image->length);
+    for (size_t parity = 2; parity-- > 0;) {
+        if ((told & unfit_parity[parity]) != 0 && !any_bad(marks, parity)) {
+            fprintf(stderr,
+                    "ctc-record: %s: warning: check blockette %zu does not fit the %s data "
+                    "blockettes: one that is marked good is damaged\n",
+                    image->path, parity, parity == 1 ? "odd" : "even");
+        }
+    }
+}
+
 /* One reading of a GCR record, with room for a byte more than is legal. */
 struct pass {
     struct input image, marks;
@@ -518,6 +563,7 @@ static int restore(const char *image_path, const char *marks_path, const char *b
     if (refusal == CTC_DONE) {
         size_t count = ctc_image_count(image->bytes, image->length);
         const struct input *inputs[] = {image, marks, NULL};
+        warn_of_checks(image, marks);
         return write_output(bytes_path, bytes, count, inputs) ? STATUS_DONE : STATUS_FAILED;
     }
     if (!said_of_pass(&pass, refusal)) {
@@ -602,15 +648,67 @@ static int bytes_of(uint8_t density, const char *image_path, const char *bytes_p
                                                                              : STATUS_FAILED;
 }
 
-static void show_entry(const char *name, const uint8_t *entry)
+/*
+ * Prints of each check blockette whether it fits; of one with a bad blockette in its
+ * parity, that nothing can be told. Tells whether none is found not to fit.
+ */
+static bool show_checks(const struct input *image, const struct input *marks)
 {
-    uint8_t mark = entry[0], kind = entry[1], number = entry[2];
-    if (kind == 0) {
-        printf("%-13s none\n", name);
-    } else {
-        printf("%-13s %s blockette %d, mark %d\n", name,
-               kind == CTC_KIND_CHECK ? "check" : "data", number, mark);
+    static const char *const names[] = {"even check", "odd check"};
+    uint32_t told = ctc_verify(image->bytes, image->length);
+    bool fit = true;
+    for (size_t parity = 2; parity-- > 0;) {
+        bool unfit = (told & unfit_parity[parity]) != 0, bad = any_bad(marks, parity);
+        printf("%-13s %s\n", names[parity],
+               bad     ? "cannot be told, a blockette is bad"
+               : unfit ? "does not fit"
+                       : "fits");
+        fit = fit && (bad || !unfit);
     }
+    return fit;
+}
+
+/* Prints every bad blockette, odd ones first, in tape order: a merge is planned from them. */
+static void show_errors(const struct input *marks)
+{
+    static const char *const names[] = {"even error", "odd error"};
+    for (size_t parity = 2; parity-- > 0;) {
+        size_t place = SIZE_MAX;
+        if (!any_bad(marks, parity)) {
+            printf("%-13s none\n", names[parity]);
+        }
+        while (next_bad(marks, parity, &place)) {
+            size_t behind = marks->length - 1 - place;
+            printf("%-13s %s blockette %zu, mark %d\n", names[parity],
+                   behind < 2 ? "check" : "data", behind < 2 ? behind : behind - 2,
+                   marks->bytes[place]);
+        }
+    }
+}
+
+/* Tells whether what is printed would go into a file that was read, and says so. */
+static bool prints_into(const struct input *const *inputs)
+{
+    struct stat output;
+    return fstat(STDOUT_FILENO, &output) == 0 && was_read("standard output", &output, inputs);
+}
+
+static int verify(const char *image_path)
+{
+    static uint8_t image_bytes[CTC_IMAGE_MOST + 1];
+    struct input image = {.path = image_path, .bytes = image_bytes};
+    const struct input no_marks = {.length = 0};
+    const struct input *inputs[] = {&image, NULL};
+
+    if (!read_input(&image, sizeof image_bytes) || !lengths_fit(&image, NULL, CTC_DENSITY_GCR) ||
+        prints_into(inputs)) {
+        return STATUS_FAILED;
+    }
+    if (ctc_image_count(image.bytes, image.length) == 0) {
+        printf("%-13s none\n", "checks");
+        return STATUS_DONE;
+    }
+    return show_checks(&image, &no_marks) ? STATUS_DONE : STATUS_FAILED;
 }
 
 static int show(const char *image_path, uint8_t density, const char *marks_path)
@@ -631,8 +729,7 @@ static int show(const char *image_path, uint8_t density, const char *marks_path)
     if (!lengths_fit(&image, marks_path == NULL ? NULL : &marks, density) || !marks_legal(&marks)) {
         return STATUS_FAILED;
     }
-    struct stat output;
-    if (fstat(STDOUT_FILENO, &output) == 0 && was_read("standard output", &output, inputs)) {
+    if (prints_into(inputs)) {
         return STATUS_FAILED;
     }
 
@@ -643,6 +740,7 @@ static int show(const char *image_path, uint8_t density, const char *marks_path)
         printf("%-13s none\n", "blockettes");
     } else {
         printf("%-13s %zu data, 2 check\n", "blockettes", blockettes - 2);
+        show_checks(&image, &marks);
     }
     if (marks_path != NULL) {
         uint8_t report[CTC_REPORT_LENGTH];
@@ -653,11 +751,7 @@ static int show(const char *image_path, uint8_t density, const char *marks_path)
             return STATUS_FAILED;
         }
         bool stopped = report[CTC_REPORT_STOP + 1] != 0;
-        show_entry("odd error", report + CTC_REPORT_ODD);
-        show_entry("even error", report + CTC_REPORT_EVEN);
-        if (stopped) {
-            show_entry("one too many", report + CTC_REPORT_STOP);
-        }
+        show_errors(&marks);
         printf("%-13s %s\n", "restorable", stopped ? "no" : "yes");
     }
     return STATUS_DONE;
@@ -727,6 +821,12 @@ static int run(int count, char **words)
         }
         return merge(words + 2);
     }
+    if (is(verb, "verify")) {
+        if (count != 3) {
+            return wrong_usage("verify takes one word");
+        }
+        return verify(words[2]);
+    }
     if (is(verb, "show")) {
         if (count != 4 && count != 5) {
             return wrong_usage("show takes two or three words");
@@ -739,7 +839,8 @@ static int run(int count, char **words)
         }
         return show(words[2], density, count == 5 ? words[4] : NULL);
     }
-    return wrong_usage("the first word is build, bytes, restore, merge, show, --help or --version");
+    return wrong_usage(
+        "the first word is build, bytes, restore, merge, verify, show, --help or --version");
 }
 
 int main(int count, char **words)

@@ -4,7 +4,9 @@
  * The builder turns record bytes into the image that goes on tape; the restorer
  * turns a GCR image, some of whose blockettes were read badly, back into the
  * record bytes. A merge makes one GCR image out of two passes over a record, in
- * which different blockettes were read badly. Link with librecords.a (x86-64):
+ * which different blockettes were read badly. Whether the check blockettes of a GCR
+ * image fit its data, ctc_verify tells. Link with librecords.a (x86-64), or with the
+ * libctc.a that tools/cross makes for another processor:
  *
  *     cc -I include tool.c target/staticlib/librecords.a
  *
@@ -42,6 +44,8 @@
  *     returned.
  *   - Nothing is kept between calls, so several threads may call at once, each
  *     with its own space to be written.
+ *
+ * A length is 64 bits wide on every processor (ctc_size).
  */
 #ifndef CTC_RECORDS_H
 #define CTC_RECORDS_H
@@ -51,6 +55,9 @@
 
 /* The version of this header and of the library, as the file VERSION has it. */
 #define CTC_VERSION "2.0.0"
+
+/* A length or a place. */
+typedef uint64_t ctc_size;
 
 /* The most bytes that a record may have: all that its 16-bit count can say. */
 #define CTC_COUNT_LIMIT 65535
@@ -80,7 +87,7 @@
 #define CTC_MARK_ERROR_LEAST 1
 #define CTC_MARK_ERROR_MOST 9
 
-/* What ctc_build, ctc_restore, ctc_merge and ctc_scan return. */
+/* What ctc_build, ctc_restore, ctc_merge, ctc_scan and ctc_verify return. */
 #define CTC_DONE 0u
 #define CTC_REFUSED_LENGTH 9u         /* more bytes than the limit, or a wrong length */
 #define CTC_REFUSED_MARK 10u          /* a mark that is neither 1-9 nor 15 */
@@ -89,6 +96,10 @@
 #define CTC_REFUSED_COUNTS 13u        /* two passes with different counts */
 #define CTC_REFUSED_UNLIKE 14u        /* a blockette good in both passes, and unlike */
 #define CTC_REFUSED_PLACE 15u         /* a place with no byte that is not CTC_NO_PLACE */
+
+/* What ctc_verify returns beside: bits of their own, which no refusal has. */
+#define CTC_UNFIT_EVEN 32u  /* check blockette 0 is not the XOR of its data */
+#define CTC_UNFIT_ODD 64u   /* check blockette 1 is not */
 
 /* The report of ctc_scan: three entries of mark, kind and number. */
 #define CTC_REPORT_LENGTH 9
@@ -121,15 +132,15 @@ extern "C" {
  *   CTC_REFUSED_PLACE (15)    place is neither below bytes_len nor CTC_NO_PLACE
  * When refused, all of image is unchanged.
  */
-uint32_t ctc_build(const uint8_t *bytes, size_t bytes_len, uint8_t density,
-                   size_t place, uint8_t *image, size_t image_len);
+uint32_t ctc_build(const uint8_t *bytes, ctc_size bytes_len, uint8_t density,
+                   ctc_size place, uint8_t *image, ctc_size image_len);
 
 /*
  * Restores the bytes of a record from its GCR image. A bad data blockette is
  * given as the XOR of the check blockette of its parity and the other data
  * blockettes of that parity. Good blockettes are given as they are: whether the
- * check blockettes fit them is not looked at. A bad check blockette alone needs
- * no repair.
+ * check blockettes fit them is not looked at, which ctc_verify does. A bad check
+ * blockette alone needs no repair.
  *
  *   image, image_len   the whole image, of exactly the length its count asks for
  *   marks, marks_len   exactly one mark for each blockette, in tape order
@@ -146,9 +157,9 @@ uint32_t ctc_build(const uint8_t *bytes, size_t bytes_len, uint8_t density,
  *   CTC_REFUSED_UNRESTORABLE (12)  two blockettes of one parity are bad
  * When refused, all of out is unchanged.
  */
-uint32_t ctc_restore(const uint8_t *image, size_t image_len,
-                     const uint8_t *marks, size_t marks_len,
-                     uint8_t *out, size_t out_len);
+uint32_t ctc_restore(const uint8_t *image, ctc_size image_len,
+                     const uint8_t *marks, ctc_size marks_len,
+                     uint8_t *out, ctc_size out_len);
 
 /*
  * Merges two passes over a record, each a GCR image with its marks, into one image
@@ -156,7 +167,7 @@ uint32_t ctc_restore(const uint8_t *image, size_t image_len,
  * if that marks it good, else from the second if that does, else from the first;
  * its mark comes with it. So it is bad only where both passes had it bad, and
  * ctc_restore may give a record that it gives from neither pass alone. Whether the
- * check blockettes fit is not looked at.
+ * check blockettes fit is not looked at: ctc_verify tells it of the merged image.
  *
  *   first, first_len      the whole image of the first pass, of exactly the length
  *                         its count asks for
@@ -183,32 +194,61 @@ uint32_t ctc_restore(const uint8_t *image, size_t image_len,
  * Each is looked for in both passes before the next, and 11 comes last. When
  * refused, all of image and all of marks are unchanged.
  */
-uint32_t ctc_merge(const uint8_t *first, size_t first_len,
-                   const uint8_t *first_marks, size_t first_marks_len,
-                   const uint8_t *second, size_t second_len,
-                   const uint8_t *second_marks, size_t second_marks_len,
-                   uint8_t *image, size_t image_len,
-                   uint8_t *marks, size_t marks_len);
+uint32_t ctc_merge(const uint8_t *first, ctc_size first_len,
+                   const uint8_t *first_marks, ctc_size first_marks_len,
+                   const uint8_t *second, ctc_size second_len,
+                   const uint8_t *second_marks, ctc_size second_marks_len,
+                   uint8_t *image, ctc_size image_len,
+                   uint8_t *marks, ctc_size marks_len);
+
+/*
+ * Tells whether the check blockettes of a GCR image fit its data: whether check
+ * blockette 1 is the XOR of the odd-numbered data blockettes, and check blockette 0
+ * that of the even-numbered ones. The parities are told apart, and each as the image
+ * stands; marks are not looked at.
+ *
+ * Every GCR image that ctc_build gives fits in both. With the bytes of one blockette
+ * changed, of data or of check, its parity does not fit and the other one does. Two
+ * or more changed blockettes of one parity are not told where their changes cancel
+ * out by XOR.
+ *
+ * Of a parity whose marks are all good, an answer that it does not fit means that a
+ * blockette with a good mark is damaged. Of a parity with a bad mark it means nothing:
+ * with one, ctc_restore makes that data blockette out of the check, and nothing is left
+ * to hold the others to.
+ *
+ *   image, image_len   the whole image, of exactly the length its count asks for
+ *
+ * Returns, c being the image's count,
+ *   CTC_DONE (0)              both fit; so it is for a record of 0 bytes, which has
+ *                             no check blockettes
+ *   CTC_REFUSED_LENGTH (9)    image_len is below 2, or is not
+ *                             ctc_image_length(c, GCR)
+ *   CTC_UNFIT_EVEN (32)       check blockette 0 does not fit, 1 does
+ *   CTC_UNFIT_ODD (64)        check blockette 1 does not fit, 0 does
+ *   CTC_UNFIT_EVEN | CTC_UNFIT_ODD (96)  neither does
+ */
+uint32_t ctc_verify(const uint8_t *image, ctc_size image_len);
 
 /*
  * The length of the image of a record of `count` bytes, from 2 to CTC_IMAGE_MOST;
  * 0 where the count is above CTC_COUNT_LIMIT.
  */
-size_t ctc_image_length(size_t count, uint8_t density);
+ctc_size ctc_image_length(ctc_size count, uint8_t density);
 
 /*
  * The number of marks of a record of `count` bytes: n + 2 in GCR, up to
  * CTC_MARKS_MOST; 0 in MFM, for a count of 0, and where the count is above
  * CTC_COUNT_LIMIT.
  */
-size_t ctc_mark_count(size_t count, uint8_t density);
+ctc_size ctc_mark_count(ctc_size count, uint8_t density);
 
 /*
  * The count that the first two bytes of an image say, from 0 to CTC_COUNT_LIMIT.
  * The length of the image is not held to it. CTC_NO_COUNT (65,536) where image_len
  * is below 2.
  */
-size_t ctc_image_count(const uint8_t *image, size_t image_len);
+ctc_size ctc_image_count(const uint8_t *image, ctc_size image_len);
 
 /*
  * Walks the marks in tape order and reports the first odd error, the first even
@@ -235,8 +275,8 @@ size_t ctc_image_count(const uint8_t *image, size_t image_len);
  *   CTC_REFUSED_SPACE (11)    report_len is less than CTC_REPORT_LENGTH; all of
  *                             report is unchanged
  */
-uint32_t ctc_scan(const uint8_t *marks, size_t marks_len,
-                  uint8_t *report, size_t report_len);
+uint32_t ctc_scan(const uint8_t *marks, ctc_size marks_len,
+                  uint8_t *report, ctc_size report_len);
 
 #ifdef __cplusplus
 }

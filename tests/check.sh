@@ -3,6 +3,7 @@
 
 passed=0
 failed=0
+left_out=0
 
 pass() { # NAME
     passed=$((passed + 1))
@@ -14,6 +15,12 @@ fail() { # NAME [DETAIL]...
     echo "FAILED $1"
     shift
     [ $# -eq 0 ] || printf '  %s\n' "$@"
+}
+
+# A test whose tool is missing: neither passed nor failed, and counted as left out.
+leave_out() { # NAME WHY
+    left_out=$((left_out + 1))
+    echo "left out: $1: $2"
 }
 
 # check NAME COMMAND...: one test, which passes where the command succeeds; where it fails, what it says is shown.
@@ -33,11 +40,14 @@ no() { # REASON
     return 1
 }
 
-# add_count NAME STATUS FILE: adds what the last line of FILE counts, 'N passed, M failed'. No such line, no test at all, or a status of the command
-# that does not fit the line is one failure more.
+# add_count NAME STATUS FILE: adds what the last line of FILE counts, 'N passed, M failed', and the line before it, where
+# that is 'K left out'. No such last line, no test at all, or a status of the command that does not fit the line is one
+# failure more.
 add_count() {
-    local name=$1 status=$2 last
+    local name=$1 status=$2 last before
     last=$(tail -n 1 "$3")
+    before=$(tail -n 2 "$3" | head -n 1)
+    if [[ $before =~ ^([0-9]+)\ left\ out$ ]]; then left_out=$((left_out + BASH_REMATCH[1])); fi
     if ! [[ $last =~ ^([0-9]+)\ passed,\ ([0-9]+)\ failed$ ]]; then
         fail "$name: ended with status $status and without its count"
         return
@@ -77,8 +87,9 @@ joined() {
     add_count "$1" "$status" "$logs/$1"
 }
 
-# The last line of a script of tests, and its status: no test at all is a failure.
+# The last line of a script of tests, and its status: no test at all is a failure. What was left out stands before it.
 finish() {
+    [ "$left_out" -eq 0 ] || echo "$left_out left out"
     echo "$passed passed, $failed failed"
     [ "$failed" -eq 0 ] && [ "$passed" -gt 0 ]
 }

@@ -67,9 +67,25 @@ static bool two_passes()
     return built && done && unlike && merged() == CTC_REFUSED_COUNTS;
 }
 
+// Data 0, check 1, check 0: each tells its parity once it is changed.
+static bool verified()
+{
+    std::vector<std::uint8_t> image(770);
+    const auto told = [&] { return ctc_verify(image.data(), image.size()); };
+    bool right = build({1, 2, 3, 4, 5}, CTC_DENSITY_GCR, image) == CTC_DONE && told() == CTC_DONE;
+    image[2 + 256] ^= 1;
+    right = right && told() == CTC_UNFIT_ODD;
+    image[2] ^= 1;
+    right = right && told() == (CTC_UNFIT_ODD | CTC_UNFIT_EVEN);
+    image[2 + 256] ^= 1;
+    right = right && told() == CTC_UNFIT_EVEN;
+    image.pop_back();
+    return right && told() == CTC_REFUSED_LENGTH;
+}
+
 int main()
 {
-    const int passed = five_bytes() + bad_parity() + the_limit() + two_passes();
-    std::printf("%d passed, %d failed\n", passed, 4 - passed);
-    return passed == 4 ? 0 : 1;
+    const int passed = five_bytes() + bad_parity() + the_limit() + two_passes() + verified();
+    std::printf("%d passed, %d failed\n", passed, 5 - passed);
+    return passed == 5 ? 0 : 1;
 }

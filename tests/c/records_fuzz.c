@@ -10,7 +10,8 @@
  *
  * 49 wrong rules were put in on trial, one at a time, 28 of them about the limit,
  * long counts and high numbers: both runs found each, the fuzzer within seven seconds.
- * Of 17 wrong merges and 17 wrong rules of a bad byte's place the fixed run found each.
+ * Of 17 wrong merges, 17 wrong rules of a bad byte's place and 17 of which parities fit
+ * the fixed run found each.
  */
 #define _DEFAULT_SOURCE /* for MAP_ANONYMOUS */
 
@@ -37,7 +38,9 @@ enum {
     UNRESTORABLE = 12,
     OTHER_COUNT = 13,
     UNLIKE = 14,
-    NO_SUCH_PLACE = 15
+    NO_SUCH_PLACE = 15,
+    EVEN_UNFIT = 32,
+    ODD_UNFIT = 64
 };
 
 static size_t data_blockettes(size_t count)
@@ -220,13 +223,45 @@ static uint32_t rule_restore(const uint8_t *image, size_t length, const uint8_t 
     return DONE;
 }
 
+/* A parity fits where its data and its check cancel out. */
+static uint32_t rule_verify(const uint8_t *image, size_t length)
+{
+    size_t count = rule_image_count(image, length);
+    if (count > LIMIT || length != rule_image_length(count, 1)) {
+        return WRONG_LENGTH;
+    }
+    uint32_t told = DONE;
+    for (size_t behind = 0; behind < 2; behind++) {
+        for (size_t i = 0; i < BLOCKETTE; i++) {
+            uint8_t sum = 0;
+            for (size_t from = behind; from < all_blockettes(count); from += 2) {
+                sum ^= image[length - BLOCKETTE * (from + 1) + i];
+            }
+            if (sum != 0) {
+                told |= behind == 0 ? EVEN_UNFIT : ODD_UNFIT;
+            }
+        }
+    }
+    return told;
+}
+
 /* ---- calls ---- */
 
-enum function { BUILD, RESTORE, SCAN, MERGE, IMAGE_LENGTH, MARK_COUNT, IMAGE_COUNT, FUNCTIONS };
+enum function {
+    BUILD,
+    RESTORE,
+    SCAN,
+    MERGE,
+    IMAGE_LENGTH,
+    MARK_COUNT,
+    IMAGE_COUNT,
+    VERIFY,
+    FUNCTIONS
+};
 
 static const char *const names[FUNCTIONS] = {
-    "ctc_build",        "ctc_restore",    "ctc_scan",       "ctc_merge",
-    "ctc_image_length", "ctc_mark_count", "ctc_image_count"};
+    "ctc_build",        "ctc_restore",    "ctc_scan",        "ctc_merge",
+    "ctc_image_length", "ctc_mark_count", "ctc_image_count", "ctc_verify"};
 
 /*
  * What a call is handed: what it reads, and the space that it may write. A merge
@@ -313,6 +348,8 @@ static size_t ask_library(const struct call *call, const struct buffer *lent)
         return ctc_image_length(call->count, call->density);
     case MARK_COUNT:
         return ctc_mark_count(call->count, call->density);
+    case VERIFY:
+        return ctc_verify(first->bytes, first->length);
     default:
         return ctc_image_count(first->bytes, first->length);
     }
@@ -337,6 +374,8 @@ static size_t ask_rules(const struct call *call, uint8_t *space, uint8_t *other_
         return rule_image_length(call->count, call->density);
     case MARK_COUNT:
         return rule_mark_count(call->count, call->density);
+    case VERIFY:
+        return rule_verify(first->bytes, first->length);
     default:
         return rule_image_count(first->bytes, first->length);
     }
@@ -609,6 +648,8 @@ static void right_lengths(const struct call *call, size_t *right)
         right[FIRST] = 2 + BLOCKETTE * all_blockettes(call->count);
         right[SECOND] = all_blockettes(call->count);
         right[SPACE] = call->count;
+    } else if (call->function == VERIFY) {
+        right[FIRST] = 2 + BLOCKETTE * all_blockettes(call->count);
     } else if (call->function == MERGE) {
         right[SECOND] = right[OTHER_SPACE] = all_blockettes(call->count);
         right[FIRST] = right[SPACE] = 2 + BLOCKETTE * right[SECOND];
@@ -649,6 +690,23 @@ static void next_passes(struct source *source, const struct call *call, const si
     spoil(source, other, contents[OTHER_SECOND], right[OTHER_SECOND]);
 }
 
+/* A built image with up to three blockettes that are changed in one bit each, or any image. */
+static void next_verified(struct source *source, uint8_t *image, size_t count)
+{
+    uint8_t changes = next_byte(source) % 5;
+    size_t blockettes = all_blockettes(count);
+    next_image(source, image, count);
+    if (changes < 4 && count <= LIMIT) {
+        static uint8_t record[MOST];
+        fill(source, record, count);
+        rule_build(record, count, 1, NO_PLACE, image, MOST);
+        for (; changes > 0 && blockettes > 0; changes--) {
+            size_t at = 2 + BLOCKETTE * next_place(source, blockettes) + next_place(source, BLOCKETTE);
+            image[at] = (uint8_t)(image[at] ^ 1u << next_byte(source) % 8);
+        }
+    }
+}
+
 static void next_contents(struct source *source, const struct call *call, const size_t *right)
 {
     memset(contents, 0, sizeof contents);
@@ -658,6 +716,8 @@ static void next_contents(struct source *source, const struct call *call, const 
         next_marks(source, contents[FIRST], right[FIRST]);
     } else if (call->function == MERGE) {
         next_passes(source, call, right);
+    } else if (call->function == VERIFY) {
+        next_verified(source, contents[FIRST], call->count);
     } else {
         next_marks(source, contents[SECOND], right[SECOND]);
         next_image(source, contents[FIRST], call->count);
@@ -720,9 +780,12 @@ int LLVMFuzzerTestOneInput(const uint8_t *data, size_t size)
 
 #else
 
-enum { CALLS = 14000, KINDS = 16 };
+enum { CALLS = 16000, KINDS = 16 };
 
-/* Calls of each function by their kind of answer: the refusal, or, of a number, whether there is one. */
+/*
+ * Calls of each function by their kind of answer: the refusal, or, of a number, whether there is
+ * one; of verify, which parities do not fit.
+ */
 static size_t calls[FUNCTIONS][KINDS];
 static size_t wrong[FUNCTIONS];
 
@@ -736,6 +799,7 @@ static const unsigned kinds_needed[FUNCTIONS] = {
     [IMAGE_LENGTH] = 3,
     [MARK_COUNT] = 3,
     [IMAGE_COUNT] = 3,
+    [VERIFY] = 1u << DONE | 1u << WRONG_LENGTH | 1u << 1 | 1u << 2 | 1u << 3,
 };
 
 static size_t kind_of(enum function function, size_t answer)
@@ -743,7 +807,7 @@ static size_t kind_of(enum function function, size_t answer)
     if (function == IMAGE_LENGTH || function == MARK_COUNT || function == IMAGE_COUNT) {
         return answer != 0 && answer != NO_COUNT;
     }
-    return answer;
+    return answer < EVEN_UNFIT ? answer : answer / EVEN_UNFIT;
 }
 
 /* A function passes where all calls agreed and no kind of answer was missed. */

@@ -98,8 +98,16 @@ static uint8_t random_error(void)
 /* ---- lent spaces ---- */
 
 /* In this order: guards say most, and a fence ends the run before malloc's own data is hit. */
-enum lay { GUARDED, FENCE_BEHIND, FENCE_BEFORE, EXACT, LAYS, FIRST_LAY = GUARDED };
+enum lay { GUARDED, FENCE_BEHIND, FENCE_BEFORE, EXACT, ALL_LAYS, FIRST_LAY = GUARDED };
 enum { GUARD = 64 };
+
+/* An emulated processor is slow: it gets fewer lays, and of long records every STEPth blockette. */
+#ifndef LAYS
+#define LAYS ALL_LAYS
+#endif
+#ifndef STEP
+#define STEP 1 /* a divisor of 255 */
+#endif
 
 struct lent {
     enum lay lay;
@@ -124,16 +132,13 @@ static uint8_t guard_byte(size_t place)
     return (uint8_t)(place * 29 + 165);
 }
 
-/* Goes to the next place around a lent space that can be read; SIZE_MAX is before the first. */
+/* Goes to the next guard around a lent space, none at a fence; SIZE_MAX is before the first. */
 static bool next_guard(const struct lent *lent, size_t *place)
 {
-    size_t from = 0, to = lent->memory_length;
-    size_t start = (size_t)(lent->bytes - lent->memory);
-    if (lent->lay == FENCE_BEFORE) {
-        from = lent->page;
-    } else if (lent->lay == FENCE_BEHIND) {
-        to -= lent->page;
-    }
+    size_t start = (size_t)(lent->bytes - lent->memory), end = start + lent->length;
+    size_t from = lent->lay == FENCE_BEFORE ? start : start < GUARD ? 0 : start - GUARD;
+    size_t to = lent->memory_length - (lent->lay == FENCE_BEHIND ? lent->page : 0);
+    to = to - end < GUARD ? to : end + GUARD;
     *place = *place == SIZE_MAX ? from : *place + 1;
     if (*place == start) {
         *place += lent->length;
@@ -242,7 +247,7 @@ static uint32_t give_after(const struct kept *first, uint8_t *space, size_t leng
     return first->answer;
 }
 
-static uint32_t build_with(size_t place, const uint8_t *bytes, size_t bytes_len, uint8_t density,
+static uint32_t build_with(ctc_size place, const uint8_t *bytes, size_t bytes_len, uint8_t density,
                            uint8_t *space, size_t space_len)
 {
     for (enum lay lay = FIRST_LAY; lay < LAYS; lay++) {
@@ -335,6 +340,19 @@ static size_t image_count(const uint8_t *image, size_t image_len)
     return count;
 }
 
+static uint32_t verify(const uint8_t *image, size_t image_len)
+{
+    uint32_t told = 0;
+    for (enum lay lay = FIRST_LAY; lay < LAYS; lay++) {
+        struct lent input = lend(lay, image, image_len);
+        uint32_t given = ctc_verify(input.bytes, image_len);
+        take_back_unchanged(&input, image, "image");
+        told = lay == FIRST_LAY ? given : told;
+        expect(given == told, "verify: it depends on where the image lies");
+    }
+    return told;
+}
+
 /* ---- what is expected ---- */
 
 static size_t data_blockettes(size_t count)
@@ -383,12 +401,22 @@ static uint8_t marks_out[1024];
 static struct pass first, second;
 
 /* Some counts, then those at the edges of every blockette: 256k - 1, 256k and 256k + 1. */
-enum { FEW = 7, MOST_BLOCKETTES = CTC_MARKS_MOST - 2, EDGES = FEW + 3 * MOST_BLOCKETTES - 2 };
+enum {
+    FEW = 7,
+    MOST_BLOCKETTES = CTC_MARKS_MOST - 2,
+    EDGES = FEW + 3 * ((MOST_BLOCKETTES - 1) / STEP + 1) - 2
+};
 
 static size_t edge_count(size_t i)
 {
     static const size_t few[FEW] = {0, 1, 2, 3, 5, 600, CTC_COUNT_LIMIT - 1};
-    return i < FEW ? few[i] : 256 * (1 + (i - FEW) / 3) + (i - FEW) % 3 - 1;
+    return i < FEW ? few[i] : 256 * (1 + STEP * ((i - FEW) / 3)) + (i - FEW) % 3 - 1;
+}
+
+/* The places of the longest record's blockettes: the first two, every STEPth, and the last two. */
+static size_t next_place(size_t place)
+{
+    return place == 0 || place + STEP >= CTC_MARKS_MOST - 1 ? place + 1 : place + STEP;
 }
 
 /* The counts for which everything is tried; for those between, what differs from count to count. */
@@ -425,6 +453,7 @@ static void constants(void)
     expect(CTC_REFUSED_SPACE == 11 && CTC_REFUSED_UNRESTORABLE == 12, "refusals");
     expect(CTC_REFUSED_COUNTS == 13 && CTC_REFUSED_UNLIKE == 14, "refusals");
     expect(CTC_REFUSED_PLACE == 15, "refusals");
+    expect(CTC_UNFIT_EVEN == 32 && CTC_UNFIT_ODD == 64, "bits of the parities");
     expect(ctc_image_length(CTC_COUNT_LIMIT, CTC_DENSITY_GCR) == CTC_IMAGE_MOST, "longest image");
     expect(ctc_mark_count(CTC_COUNT_LIMIT, CTC_DENSITY_GCR) == CTC_MARKS_MOST, "most marks");
 }
@@ -512,6 +541,7 @@ static void null_image(void)
     expect(ctc_restore(NULL, 0, NULL, 0, NULL, 0) == CTC_REFUSED_LENGTH, "nothing at all");
     expect(space[0] == 1 && space[3] == 4, "nothing written");
     expect(ctc_image_count(NULL, 0) == CTC_NO_COUNT, "count of no image");
+    expect(ctc_verify(NULL, 0) == CTC_REFUSED_LENGTH, "no image to verify");
 }
 
 static void null_marks(void)
@@ -704,19 +734,19 @@ static void builder_refuses_places(void)
         for (size_t i = 0; i < EDGES; i++) {
             size_t count = edge_count(i);
             size_t length = expected_image(bytes, count, density, expected);
-            const size_t places[] = {count, count + 1, CTC_NO_PLACE - 1, CTC_NO_PLACE + 1,
-                                     (size_t)UINT32_MAX + 1, (size_t)UINT32_MAX + 1 + CTC_NO_PLACE,
-                                     SIZE_MAX};
+            const ctc_size places[] = {count, count + 1, CTC_NO_PLACE - 1, CTC_NO_PLACE + 1,
+                                       (ctc_size)UINT32_MAX + 1,
+                                       (ctc_size)UINT32_MAX + 1 + CTC_NO_PLACE, UINT64_MAX};
             size_t tried = at_an_end(count) ? sizeof places / sizeof places[0] : 1;
             fill_random(before, length);
             memcpy(image, before, length);
             for (size_t p = 0; p < tried; p++) {
                 expect(build_with(places[p], bytes, count, density, image, length) ==
                            CTC_REFUSED_PLACE,
-                       "place %zu of %zu", places[p], count);
+                       "place %zu of %zu", (size_t)places[p], count);
                 expect(build_with(places[p], bytes, count, density, image, length - 1) ==
                            CTC_REFUSED_SPACE,
-                       "11 before 15, place %zu of %zu", places[p], count);
+                       "11 before 15, place %zu of %zu", (size_t)places[p], count);
             }
             expect(alike(image, before, length), "nothing written");
         }
@@ -890,7 +920,7 @@ static void every_number(void)
     fill_random(bytes, count);
     expect(expected_image(bytes, count, CTC_DENSITY_GCR, expected) == CTC_IMAGE_MOST, "length");
     expect(expected[0] == 0xFF && expected[1] == 0xFF, "its count bytes");
-    for (size_t place = 0; place < most; place++) {
+    for (size_t place = 0; place < most; place = next_place(place)) {
         uint8_t report[CTC_REPORT_LENGTH], wanted[CTC_REPORT_LENGTH] = {0};
         memcpy(image, expected, CTC_IMAGE_MOST);
         memset(image + 2 + 256 * place, 0x55, 256);
@@ -1117,7 +1147,7 @@ static void merge_refuses_unlike(void)
     for (size_t i = 0; i < 3; i++) {
         fill_random(bytes, counts[i]);
         read_twice(counts[i]);
-        for (size_t place = 0; place < first.marks_len; place++) {
+        for (size_t place = 0; place < first.marks_len; place = i < 2 ? place + 1 : next_place(place)) {
             for (size_t turn = 0; turn < (i < 2 ? 12 : 1); turn++) {
                 size_t byte = turn < 4 ? 255 * (place % 2) : turn < 8 ? 255 : between(0, 255);
                 uint8_t *changed = second.image + 2 + 256 * place + byte;
@@ -1300,6 +1330,98 @@ static void merged_round_trips(void)
     }
 }
 
+/* ---- verify ---- */
+
+/* The parity of the blockette at a place of so many: by how many stand behind it. */
+static uint32_t unfit_at(size_t place, size_t blockettes)
+{
+    return (blockettes - 1 - place) % 2 == 1 ? CTC_UNFIT_ODD : CTC_UNFIT_EVEN;
+}
+
+/* Built images fit; with one bit turned in any blockette, its parity alone does not. */
+static void verifies_edges(void)
+{
+    for (size_t i = 0; i < EDGES; i++) {
+        size_t count = edge_count(i);
+        fill_random(bytes, count);
+        size_t length = expected_image(bytes, count, CTC_DENSITY_GCR, image);
+        size_t blockettes = length / 256;
+        expect(verify(image, length) == CTC_DONE, "built image of %zu", count);
+        /* in each blockette, or in the first, the last of data, both of check, and any */
+        bool each = count < 1030 || count == CTC_COUNT_LIMIT;
+        size_t some[] = {0, blockettes - 3, blockettes - 2, blockettes - 1, between(0, 255)};
+        size_t turns = count == 0 ? 0 : each ? blockettes : sizeof some / sizeof some[0];
+        for (size_t turn = 0; turn < turns; turn++) {
+            size_t place = each ? turn : some[turn] % blockettes;
+            size_t byte = turn % 3 == 0 ? 0 : turn % 3 == 1 ? 255 : between(1, 254);
+            uint8_t *changed = image + 2 + 256 * place + byte, was = *changed;
+            *changed = (uint8_t)(was ^ 1u << turn % 8);
+            expect(verify(image, length) == unfit_at(place, blockettes),
+                   "count %zu, place %zu, byte %zu", count, place, byte);
+            *changed = was;
+        }
+    }
+}
+
+/* What ctc_build itself gives fits too, with any place of a bad byte. */
+static void verifies_what_is_built(void)
+{
+    for (size_t turn = 0; turn < 200; turn++) {
+        size_t count = between(1, turn % 10 == 0 ? CTC_COUNT_LIMIT : 3000);
+        size_t place = turn % 2 == 0 ? CTC_NO_PLACE : between(0, count - 1);
+        size_t length = ctc_image_length(count, CTC_DENSITY_GCR);
+        fill_random(bytes, count);
+        expect(ctc_build(bytes, count, CTC_DENSITY_GCR, place, image, length) == CTC_DONE &&
+                   verify(image, length) == CTC_DONE,
+               "count %zu, place %zu", count, place);
+    }
+}
+
+/* One changed blockette of each parity; and two of one parity, changed alike or not. */
+static void verifies_two_changed(void)
+{
+    size_t length = 2 + 256 * 9, blockettes = 9;
+    for (size_t one = 0; one < blockettes; one++) {
+        for (size_t other = one + 1; other < blockettes; other++) {
+            for (unsigned alike_too = 0; alike_too < 2; alike_too++) {
+                fill_random(bytes, 1700);
+                expected_image(bytes, 1700, CTC_DENSITY_GCR, image);
+                size_t byte = between(0, 255);
+                uint32_t first_told = unfit_at(one, blockettes);
+                uint32_t other_told = unfit_at(other, blockettes);
+                image[2 + 256 * one + byte] ^= 0x81;
+                image[2 + 256 * other + byte] ^= alike_too ? 0x81 : 0x18;
+                uint32_t told = first_told != other_told ? first_told | other_told
+                                : alike_too             ? CTC_DONE
+                                                        : first_told;
+                expect(verify(image, length) == told, "places %zu and %zu, alike %u", one, other,
+                       alike_too);
+            }
+        }
+    }
+}
+
+static void verify_refuses_lengths(void)
+{
+    static const uint8_t empty[3] = {0, 0, 0};
+    for (size_t i = 0; i < EDGES; i++) {
+        size_t count = edge_count(i);
+        if (!at_an_end(count)) {
+            continue;
+        }
+        fill_random(bytes, count);
+        fill_random(image, sizeof image);
+        size_t length = expected_image(bytes, count, CTC_DENSITY_GCR, image);
+        const size_t wrong[] = {0, 1, length - 1, length + 1, length + 256, length / 2, 2 + count};
+        for (size_t w = 0; w < sizeof wrong / sizeof wrong[0]; w++) {
+            expect(wrong[w] == length || verify(image, wrong[w]) == CTC_REFUSED_LENGTH,
+                   "count %zu, image of %zu", count, wrong[w]);
+        }
+    }
+    expect(verify(empty, 2) == CTC_DONE, "a record of 0 bytes");
+    expect(verify(empty, 3) == CTC_REFUSED_LENGTH, "a byte behind a record of 0 bytes");
+}
+
 int main(void)
 {
     setvbuf(stdout, NULL, _IOLBF, BUFSIZ); /* a fence loses no line */
@@ -1342,6 +1464,10 @@ int main(void)
     run("merge refuses unlike blockettes", merge_refuses_unlike);
     run("merge spaces", merge_spaces);
     run("round trips of two passes", merged_round_trips);
+    run("verify at the edges of blockettes", verifies_edges);
+    run("verify what is built", verifies_what_is_built);
+    run("verify two changed blockettes", verifies_two_changed);
+    run("verify refuses lengths", verify_refuses_lengths);
     printf("%d passed, %d failed\n", passed, failed);
     return failed == 0 ? 0 : 1;
 }

@@ -57,8 +57,9 @@ use Rattle.controller.proofs.StaysInRange.Linking.{send-within, byte-wi
 use Rattle.controller.proofs.StaysInRange.Storing.{ending-within, go-refused-within, go-answered-within}
 use Rattle.controller.proofs.StaysInRange.Storing.{ordered-within, carried-out-within}
 use Rattle.controller.proofs.StaysInRange.Transferring.{status-set, words-of, data-words, data-fits, after-set}
-use Rattle.controller.proofs.StaysInRange.Transferring.{result-words, result-gap, result-fits, Refusal}
-use Rattle.controller.proofs.StaysInRange.Transferring.{refusal-is, data-refusal, result-refusal}
+use Rattle.controller.proofs.StaysInRange.Transferring.{data-most, result-words, result-gap, result-fits}
+use Rattle.controller.proofs.StaysInRange.Transferring.{result-most, Refusal, refusal-is, data-refusal}
+use Rattle.controller.proofs.StaysInRange.Transferring.{result-refusal}
 
 -- ---- a state in range is not damaged
 
@@ -238,14 +239,16 @@ module _ (b : Body) (whole : BodyInRange b) where
 
 -- ---- a data call and a result
 
--- the reply, and what is given fits
+-- the reply, and what is given fits, and is no longer than the longest image
 record Given (space : List ℕ) (a : Answer) : Type 0 where
   kept : Kept (a .reply)
   fits : a .bytes ≤ length space
+  most : a .bytes ≤ 66050
 
 unchanged-given : (n : ℕ) (c : Controller) (space check : List ℕ) → Refusal n → InRange c
     → Given space (unchanged n c space check)
-unchanged-given n c space check number fine = record { kept = refused-kept n c number fine; fits = omega arith }
+unchanged-given n c space check number fine =
+    record { kept = refused-kept n c number fine; fits = omega arith; most = omega arith }
 
 module _ (b : Body) (whole : BodyInRange b) where
   abbrev drive : Drive
@@ -265,6 +268,7 @@ module _ (b : Body) (whole : BodyInRange b) where
               (status-set b _ whole (data-words (wordsOf b) drive store host (words-of b whole)))
               held);
           fits = data-fits drive store host (length space) (length check) (eqb-true _ 0 done);
+          most = data-most drive store host held;
         })
         (λ some. unchanged-given _ _ space check
         (data-refusal drive store (length (host .bytes)) (host .place) (length space) (length check))
@@ -301,6 +305,7 @@ module _ (b : Body) (whole : BodyInRange b) where
               (result-words drive operation store r n check held image good (wordsOf b) (words-of b whole))
               (result-gap drive operation store r n check held image good (wordsOf b) (one .gap))));
           fits = result-fits drive operation store r n check held image good (wordsOf b);
+          most = result-most drive operation store r n check held image good (wordsOf b);
         })
         (λ some. unchanged-given _ _ space check (result-refusal drive operation store r (length check))
         (at b whole (ResultAwaited operation store) held))
@@ -342,6 +347,7 @@ module _ (c : Controller) (fine : InRange c) where
         refusal = kept .refusal .most;
         undamaged = kept .refusal .other;
         bytes = omega arith;
+        most = omega arith;
       }
 
   lent : (call : Call) (a : Answer) → Given (lentSpace call) a → AnswerInRange call a
@@ -354,6 +360,7 @@ module _ (c : Controller) (fine : InRange c) where
         refusal = kept .refusal .most;
         undamaged = kept .refusal .other;
         bytes = given .fits;
+        most = given .most;
       }
 
   pub stays-in-range : (call : Call) → BytesIn call → AnswerInRange call (step c call)

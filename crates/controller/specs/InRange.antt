@@ -176,8 +176,8 @@ unfoldable pub HandedInRange : Handed → Type 0
 HandedInRange NoneHanded = Unit
 HandedInRange (OneHanded final) = ResultInRange final
 
--- of an answer; the refusals of these calls are numbered 0, done, to 15, and the bytes that it gives fit into the space
--- that was lent
+-- of an answer; the refusals of these calls are numbered 0, done, to 15; the bytes that it gives fit into the space
+-- that was lent, and are at most 66,050: the longest image, of 65,535 bytes
 pub record AnswerInRange (call : Call) (answer : Answer) : Type 0 where
   pub state : InRange (answer .reply .controller)
   pub action : ActionInRange (answer .reply .action)
@@ -185,6 +185,7 @@ pub record AnswerInRange (call : Call) (answer : Answer) : Type 0 where
   pub refusal : answer .reply .refusal ≤ 15
   pub undamaged : answer .reply .refusal ≡ 1 → ⊥
   pub bytes : answer .bytes ≤ length (lentSpace call)
+  pub most : answer .bytes ≤ 66050
 
 -- ---- the claims
 

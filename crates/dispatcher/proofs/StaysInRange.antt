@@ -253,6 +253,7 @@ module _ (d : Dispatcher) (fine : InRange d) where
         refusal = kept .most;
         undamaged = kept .other;
         bytes = omega arith;
+        most = omega arith;
       }
 
   -- a call that is passed on leaves the queues
@@ -269,6 +270,7 @@ module _ (d : Dispatcher) (fine : InRange d) where
         refusal = omega arith;
         undamaged = own .undamaged;
         bytes = own .bytes;
+        most = own .most;
       })
 
   pub stays-in-range : (call : Call) → BytesIn call → AnswerInRange call (step d call)

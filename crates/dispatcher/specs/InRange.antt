@@ -42,7 +42,8 @@ BytesIn (queue job store) = StoreInRange store
 BytesIn hand = Unit
 BytesIn (passed call) = controller-range.BytesIn call
 
--- of an answer; the refusals are numbered 0, done, to 17, and the bytes that it gives fit into the space that was lent
+-- of an answer; the refusals are numbered 0, done, to 17; the bytes that it gives fit into the space that was lent, and
+-- are at most 66,050
 pub record AnswerInRange (call : Call) (answer : Answer) : Type 0 where
   pub state : InRange (answer .reply .dispatcher)
   pub action : ActionInRange (answer .reply .action)
@@ -50,6 +51,7 @@ pub record AnswerInRange (call : Call) (answer : Answer) : Type 0 where
   pub refusal : answer .reply .refusal ≤ 17
   pub undamaged : answer .reply .refusal ≡ 1 → ⊥
   pub bytes : answer .bytes ≤ length (lentSpace call)
+  pub most : answer .bytes ≤ 66050
 
 -- the claim of one call
 abbrev pub StaysInRange : Dispatcher → Call → Answer → Type 0

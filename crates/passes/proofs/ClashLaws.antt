@@ -24,7 +24,7 @@ any-where test (suc n) holds =
     (λ before. let found = any-where test n before in (found .0, omega (arith, found .1), found .2))
     (λ last. (n, omega arith, last)) holds
 
-same-true : (a b : List ℕ) → sameBytes a b ≡ true → a ≡ b
+pub same-true : (a b : List ℕ) → sameBytes a b ≡ true → a ≡ b
 unfolding sameBytes
 same-true [] [] same = refl
 same-true [] (y ∷ b) same = absurd (false≢true same)

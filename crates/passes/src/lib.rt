@@ -34,7 +34,7 @@ fn same_bytes(a: &[u8], b: &[u8]) -> bool
 }
 
 // Whether two blockettes have. Two bytes are compared twice, so that both parts begin with a whole vector.
-fn same_blockettes(a: &[u8], b: &[u8]) -> bool
+pub fn same_blockettes(a: &[u8], b: &[u8]) -> bool
     requires { ⌜ length (now a) ≡ blocketteLength ⌝ }
     requires { ⌜ length (now b) ≡ blocketteLength ⌝ }
     ensures { λ r. ⌜ r ≡ sameBlockettes (now (a .entry)) (now (b .entry)) ⌝ }

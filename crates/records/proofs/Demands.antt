@@ -3,21 +3,23 @@
 -- `calls-restore-what-was-built`: what `ctc_build` leaves, spoiled as demand 2 says, `ctc_restore` gives back; and that
 -- this speaks of something: `every-record-can-be-spoiled-and-restored`. Of two passes:
 -- `merged-blockettes-come-from-a-pass`, `calls-merge-bad-only-where-both-are` and `calls-restore-what-two-passes-show`,
--- and that this speaks of something: `two-passes-are-restored-where-neither-is`. And of records within the limit of
--- before: `earlier-tapes-read-the-same`.
+-- and that this speaks of something: `two-passes-are-restored-where-neither-is`. Of the check blockettes:
+-- `built-images-are-verified` and `one-changed-blockette-is-told`, and that this speaks of something:
+-- `every-blockette-can-be-changed`. And of records within the limit of before: `earlier-tapes-read-the-same`.
 -- Assumes nothing.
 pub mod Contracts
 use mathlib.Core.Path.{_≡_, sym, ap, ap₂, subst, _∙_}
 use mathlib.Core.Bool.{true, false, not, _&&_}
 use mathlib.Core.List.{List}
-use Prim.Native.Nat.{ℕ, _≤_, _<_}
+use Prim.Native.Nat.{ℕ, _-_, _≤_, _<_}
 use native.Mathlib.Omega.{arith}
 use lib.Dec.{ltb, eqb}
 use borrow.Author.Tests.{le-ltb}
-use lib.ListN.{length, take, getD, List·getD-append}
+use lib.ListN.{length, take, drop, getD, List·getD-append}
 use Rattle.common.specs.Pick.{pick}
 use Rattle.common.specs.Space.{overwrite}
 use Rattle.common.proofs.PickLaws.{by-test, pick-no, where-refused}
+use Rattle.blockettes.specs.Blockettes.{blocketteAt}
 use Rattle.marks.specs.Marks.{isError, Once}
 use Rattle.marks.specs.Scan.{scanMarks}
 use Rattle.passes.specs.Passes.{mergedMarks}
@@ -31,28 +33,32 @@ use Rattle.records.specs.Restore.{restoreRefusal, restoredBytes, restore
 use Rattle.records.specs.Merge.{Pass, mergeImageInto, mergeMarksInto}
 use Rattle.records.specs.Earlier.{earlierLimit, earlierBuildRefusal, earlierBuildInto, earlierWholeRefusal}
 use Rattle.records.specs.Earlier.{earlierRestoreRefusal, earlierRestoreInto}
-use Rattle.records.specs.Spoiled.{Spoiled}
+use Rattle.records.specs.Spoiled.{Spoiled, spoiledAt}
+use Rattle.records.specs.Verify.{verify}
 use Rattle.records.specs.Interface.{scanRefusal, scanInto}
 use Rattle.records.specs.Refused.{BuildRefused, RestoreRefused, MergeRefused, ScanRefused, LengthTold, MarksTold}
-use Rattle.records.specs.Refused.{CountTold}
+use Rattle.records.specs.Refused.{CountTold, VerifyTold, OneUnfit}
 use Rattle.records.specs.Merged.{Merged}
 use Rattle.records.proofs.ImageLaws.{image-length}
 use Rattle.records.proofs.PlaceLaws.{written-length, built-as-came}
 use Rattle.records.proofs.MergeLaws.{mergeable}
 use Rattle.records.proofs.RefusedCalls.{build-refused, restore-refused, merge-refused, scan-refused, length-told}
-use Rattle.records.proofs.RefusedCalls.{marks-told, count-told}
+use Rattle.records.proofs.RefusedCalls.{marks-told, count-told, verify-told}
 use Rattle.records.proofs.MergedBlockettes.{merged-blockettes}
 use Rattle.records.proofs.BuiltRecordsAreRestored.{built-records-are-restored}
+use Rattle.records.proofs.BuiltRecordsFit.{built-records-fit, changed-records-do-not-fit}
 use Rattle.records.proofs.MergedRecordsAreRestored.{Shows, merged-shows, merging-is-accepted}
 use Rattle.records.proofs.MergedRecordsAreRestored.{merged-records-are-restored}
-use Rattle.records.proofs.Spoiling.{IsBad, twoBad, ReallySpoiled, records-are-spoiled}
+use Rattle.records.proofs.Spoiling.{IsBad, twoBad, ReallySpoiled, records-are-spoiled, another, another-full}
+use Rattle.records.proofs.Spoiling.{another-differs}
 use Rattle.records.proofs.TwoPasses.{firstPass, secondPass, first-shows, second-shows, first-alone, second-alone}
 use Rattle.records.proofs.TwoPasses.{both-once}
 use Rattle.records.proofs.Demands.Contracts.{BuildAllows, RestoreAllows, MergeAllows, ScanAllows}
 use Rattle.records.proofs.Demands.Contracts.{LengthAllows, MarksAllows, CountAllows, counts-are-defined}
 use Rattle.records.proofs.Demands.Contracts.{builds-are-defined, restores-are-defined, merges-are-defined}
 use Rattle.records.proofs.Demands.Contracts.{marks-left, image-left, merged-marks-left, merged-image-left}
-use Rattle.records.proofs.Demands.Contracts.{scans-are-defined}
+use Rattle.records.proofs.Demands.Contracts.{scans-are-defined, VerifyAllows, verifies-are-defined}
+use Rattle.records.proofs.Demands.Contracts.{verifies-are-allowed}
 use Rattle.records.proofs.Demands.Contracts.{restores-are-allowed, merges-are-allowed, built-within, built-image}
 use Rattle.records.proofs.Demands.Contracts.{builds-within, Meet, all-met}
 
@@ -112,6 +118,7 @@ pub record RefusalsAreTheFirstThatHold : Type 0 where
   pub image-length : (count density told : ℕ) → LengthAllows count density told → LengthTold count density told
   pub mark-count : (count density told : ℕ) → MarksAllows count density told → MarksTold count density told
   pub image-count : (image : List ℕ) (told : ℕ) → CountAllows image told → CountTold image told
+  pub verify : (image : List ℕ) (told : ℕ) → VerifyAllows image told → VerifyTold image told
 
 pub refusals-are-the-first-that-hold : RefusalsAreTheFirstThatHold
 refusals-are-the-first-that-hold =
@@ -137,6 +144,8 @@ refusals-are-the-first-that-hold =
           subst (MarksTold count density) (sym allowed) (marks-told count density);
       image-count = λ image told allowed.
           subst (CountTold image) (sym (counts-are-defined image told allowed)) (count-told image);
+      verify = λ image told allowed.
+          subst (VerifyTold image) (sym (verifies-are-defined image told allowed)) (verify-told image);
     }
 
 -- ---- demand 2
@@ -372,6 +381,70 @@ two-passes-are-restored-where-neither-is bytes density place space image marks o
           refused-alone (second .image) (second .marks) out (second-alone written five′ within′ (length out) room′);
       merges = merges;
       restores = restores-so _ _ out _ _ (restored .0) (restored .1) given-back;
+    }
+
+-- ---- the check blockettes
+
+-- Bytes that the builder made an image of in GCR, with any place of a bad byte: of that image both check blockettes
+-- fit.
+pub built-images-are-verified :
+    (bytes : List ℕ) (density place : ℕ) (space built : List ℕ) → (density ≡ 0 → ⊥)
+    → BuildAllows bytes density place space 0 built
+    → (told : ℕ) → VerifyAllows (take (imageLength (length bytes) density) built) told
+    → told ≡ 0
+built-images-are-verified bytes density place space built gcr builds told allowed =
+    verifies-are-defined _ told allowed
+    ∙ ap verify (built-image bytes density place space built gcr builds)
+    ∙ built-records-fit (builtBytes bytes place) (built-within bytes density place space built gcr builds)
+
+-- And where any one of its blockettes, of data or of check, holds other bytes, the answer is that its parity does not
+-- fit, and the other one does.
+pub one-changed-blockette-is-told :
+    (bytes : List ℕ) (density place : ℕ) (space built : List ℕ) → (density ≡ 0 → ⊥)
+    → BuildAllows bytes density place space 0 built
+    → (other : ℕ) (new : List ℕ) → other < markCount (length bytes) 1 → length new ≡ 256
+    → (new ≡ blocketteAt (drop 2 (take (imageLength (length bytes) density) built)) other → ⊥)
+    → (told : ℕ) → VerifyAllows (spoiledAt (take (imageLength (length bytes) density) built) other new) told
+    → OneUnfit (markCount (length bytes) 1 - 2) other told
+one-changed-blockette-is-told bytes density place space built gcr builds other new below full differs told allowed =
+    let written = builtBytes bytes place in
+    let is-image = built-image bytes density place space built gcr builds in
+    let long = written-length bytes place 0 (length bytes) in
+    let differs′ = subst (λ (l : List ℕ). new ≡ blocketteAt (drop 2 l) other → ⊥) is-image differs in
+    let below′ : other < markCount (length written) 1 = rw long below in
+    let right = changed-records-do-not-fit written new other
+    (built-within bytes density place space built gcr builds) below′ full differs′ in
+    let is-told : verify (spoiledAt (imageOf written 1) other new) ≡ told =
+    sym (verifies-are-defined _ told allowed ∙ ap (λ (l : List ℕ). verify (spoiledAt l other new)) is-image)
+    in
+    subst (λ (k : ℕ). OneUnfit (markCount k 1 - 2) other told) long
+    (subst (OneUnfit (markCount (length written) 1 - 2) other) is-told right)
+
+-- This can happen: to every blockette of every record within the limit, built in GCR with any place.
+pub record ChangedAndTold (bytes : List ℕ) (density place : ℕ) (space : List ℕ) (other : ℕ) : Type 0 where
+  pub built : List ℕ
+  pub new : List ℕ
+  pub told : ℕ
+  pub builds : BuildAllows bytes density place space 0 built
+  pub full : length new ≡ 256
+  pub differs : new ≡ blocketteAt (drop 2 (take (imageLength (length bytes) density) built)) other → ⊥
+  pub verifies : VerifyAllows (spoiledAt (take (imageLength (length bytes) density) built) other new) told
+
+pub every-blockette-can-be-changed :
+    (bytes : List ℕ) (density place : ℕ) (space : List ℕ) (other : ℕ) → length bytes ≤ limit
+    → isPlace (length bytes) place ≡ true
+    → imageLength (length bytes) density ≤ length space → ChangedAndTold bytes density place space other
+every-blockette-can-be-changed bytes density place space other within is-place fits =
+    let built = buildInto bytes density place space in
+    let was = blocketteAt (drop 2 (take (imageLength (length bytes) density) built)) other in
+    record {
+      built = built;
+      new = another was;
+      told = verify (spoiledAt (take (imageLength (length bytes) density) built) other (another was));
+      builds = builds-within bytes density place space within fits is-place;
+      full = another-full was;
+      differs = another-differs was;
+      verifies = verifies-are-allowed _;
     }
 
 -- ---- tapes written before the limit was raised

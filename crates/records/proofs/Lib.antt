@@ -4,9 +4,11 @@ pub mod WholeLaws
 pub mod MergeLaws
 pub mod Mending
 pub mod Restoring
+pub mod VerifyLaws
 pub mod BuiltRecordsAreRestored
 pub mod MergedRecordsAreRestored
 pub mod Spoiling
+pub mod BuiltRecordsFit
 pub mod TwoPasses
 pub mod RefusedCalls
 pub mod MergedBlockettes

@@ -1,7 +1,7 @@
 -- The refusals of the functions for C are those of the tables in `Refused.antt`, and the lengths those written there.
 -- Assumes nothing.
 use mathlib.Core.Path.{_≡_, refl, sym, ap, ap₂, _∙_}
-use Prim.Native.Nat.{ℕ, _+_, _-_, _*_, _%_, _≤_, _<_}
+use Prim.Native.Nat.{ℕ, _+_, _-_, _*_, _/_, _%_, _≤_, _<_}
 use native.Mathlib.Omega.{arith}
 use mathlib.Core.Bool.{Bool, true, false, not, _||_, false≢true}
 use mathlib.Core.List.{List, [], _∷_}
@@ -30,9 +30,12 @@ use Rattle.records.specs.Whole.{layoutRefusal, wholeRefusal}
 use Rattle.records.specs.Restore.{restoreRefusal}
 use Rattle.records.specs.Merge.{Pass, passRefusal, eitherRefused, pairRefusal, roomRefusal, mergeRefusal}
 use Rattle.records.specs.Interface.{imageLengthWithin, markCountWithin, imageCount, scanRefusal}
+use Rattle.records.specs.Verify.{unfitEven, unfitOdd, checkFits, unfitChecks, verify}
 use Rattle.records.specs.Refused.{saidCount, marksIn, lengthIn, numberAt, MarkValue, TwoBad, GoodAndUnlike}
 use Rattle.records.specs.Refused.{BuildRefused, RestoreRefused, MergeRefused, ScanRefused, LengthTold, MarksTold}
-use Rattle.records.specs.Refused.{CountTold}
+use Rattle.records.specs.Refused.{CountTold, CheckFits, HasChecks, VerifyTold}
+use Rattle.records.proofs.VerifyLaws.{Fits, verified, verified-empty, verified-wrong, unfit-by, is-fits}
+use Rattle.records.proofs.VerifyLaws.{is-unfit}
 
 -- ---- the numbers that are written out are those of the definitions
 
@@ -256,13 +259,13 @@ unfolding pick
 legal-or-ten true e = omega arith
 legal-or-ten false e = omega arith
 
-module _ (first second : Pass) where
-  -- the blockettes that are compared are those that are written out
-  blockette-at : (p : Pass) (place : ℕ)
-      → blocketteAt (drop 2 (p .image)) place ≡ take 256 (drop (2 + 256 * place) (p .image))
-  unfolding blocketteAt
-  blockette-at p place = ap (take 256) (drop-drop (256 * place) 2 (p .image))
+-- the blockettes that are compared are those that are written out
+blockette-at : (image : List ℕ) (place : ℕ)
+    → blocketteAt (drop 2 image) place ≡ take 256 (drop (2 + 256 * place) image)
+unfolding blocketteAt
+blockette-at image place = ap (take 256) (drop-drop (256 * place) 2 image)
 
+module _ (first second : Pass) where
   abbrev clash : Bool
   clash = clashes (drop 2 (first .image)) (first .marks) (drop 2 (second .image)) (second .marks)
 
@@ -274,7 +277,7 @@ module _ (first second : Pass) where
         found .1,
         found .2,
         found .3,
-        λ same. found .4 (blockette-at first place ∙ same ∙ sym (blockette-at second place)),
+        λ same. found .4 (blockette-at (first .image) place ∙ same ∙ sym (blockette-at (second .image) place)),
       )
 
   told-clash : GoodAndUnlike first second → clash ≡ true
@@ -285,7 +288,7 @@ module _ (first second : Pass) where
         unlike .1,
         unlike .2,
         unlike .3,
-        λ same. unlike .4 (sym (blockette-at first place) ∙ same ∙ blockette-at second place),
+        λ same. unlike .4 (sym (blockette-at (first .image) place) ∙ same ∙ blockette-at (second .image) place),
       )
 
   abbrev c : ℕ
@@ -386,3 +389,59 @@ count-told image =
       short = λ few. pick-yes 65536 _ (lt-ltb _ 2 few);
       said = λ some. pick-no 65536 _ (le-ltb _ 2 some) ∙ said image;
     }
+
+-- ---- the check blockettes of an image
+
+length-empty : imageLength 0 1 ≡ 2
+unfolding imageLength hasBlockettes pick
+length-empty = refl
+
+module _ (image : List ℕ) where
+  -- those that are compared are those that are written out
+  fits-of : (parity : ℕ) → CheckFits image parity → Fits (drop 2 image) (blocketteCount (saidCount image)) parity
+  unfolding blocketteCount
+  fits-of parity same = same ∙ sym (blockette-at image ((saidCount image + 255) / 256 + 1 - parity))
+
+  of-fits : (parity : ℕ) → Fits (drop 2 image) (blocketteCount (saidCount image)) parity → CheckFits image parity
+  unfolding blocketteCount
+  of-fits parity same = same ∙ blockette-at image ((saidCount image + 255) / 256 + 1 - parity)
+
+  long-as-said : length image ≡ lengthIn (saidCount image) 1 → length image ≡ imageLength (countOf image) 1
+  long-as-said long =
+      long ∙ sym (length-in (saidCount image) 1) ∙ ap (λ (k : ℕ). imageLength k 1) (sym (said image))
+
+  -- an image with check blockettes, by what their tests say
+  by-checks : (even odd : Bool) → HasChecks image
+      → checkFits (drop 2 image) (blocketteCount (saidCount image)) 0 ≡ even
+      → checkFits (drop 2 image) (blocketteCount (saidCount image)) 1 ≡ odd
+      → verify image ≡ pick even 0 unfitEven + pick odd 0 unfitOdd
+  by-checks even odd has e o =
+      verified image (long-as-said (has .0)) (λ none. omega (arith, has .1, said image))
+      ∙ ap (λ (k : ℕ). unfitChecks (drop 2 image) (blocketteCount k)) (said image)
+      ∙ unfit-by (drop 2 image) (blocketteCount (saidCount image)) even odd e o
+
+  fits : (parity : ℕ) → CheckFits image parity
+      → checkFits (drop 2 image) (blocketteCount (saidCount image)) parity ≡ true
+  fits parity same =
+      is-fits (drop 2 image) (blocketteCount (saidCount image)) parity (fits-of parity same)
+
+  unfit : (parity : ℕ) → (CheckFits image parity → ⊥)
+      → checkFits (drop 2 image) (blocketteCount (saidCount image)) parity ≡ false
+  unfit parity other =
+      is-unfit (drop 2 image) (blocketteCount (saidCount image)) parity (λ same. other (of-fits parity same))
+
+  pub verify-told : VerifyTold image (verify image)
+  unfolding verify pick
+  verify-told =
+      record {
+        short = λ few. pick-yes 9 _ (lt-ltb _ 2 few);
+        wrong = λ other. verified-wrong image
+            (λ long. other (long ∙ ap (λ (k : ℕ). imageLength k 1) (said image) ∙ length-in (saidCount image) 1));
+        empty = λ two none.
+            let no-count = said image ∙ none in
+            verified-empty image (two ∙ sym (ap (λ (k : ℕ). imageLength k 1) no-count ∙ length-empty)) no-count;
+        fit = λ has e o. by-checks true true has (fits 0 e) (fits 1 o);
+        even = λ has e o. by-checks false true has (unfit 0 e) (fits 1 o);
+        odd = λ has e o. by-checks true false has (fits 0 e) (unfit 1 o);
+        neither = λ has e o. by-checks false false has (unfit 0 e) (unfit 1 o);
+      }

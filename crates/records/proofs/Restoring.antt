@@ -92,7 +92,7 @@ module _ (bytes built blockettes marks : List ℕ) (n : ℕ) (count : n ≡ bloc
 -- ---- the restorer
 
 -- each blockette of a GCR image is what the others of its parity restore
-body-others : (bytes : List ℕ) → 0 < length bytes → (place : ℕ) → place < blocketteCount (length bytes) + 2
+pub body-others : (bytes : List ℕ) → 0 < length bytes → (place : ℕ) → place < blocketteCount (length bytes) + 2
     → othersOf (drop 2 (imageOf bytes 1)) (blocketteCount (length bytes) + 2) place
     ≡ blocketteAt (drop 2 (imageOf bytes 1)) place
 unfolding blockettesOf

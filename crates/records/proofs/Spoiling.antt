@@ -82,7 +82,7 @@ module _ (image new : List ℕ) (place : ℕ) (full : length new ≡ 256) (room 
     body-room : 256 * place + 256 ≤ length (drop 2 image)
     body-room = simp length-drop (omega arith)
 
-    spoiled-front : take 2 (spoiledAt image place new) ≡ take 2 image
+    pub spoiled-front : take 2 (spoiledAt image place new) ≡ take 2 image
     unfolding spoiledAt
     spoiled-front = take-at (take 2 image) _ 2 front
 
@@ -90,7 +90,7 @@ module _ (image new : List ℕ) (place : ℕ) (full : length new ≡ 256) (room 
     unfolding spoiledAt
     spoiled-body = drop-at (take 2 image) _ 2 front
 
-    spoiled-length : length (spoiledAt image place new) ≡ length image
+    pub spoiled-length : length (spoiledAt image place new) ≡ length image
     unfolding spoiledAt
     spoiled-length =
         let kept : length (writtenAt (drop 2 image) (256 * place) new) ≡ length (drop 2 image) =

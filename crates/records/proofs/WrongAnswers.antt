@@ -1,4 +1,4 @@
--- For each of the seven C functions, two wrong answers that its contract does not allow. The contract is `Post`, as the
+-- For each of the eight C functions, two wrong answers that its contract does not allow. The contract is `Post`, as the
 -- toolchain reads it: what is handed in, what is returned, and what the lent space holds afterwards.
 -- Assumes nothing.
 use mathlib.Core.Path.{_≡_, sym, ap, _∙_}
@@ -6,7 +6,8 @@ use mathlib.Core.Bool.{true, not, false≢true}
 use mathlib.Core.List.{List, [], _∷_}
 use contract.Lifetimes.{Lfts}
 use denote.Ref.{RefT, now, at-last}
-use Prim.Native.Nat.{ℕ, _+_, _*_, _≤_, _<_}
+use Prim.Native.Nat.{ℕ, _+_, _-_, _*_, _%_, _≤_, _<_}
+use native.Mathlib.Decide.{ℕ-discrete}
 use native.Mathlib.Omega.{arith}
 use lib.Dec.{ltb, eqb}
 use lib.ListN.{length, drop, getD}
@@ -15,6 +16,7 @@ use borrow.Author.Tests.{eqb-false, lt-ltb, le-ltb, ne-eqb}
 use Rattle.common.specs.Pick.{pick}
 use Rattle.common.specs.Space.{overwrite, filled}
 use Rattle.common.proofs.PickLaws.{by-test, pick-by, pick-yes, pick-no, pick-both, not-refused, where-done}
+use Rattle.blockettes.specs.Blockettes.{blocketteAt}
 use Rattle.marks.specs.Marks.{isError}
 use Rattle.marks.specs.Scan.{scanFrom, scanMarks, kindOf, numberOf, defectAt, findingsOf}
 use Rattle.passes.specs.Passes.{clashes, mergedMarks}
@@ -28,11 +30,15 @@ use Rattle.records.specs.Restore.{restoreRefusal}
 use Rattle.records.specs.Merge.{Pass, passOf, mergeMarksInto}
 use Rattle.records.specs.Interface.{imageLengthWithin, markCountWithin, imageCount, scanReport, scanRefusal}
 use Rattle.records.specs.Interface.{scanInto}
-use Rattle.records.specs.Spoiled.{Spoiled}
+use Rattle.records.specs.Spoiled.{Spoiled, spoiledAt}
+use Rattle.records.specs.Refused.{numberAt}
+use Rattle.records.specs.Verify.{verify}
 use Rattle.records.proofs.ImageLaws.{image-length}
 use Rattle.records.proofs.PlaceLaws.{written-length}
 use Rattle.records.proofs.MergeLaws.{mergeable}
 use Rattle.records.proofs.BuiltRecordsAreRestored.{built-records-are-restored}
+use Rattle.records.proofs.BuiltRecordsFit.{changed-records-do-not-fit}
+use Rattle.records.proofs.VerifyLaws.{verified-wrong}
 use Rattle.records.proofs.interface.ctc_build.Reads as build-reads
 use Rattle.records.proofs.interface.ctc_restore.Reads as restore-reads
 use Rattle.records.proofs.interface.ctc_merge.Reads as merge-reads
@@ -40,6 +46,7 @@ use Rattle.records.proofs.interface.ctc_image_length.Reads as length-re
 use Rattle.records.proofs.interface.ctc_mark_count.Reads as marks-reads
 use Rattle.records.proofs.interface.ctc_image_count.Reads as count-reads
 use Rattle.records.proofs.interface.ctc_scan.Reads as scan-reads
+use Rattle.records.proofs.interface.ctc_verify.Reads as verify-reads
 
 -- ---- ctc_build
 
@@ -233,3 +240,25 @@ module _ (κs : Lfts 2) (marks report : RefT (List ℕ)) (r : ℕ) (after : List
   unfolding scanRefusal
   scan-in-too-little-space short done =
       let right : r ≡ 11 = allowed .0 ∙ pick-yes _ _ (lt-ltb _ _ short) in omega arith
+
+-- ---- ctc_verify
+
+module _ (κs : Lfts 1) (image : RefT (List ℕ)) (r : ℕ) (allowed : verify-reads.Post κs (image, tt) r (image, tt)) where
+  -- a built image with one blockette changed passes
+  pub verify-passes-a-changed-blockette :
+      (bytes new : List ℕ) (place : ℕ) → length bytes ≤ limit → place < markCount (length bytes) 1 → length new ≡ 256
+      → (new ≡ blocketteAt (drop 2 (imageOf bytes 1)) place → ⊥)
+      → now image ≡ spoiledAt (imageOf bytes 1) place new → r ≡ 0 → ⊥
+  verify-passes-a-changed-blockette bytes new place within below full differs holds passes =
+      let n = markCount (length bytes) 1 - 2 in
+      let right = changed-records-do-not-fit bytes new place within below full differs in
+      let told = sym (allowed ∙ ap verify holds) ∙ passes in
+      elim (ℕ-discrete (numberAt n place % 2) 0) [
+        | yes even ↦ omega (arith, told, right .even even)
+        | no odd ↦ omega (arith, told, right .odd (omega (arith, odd)))
+      ]
+
+  -- an image of a wrong length is taken
+  pub verify-takes-a-wrong-length : (length (now image) ≡ imageLength (countOf (now image)) 1 → ⊥) → r ≡ 0 → ⊥
+  verify-takes-a-wrong-length wrong passes =
+      let right : r ≡ 9 = allowed ∙ verified-wrong (now image) wrong in omega arith

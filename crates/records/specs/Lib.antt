@@ -4,6 +4,7 @@ pub mod Whole
 pub mod Place
 pub mod Build
 pub mod Restore
+pub mod Verify
 pub mod Merge
 pub mod Merged
 pub mod Spoiled

@@ -9,6 +9,7 @@ use lib.Dec.{ltb, eqb}
 use lib.ListN.{length, take, drop, getD}
 use Rattle.common.specs.Pick.{pick}
 use Rattle.common.specs.FirstOf.{FirstOf}
+use Rattle.blockettes.specs.Blockettes.{checkOf}
 use Rattle.records.specs.Merge.{Pass}
 
 -- ---- counts and lengths
@@ -119,3 +120,32 @@ pub record MarksTold (c density told : ℕ) : Type 0 where
 pub record CountTold (image : List ℕ) (told : ℕ) : Type 0 where
   pub short : length image < 2 → told ≡ 65536
   pub said : 2 ≤ length image → told ≡ saidCount image
+
+-- ---- the check blockettes of an image, of which no paper says that they are looked at
+
+-- Whether one of them fits: "n = c/256 rounded up blockettes", and behind them "check blockette 1, the XOR of the odd
+-- ones, and 0, of the even ones".
+abbrev pub CheckFits : List ℕ → ℕ → Type 0
+CheckFits image parity =
+    let n = (saidCount image + 255) / 256 in
+    checkOf (drop 2 image) n parity ≡ take 256 (drop (2 + 256 * (n + 1 - parity)) image)
+
+-- an image of the length that its count asks for, with check blockettes
+abbrev pub HasChecks : List ℕ → Type 0
+HasChecks image = (length image ≡ lengthIn (saidCount image) 1) × (1 ≤ saidCount image)
+
+-- 9 for a wrong length, else 32 if the even one does not fit, 64 if the odd one does not, their sum if neither does
+pub record VerifyTold (image : List ℕ) (told : ℕ) : Type 0 where
+  pub short : length image < 2 → told ≡ 9
+  pub wrong : (length image ≡ lengthIn (saidCount image) 1 → ⊥) → told ≡ 9
+  pub empty : length image ≡ 2 → saidCount image ≡ 0 → told ≡ 0
+  pub fit : HasChecks image → CheckFits image 0 → CheckFits image 1 → told ≡ 0
+  pub even : HasChecks image → (CheckFits image 0 → ⊥) → CheckFits image 1 → told ≡ 32
+  pub odd : HasChecks image → CheckFits image 0 → (CheckFits image 1 → ⊥) → told ≡ 64
+  pub neither : HasChecks image → (CheckFits image 0 → ⊥) → (CheckFits image 1 → ⊥) → told ≡ 96
+
+-- One blockette alone is another than was built, of n blockettes of data: "An error's parity is its number's, check
+-- blockettes included."
+pub record OneUnfit (n place told : ℕ) : Type 0 where
+  pub even : numberAt n place % 2 ≡ 0 → told ≡ 32
+  pub odd : numberAt n place % 2 ≡ 1 → told ≡ 64

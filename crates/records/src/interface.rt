@@ -6,6 +6,7 @@ use crate::layout::image_length;
 use crate::layout::mark_count;
 use crate::merge::merge;
 use crate::restore::restore;
+use crate::verify::verify;
 use common::overwrite;
 use common::refusals::DONE;
 use common::refusals::SPACE_SHORT;
@@ -15,6 +16,7 @@ ghost use lib.ListN.{length};
 ghost use Rattle.records.specs.Build.{buildRefusal, buildInto};
 ghost use Rattle.records.specs.Restore.{restoreRefusal, restoreInto};
 ghost use Rattle.records.specs.Merge.{passOf, mergeRefusal, mergeImageInto, mergeMarksInto};
+ghost use Rattle.records.specs.Verify.{verify};
 ghost use Rattle.records.specs.Interface.{imageLengthWithin, markCountWithin, imageCount};
 ghost use Rattle.records.specs.Interface.{scanReport, scanRefusal, scanInto};
 
@@ -68,6 +70,14 @@ pub extern "C" fn ctc_merge(
         (length (now (image .entry))) (now (marks .entry)) ⌝ }
 {
     merge(first, first_marks, second, second_marks, image, marks)
+}
+
+// Whether the check blockettes of a GCR image fit its data.
+#[no_mangle]
+pub extern "C" fn ctc_verify(image: &[u8]) -> u32
+    ensures { λ r. ⌜ r ≡ verify (now (image .entry)) ⌝ }
+{
+    verify(image)
 }
 
 // The length of an image, 0 where no image has the count.

@@ -1,5 +1,5 @@
-// Records as they lie on tape: the layout of an image, the builder, the test of an image and its marks, and the
-// restorer. It knows nothing of the controller.
+// Records as they lie on tape: the layout of an image, the builder, the test of an image and its marks, that of its
+// check blockettes, and the restorer. It knows nothing of the controller.
 pub mod build;
 pub mod count;
 pub mod interface;
@@ -7,4 +7,5 @@ pub mod layout;
 pub mod merge;
 pub mod place;
 pub mod restore;
+pub mod verify;
 pub mod whole;

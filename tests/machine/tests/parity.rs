@@ -1,5 +1,5 @@
 //! Host parity errors: what a bad byte of a write brings at its result. What it brings at the data
-//! call, and at a result with code 0, is compared with the controller itself, in tests/trial.
+//! call, and at a result with code 0, is compared with the controller itself, in tests/firmware.
 
 use machine::machine::{link, primary, Action, Machine, Operation, Reported};
 use machine::mutants::Mutant;

@@ -79,3 +79,16 @@ pub fn scan(marks: &[u8], space: &[u8]) -> (u32, Vec<u8>) {
         plain::scan(marks, space),
     )
 }
+
+/// It writes nothing, so that the number is all.
+pub fn verify(image: &[u8]) -> u32 {
+    let given = library::verify(image);
+    assert_eq!(
+        given,
+        plain::verify(image),
+        "verify of an image of {} bytes, count {}",
+        image.len(),
+        plain::image_count(image),
+    );
+    given
+}

@@ -47,6 +47,7 @@ pub mod raw {
             report: *mut u8,
             report_len: usize,
         ) -> u32;
+        pub fn ctc_verify(image: *const u8, image_len: usize) -> u32;
     }
 }
 
@@ -203,6 +204,14 @@ pub fn scan(marks: &[u8], space: &[u8]) -> (u32, Vec<u8>) {
     };
     input.expect_unchanged("marks", marks);
     (refusal, report.after("report space"))
+}
+
+pub fn verify(image: &[u8]) -> u32 {
+    let mut input = Lent::holding(image);
+    // SAFETY: the pointer is valid for its length
+    let told = unsafe { raw::ctc_verify(input.pointer(), input.length) };
+    input.expect_unchanged("image", image);
+    told
 }
 
 pub fn image_count(image: &[u8]) -> usize {

@@ -279,6 +279,32 @@ pub fn restore(image: &[u8], marks: &[u8], space: &[u8]) -> (u32, Vec<u8>) {
     (0, with_start(space, &bytes))
 }
 
+/// Which check blockettes are not the XOR of their data, 32 for the even one and 64 for the odd
+/// one, or 9 for a wrong length. No paper has it.
+pub fn verify(image: &[u8]) -> u32 {
+    let count = image_count(image);
+    if count > LIMIT || image.len() != image_length(count, 1) {
+        return 9;
+    }
+    if count == 0 {
+        return 0;
+    }
+    let n = blockettes(count);
+    let mut checks = [[0; 256]; 2];
+    for number in 0..n {
+        let parity = number % 2;
+        checks[parity] = xor(&checks[parity], &blockette_at(image, n - 1 - number));
+    }
+    let mut unfit = 0;
+    if blockette_at(image, n) != checks[1] {
+        unfit += 64;
+    }
+    if blockette_at(image, n + 1) != checks[0] {
+        unfit += 32;
+    }
+    unfit
+}
+
 /// The image and the marks of two passes over one record, or the refusal.
 fn merged(first: &Pass, second: &Pass) -> Result<(Vec<u8>, Vec<u8>), u32> {
     let passes = [first, second];

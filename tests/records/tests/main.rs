@@ -8,4 +8,5 @@ mod parity;
 mod restorer;
 mod round_trip;
 mod scanner;
+mod verifier;
 mod worked_cases;

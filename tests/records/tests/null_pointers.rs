@@ -175,6 +175,11 @@ fn count_of_no_image() {
 }
 
 #[test]
+fn verify_of_no_image() {
+    assert_eq!(unsafe { raw::ctc_verify(null(), 0) }, 9);
+}
+
+#[test]
 fn scan_of_no_marks_or_into_no_space() {
     let mut report = [0xEE; 10];
     let refusal = unsafe { raw::ctc_scan(null(), 0, report.as_mut_ptr(), 10) };

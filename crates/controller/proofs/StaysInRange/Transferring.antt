@@ -8,7 +8,7 @@ use mathlib.Core.Bool.{Bool, true, false, not, _&&_, _||_, false≢true}
 use mathlib.Core.List.{List, [], _∷_}
 use lib.Dec.{eqb, leb, ltb}
 use lib.ListN.{length, getD, length-take, List·getD-eq-default}
-use borrow.Author.Tests.{eqb-true, leb-true, leb-false, ltb-true, ltb-false}
+use borrow.Author.Tests.{eqb-true, leb-true, leb-false, ltb-true, ltb-false, not-false}
 use Rattle.common.specs.Pick.{pick}
 use Rattle.common.proofs.PickLaws.{by-test, by-either, both-hold, pick-by, not-refused}
 use Rattle.marks.specs.declared.Defect.{Defect}
@@ -17,8 +17,9 @@ use Rattle.marks.specs.Marks.{legalMarks}
 use Rattle.marks.specs.Scan.{numberOf, defectAt, findingsOf, scanMarks, isFound}
 use Rattle.records.specs.Count.{limit, countOf}
 use Rattle.records.specs.Place.{isPlace}
-use Rattle.records.specs.Image.{imageLength, markCount}
+use Rattle.records.specs.Image.{hasBlockettes, imageLength, markCount}
 use Rattle.records.specs.Whole.{layoutRefusal, wholeRefusal}
+use Rattle.records.proofs.ImageLaws.{blockettes-few}
 use Rattle.status.specs.declared.drives.Drive.{Drive}
 use Rattle.status.specs.declared.words.Word.{Word}
 use Rattle.status.specs.Drives.{isGcr, withGap}
@@ -33,7 +34,7 @@ use Rattle.operations.specs.declared.operation.Motion.the-variants.{Writing, Er
 use Rattle.operations.specs.declared.store.Store.{Store}
 use Rattle.operations.specs.Answers.{forwardCodes, reverseCodes, endCodes, suppliedCodes, listedCodes, trailingCodes}
 use Rattle.operations.specs.Answers.{clearCodes, isIn, answerOf}
-use Rattle.operations.specs.Operation.{suppliesCount, moveOf}
+use Rattle.operations.specs.Operation.{sameOperation, suppliesCount, isRead, moveOf}
 use Rattle.operations.specs.After.{losesTape, usualMotion, motionOf, gapOf, gapAfter}
 use Rattle.operations.specs.Store.{heldCount}
 use Rattle.transfers.specs.declared.after.Words.{Words}
@@ -45,8 +46,10 @@ use Rattle.transfers.specs.Expected.{unmarkedRefusal, imageRefusal, expectedOf}
 use Rattle.transfers.specs.Data.{checkStore, Host, writeImage, dataRefusal, dataWords}
 use Rattle.transfers.specs.Results.{Result, markAgainst, resultRefusal, codeReported, finalCode, findingsRead, isGone}
 use Rattle.transfers.specs.Results.{recordCount, usedCount, verdictOf, wroteWell, resultTertiary, resultQuintary}
-use Rattle.transfers.specs.Results.{resultCount, resultBits, withRetry, resultWords, resultGap, fitting, settleResult}
+use Rattle.transfers.specs.Results.{resultCount, resultBits, withRetry, resultWords, resultGap, readCount, readBytes}
+use Rattle.transfers.specs.Results.{deliveredBytes, fitting, delivered, settleResult}
 use Rattle.transfers.proofs.DataLaws.{data-ready, record-image-length}
+use Rattle.transfers.proofs.ReadLaws.{read-length}
 use Rattle.link.specs.declared.state.Body.{Body}
 use Rattle.link.specs.State.{currentDrive}
 use Rattle.controller.specs.Records.{wordsOf, withStatus, withAfter}
@@ -261,6 +264,31 @@ count-most v operation store before held most low =
     (λ none. pick-by (λ (n : ℕ). n ≤ 65535) (wroteWell operation (v .code)) (λ wrote. held-most store held)
     (λ no. low)))
 
+-- ---- how many bytes are given
+
+-- "n = c/256 rounded up blockettes", and two more
+image-length-most : (count density : ℕ) → count ≤ 65535 → imageLength count density ≤ 66050
+unfolding imageLength
+image-length-most count density most =
+    let few = blockettes-few count most in
+    pick-by (λ (n : ℕ). n ≤ 66050) (hasBlockettes count density) (λ some. omega arith) (λ none. omega arith)
+
+pub data-most : (drive : Drive) (store : Store) (host : Host) → StoreInRange store
+    → length (writeImage store host (drive .density)) ≤ 66050
+data-most drive store host held =
+    let long = record-image-length store host (drive .density) in
+    let most = image-length-most (heldCount store) (drive .density) (held-most store held) in
+    omega arith
+
+read-count-most : (count : ℕ) (found : Findings) → readCount count found ≤ count
+unfolding readCount
+read-count-most count found =
+    pick-by (λ (n : ℕ). n ≤ count) (isFound (found .stop)) (λ stop. omega arith) (λ all. omega arith)
+
+read-most : (image : List ℕ) (count : ℕ) (found : Findings) → length (readBytes image count found) ≤ count
+unfolding readBytes
+read-most image count found = simp length-take (omega (arith, read-count-most count found))
+
 -- ---- a result
 
 module _ (drive : Drive) (operation : Operation) (store : Store) (r : Result) (space : ℕ) (check : List ℕ)
@@ -268,6 +296,10 @@ module _ (drive : Drive) (operation : Operation) (store : Store) (r : Result) (s
     (done : resultRefusal drive operation store r (length check) ≡ 0) where
   abbrev verdict : Verdict
   verdict = verdictOf drive operation store r
+
+  checks-lent : length check ≡ checkStore
+  unfolding resultRefusal
+  checks-lent = eqb-true _ _ (not-false _ (not-refused _ _ _ (λ z. omega arith) done .0))
 
   listed : eqb (answerOf operation (r .code)) 0 ≡ false
   unfolding resultRefusal
@@ -315,6 +347,23 @@ module _ (drive : Drive) (operation : Operation) (store : Store) (r : Result) (s
   pub result-gap : (w : Words) → drive .gap ≤ 3 → settleResult w drive operation store r space check .gap ≤ 3
   unfolding settleResult resultGap
   result-gap w low = gap-low (moveOf operation) (verdict .code) (drive .gap) low
+
+  -- a record's bytes, or those of the check store
+  delivered-most : length (deliveredBytes verdict operation (r .image) check) ≤ 66050
+  unfolding deliveredBytes
+  delivered-most =
+      pick-by (λ (l : List ℕ). length l ≤ 66050) (isRead operation)
+      (λ reads. pick-by (λ (l : List ℕ). length l ≤ 66050) (verdict .used)
+      (λ used. omega (arith, verdict-count, read-most (r .image) (verdict .count) (verdict .found)))
+      (λ none. omega arith))
+      (λ other. pick-by (λ (l : List ℕ). length l ≤ 66050) (sameOperation operation CheckBytes)
+      (λ checks. omega (arith, checks-lent)) (λ none. omega arith))
+
+  pub result-most : (w : Words) → settleResult w drive operation store r space check .bytes ≤ 66050
+  unfolding settleResult fitting
+  result-most w =
+      let many = read-length operation (deliveredBytes verdict operation (r .image) check) in
+      simp length-take (omega (arith, many, delivered-most))
 
   pub result-fits : (w : Words) → settleResult w drive operation store r space check .bytes ≤ space
   unfolding settleResult fitting

@@ -22,6 +22,7 @@ use Rattle.records.specs.Place.{isPlace}
 use Rattle.records.specs.Build.{buildRefusal, builtBytes, buildInto}
 use Rattle.records.specs.Restore.{restoreRefusal, restoreInto}
 use Rattle.records.specs.Merge.{Pass, passOf, mergeRefusal, mergedImage, mergeImageInto, mergeMarksInto}
+use Rattle.records.specs.Verify.{verify}
 use Rattle.records.specs.Interface.{imageCount, scanRefusal, scanInto}
 use Rattle.records.proofs.ImageLaws.{image-length, image-alike}
 use Rattle.records.proofs.PlaceLaws.{written-length}
@@ -32,6 +33,7 @@ use Rattle.records.proofs.interface.ctc_scan.Reads as scan-reads
 use Rattle.records.proofs.interface.ctc_image_length.Reads as length-reads
 use Rattle.records.proofs.interface.ctc_mark_count.Reads as marks-reads
 use Rattle.records.proofs.interface.ctc_image_count.Reads as count-reads
+use Rattle.records.proofs.interface.ctc_verify.Reads as verify-reads
 use Rattle.records.proofs.interface.ctc_build.Met as build-met
 use Rattle.records.proofs.interface.ctc_build.Statement as build-statement
 use Rattle.records.proofs.interface.ctc_restore.Met as restore-met
@@ -46,6 +48,8 @@ use Rattle.records.proofs.interface.ctc_image_count.Met as count-met
 use Rattle.records.proofs.interface.ctc_image_count.Statement as count-statement
 use Rattle.records.proofs.interface.ctc_scan.Met as scan-met
 use Rattle.records.proofs.interface.ctc_scan.Statement as scan-statement
+use Rattle.records.proofs.interface.ctc_verify.Met as verify-met
+use Rattle.records.proofs.interface.ctc_verify.Statement as verify-statement
 
 -- ---- what the contracts allow
 
@@ -119,6 +123,12 @@ pub record CountAllows (image : List ℕ) (told : ℕ) : Type 0 where
   pub holds-image : now image-slice ≡ image
   pub promise : count-reads.Post lifetimes (image-slice, tt) told (image-slice, tt)
 
+pub record VerifyAllows (image : List ℕ) (told : ℕ) : Type 0 where
+  pub lifetimes : Lfts 1
+  pub image-slice : RefT (List ℕ)
+  pub holds-image : now image-slice ≡ image
+  pub promise : verify-reads.Post lifetimes (image-slice, tt) told (image-slice, tt)
+
 -- an allowed answer is that of the definitions
 pub builds-are-defined : (bytes : List ℕ) (density place : ℕ) (space : List ℕ) (refusal : ℕ) (after : List ℕ)
     → BuildAllows bytes density place space refusal after
@@ -184,6 +194,9 @@ scans-are-defined marks space refusal after allowed = (
 pub counts-are-defined : (image : List ℕ) (told : ℕ) → CountAllows image told → told ≡ imageCount image
 counts-are-defined image told allowed = allowed .promise ∙ ap imageCount (allowed .holds-image)
 
+pub verifies-are-defined : (image : List ℕ) (told : ℕ) → VerifyAllows image told → told ≡ verify image
+verifies-are-defined image told allowed = allowed .promise ∙ ap verify (allowed .holds-image)
+
 -- and that answer is allowed
 abbrev somewhere : List ℕ → RefT (List ℕ)
 somewhere bytes = record { ptr = (0, 0); name = 0; now = bytes }
@@ -234,6 +247,10 @@ merges-are-allowed first second image marks =
       holds-marks = refl;
       promise = (refl, (refl, refl));
     }
+
+pub verifies-are-allowed : (image : List ℕ) → VerifyAllows image (verify image)
+verifies-are-allowed image =
+    record { lifetimes = ([], tt); image-slice = somewhere image; holds-image = refl; promise = refl }
 
 -- ---- the builder's answer 0
 
@@ -318,6 +335,7 @@ pub record Meet (M : Type 1) : Type 2 where
   pub mark-count : marks-statement.statement M
   pub image-count : count-statement.statement M
   pub scan : scan-statement.statement M
+  pub verify : verify-statement.statement M
 
 pub all-met : {M : Type 1} → Meet M
 all-met =
@@ -329,4 +347,5 @@ all-met =
       mark-count = marks-met.met;
       image-count = count-met.met;
       scan = scan-met.met;
+      verify = verify-met.met;
     }

@@ -1,0 +1,4 @@
+pub mod CallLaws
+pub mod Seen
+pub mod Demands
+pub mod WrongAnswers

@@ -1,0 +1,5 @@
+pub mod Places
+pub mod Reading
+pub mod Writing
+pub mod Answers
+pub mod Fitting
