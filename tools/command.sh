@@ -16,6 +16,12 @@ wrong_usage() { # WHAT
     exit 2
 }
 
+# Says what was refused or failed, and what to do about it.
+fail() { # WHAT...
+    printf '%s: %s\n' "$name" "$*" >&2
+    exit 1
+}
+
 no_words() { # WORDS...
     [ $# -eq 0 ] || wrong_usage "no word is taken, and there is '$1'"
 }
@@ -23,4 +29,9 @@ no_words() { # WORDS...
 # Tells whether target/ can be written, and makes it where it is missing; says nothing.
 target_writable() {
     mkdir -p "$root/target" 2>/dev/null && [ -w "$root/target" ]
+}
+
+# The words that the table of names has for a number, as they stand there.
+name_of() { # KIND NUMBER
+    awk -F '|' -v kind="$1" -v number="$2" '$1 == kind && $2 == number { print $3; exit }' "$root/words/names.txt"
 }

@@ -1,16 +1,14 @@
 # shellcheck shell=bash disable=SC2154 # root, name, lines, width, example, about and page are the command's
-# What ./session, tools/jobs, tools/wear, tools/contest and tools/table share. The program is `name`_main. A command that plays lines sets, besides what tools/command.sh asks
-# for: lines, some lines that can be typed; example, a file of lines; about, what the example is; width, the columns of its lines; page, which
-# says what they mean; and called, where it is not called by its own name.
+# What ./session, tools/jobs, tools/wear, tools/contest and tools/table share. The program is `name`_main. A command
+# that plays lines sets, besides what tools/command.sh asks for: lines, some lines that can be typed, and then, what
+# follows where that is not the line's answer; example, a file of lines; about, what the example is; width, the columns
+# of its lines; page, which says what they mean; options, its words beside --help; and called, where it is not called by
+# its own name.
 
 program=$root/target/bin/${name}_main
 
-fail() {
-    printf '%s: %s\n' "$name" "$*" >&2
-    exit 1
-}
-
-# The program's language has no exit status: it tells of a failed read or write by a message, which becomes a status here.
+# The program's language has no exit status: it tells of a failed read or write by a message, which becomes a status
+# here.
 run_program() {
     local message
     { message=$("$program" 2>&1 >&3 3>&-); } 3>&1 || exit
@@ -20,12 +18,30 @@ run_program() {
     fi
 }
 
+# What was kept goes on to standard output, and is told where it does not arrive, unless nobody reads any more.
+hand_on() { # FILE WHAT
+    local status=0
+    cat "$1" 2>/dev/null || status=$?
+    [ "$status" -le 128 ] || exit "$status"
+    [ "$status" -eq 0 ] || fail "$2 cannot be written"
+}
+
+# A folder of the command's own, in `kept`; it is removed at the end.
+keep_folder() {
+    kept=$(mktemp -d) || fail "a temporary folder cannot be made: TMPDIR names where"
+    trap 'rm -rf -- "$kept"' EXIT
+}
+
+say_how_to_type() {
+    [ -t 0 ] || return 0
+    printf '%s: type a line, such as %s, and Enter: %s; Ctrl-D at the start of a line ends\n' \
+        "$name" "$lines" "${then:-its answer follows}" >&2
+}
+
 play() {
     # a closed descriptor would be taken by the pipe that brings the message
     { true 4<&0 5>&1; } 2>/dev/null || fail "standard input or output is closed"
-    if [ -t 0 ]; then
-        echo "$name: type a line, such as $lines, and Enter: its answer follows; Ctrl-D at the start of a line ends" >&2
-    fi
+    say_how_to_type
     run_program
 }
 
@@ -38,19 +54,44 @@ play_example() {
     echo "$page says what lines and answers mean. To type lines of your own: ${called:-$0} -"
 }
 
+# Tells whether a word is a file that can be read, or - for standard input.
+is_input() { # FILE
+    case $1 in
+    -) return ;;
+    -*) wrong_usage "$1 is neither a file nor ${options:-}--help nor --version" ;;
+    esac
+    [ -e "$1" ] || fail "$1 is not there"
+    [ ! -d "$1" ] || fail "$1 is a folder, and no file"
+    [ -r "$1" ] || fail "$1 cannot be read"
+}
+
+# Lines and words, each beside its meaning: the words program, Rust over the proved functions.
+tells_words() {
+    case $name in session | jobs) [ -f "$root/words/Cargo.toml" ] ;; *) return 1 ;; esac
+}
+play_told() { # FILE
+    "$root/tools/build" words </dev/null
+    exec "$root/target/bin/ctc-words" prompt "--$name" "$1"
+}
+
 play_words() { # WORDS...
     answer_help "$@"
+    local told=no
+    if tells_words; then
+        case "${1:-} ${2:-}" in
+        '--words '*) told=yes && shift ;;
+        *' --words') told=yes && set -- "$1" "${@:3}" ;;
+        esac
+    fi
     [ $# -le 1 ] || wrong_usage "one file at a time, and there are $# words"
     local file=${1--}
-    case $file in
-    -) ;;
-    -*) wrong_usage "$file is neither a file nor --help nor --version" ;;
-    *)
-        [ -e "$file" ] || fail "$file is not there"
-        [ ! -d "$file" ] || fail "$file is a folder, and no file"
-        [ -r "$file" ] || fail "$file cannot be read"
-        ;;
-    esac
+    is_input "$file"
+    [ "$told" = no ] || play_told "$file"
+    # what is typed is told in words where the program for it is there or can be built
+    if [ "$#$file" = 1- ] && [ -t 0 ] && [ -t 1 ] && tells_words &&
+        { [ -x "$root/target/bin/ctc-words" ] || command -v cargo >/dev/null; }; then
+        play_told -
+    fi
     # proving takes nothing from standard input, which is the program's
     "$root/tools/build" "$name" </dev/null
     if [ "$file" != - ]; then

@@ -1,0 +1,801 @@
+//! Statements: what a line of words says, read and written. docs/WORDS.md has the grammar.
+
+use crate::interface::Store;
+use crate::line::{hex, put_bytes, put_decimal, put_hex};
+use crate::names::{names, Kind, Name};
+
+/// Why a statement cannot be read or meant, and where.
+#[derive(Clone, Debug, PartialEq, Eq)]
+pub struct Wrong {
+    /// Counted from 1.
+    pub column: usize,
+    pub what: String,
+}
+
+/// Bytes that stand in the statement, or a file that has them.
+#[derive(Clone, Debug, PartialEq, Eq)]
+pub enum Source {
+    Bytes(Vec<u8>),
+    File(String),
+}
+
+/// A bad blockette of a record: a data blockette or a check blockette, its number, its mark, and whether its bits are
+/// turned.
+#[derive(Clone, Copy, Debug, PartialEq, Eq)]
+pub struct Spoiled {
+    pub check: bool,
+    pub number: usize,
+    pub mark: u8,
+    pub turned: bool,
+}
+
+/// What a result brings.
+#[derive(Clone, Debug, PartialEq, Eq)]
+pub enum Brings {
+    Nothing,
+    Record(Source, Vec<Spoiled>),
+    Count(u16),
+    Image(Source, Source),
+}
+
+#[derive(Clone, Debug, PartialEq, Eq)]
+pub struct ResultWords {
+    pub code: u8,
+    pub mark: bool,
+    pub late: u8,
+    pub brings: Brings,
+    /// None where it is the usual one.
+    pub space: Option<usize>,
+}
+
+#[derive(Clone, Debug, PartialEq, Eq)]
+pub enum Statement {
+    /// A blank line.
+    Nothing,
+    Comment(Vec<u8>),
+    Store(Store, Option<Source>),
+    /// The address of a load.
+    Load(u8),
+    Accept,
+    AcceptOne,
+    Refuse,
+    Bytes(Vec<u8>),
+    Taken,
+    Broken,
+    Tick,
+    Reset,
+    Hand,
+    Report(u8, u8),
+    Data(Source),
+    Result(ResultWords),
+    Queue(u8, Store),
+    /// A line as it stands.
+    Line(Vec<u8>),
+}
+
+/// A statement, and whether it says that it is refused.
+#[derive(Clone, Debug, PartialEq, Eq)]
+pub struct Said {
+    pub refused: bool,
+    pub statement: Statement,
+    /// Where what it is about stands, for messages: the first word, and the one that names a file or a record.
+    pub column: usize,
+    pub source_column: usize,
+}
+
+/// The mark of a spoiled blockette for which none is named.
+const USUAL_MARK: u8 = 1;
+
+struct Word<'a> {
+    column: usize,
+    text: &'a str,
+    quoted: bool,
+}
+
+struct Words<'a> {
+    list: Vec<Word<'a>>,
+    at: usize,
+    end: usize,
+}
+
+fn split(line: &str) -> Result<Vec<Word<'_>>, Wrong> {
+    let mut list = Vec::new();
+    let mut at = 0;
+    while let Some(start) = line[at..]
+        .find(|c: char| !c.is_ascii_whitespace() && c != ',')
+        .map(|found| at + found)
+    {
+        if line[start..].starts_with('"') {
+            let Some(length) = line[start + 1..].find('"') else {
+                let what = "the text has no closing quotation mark".to_string();
+                return Err(Wrong {
+                    column: start + 1,
+                    what,
+                });
+            };
+            list.push(Word {
+                column: start + 1,
+                text: &line[start + 1..start + 1 + length],
+                quoted: true,
+            });
+            at = start + length + 2;
+        } else {
+            let length = line[start..]
+                .find(|c: char| c.is_ascii_whitespace())
+                .unwrap_or(line.len() - start);
+            let text = line[start..start + length].trim_end_matches(',');
+            list.push(Word {
+                column: start + 1,
+                text,
+                quoted: false,
+            });
+            at = start + length;
+        }
+    }
+    Ok(list)
+}
+
+impl<'a> Words<'a> {
+    fn peek(&self) -> Option<&'a str> {
+        self.list
+            .get(self.at)
+            .filter(|word| !word.quoted)
+            .map(|word| word.text)
+    }
+
+    fn column(&self) -> usize {
+        self.list.get(self.at).map_or(self.end, |word| word.column)
+    }
+
+    fn wrong<T>(&self, what: impl Into<String>) -> Result<T, Wrong> {
+        Err(Wrong {
+            column: self.column(),
+            what: what.into(),
+        })
+    }
+
+    /// Takes this word, if it comes next.
+    fn take(&mut self, word: &str) -> bool {
+        let there = self.peek() == Some(word);
+        self.at += usize::from(there);
+        there
+    }
+
+    fn need(&mut self, word: &str) -> Result<(), Wrong> {
+        match self.take(word) {
+            true => Ok(()),
+            false => self.wrong(format!("the word '{word}' is missing here")),
+        }
+    }
+
+    /// The next word as it stands, or what is missing.
+    fn next(&mut self, what: &str) -> Result<&'a str, Wrong> {
+        match self.list.get(self.at) {
+            Some(word) => {
+                self.at += 1;
+                Ok(word.text)
+            }
+            None => self.wrong(format!("{what} is missing")),
+        }
+    }
+
+    fn number(&mut self, what: &str, most: usize) -> Result<usize, Wrong> {
+        let column = self.column();
+        let text = self.next(what)?;
+        match text.parse::<usize>() {
+            Ok(number) if number <= most && !text.starts_with('+') => Ok(number),
+            _ => Err(Wrong {
+                column,
+                what: format!("{what} '{text}' is not 0 to {most}"),
+            }),
+        }
+    }
+
+    fn hex(&mut self, what: &str, length: Option<usize>) -> Result<Vec<u8>, Wrong> {
+        let column = self.column();
+        let text = self.next(what)?;
+        let mut bytes = Vec::new();
+        let digits = put_bytes(text.as_bytes(), &mut bytes);
+        let fits = length.is_none_or(|length| text.len() == 2 * length);
+        if digits && fits && text.len() % 2 == 0 {
+            return Ok(bytes);
+        }
+        let wanted = match length {
+            Some(length) => format!("{} hexadecimal digits", 2 * length),
+            None => "hexadecimal digits, two for each byte".to_string(),
+        };
+        Err(Wrong {
+            column,
+            what: format!(
+                "{what} '{}' is not {wanted}, letters capital",
+                shortened(text)
+            ),
+        })
+    }
+
+    /// The longest name of a kind that comes next.
+    fn name(&mut self, kind: Kind) -> Option<&'static Name> {
+        let texts: Vec<&str> = self.list[self.at..].iter().map(|word| word.text).collect();
+        let name = names().leading(kind, &texts)?;
+        self.at += name.words.split(' ').count();
+        Some(name)
+    }
+
+    fn source(&mut self, what: &str) -> Result<Source, Wrong> {
+        if self.take("bytes") {
+            // no bytes at all have no digits
+            if self
+                .list
+                .get(self.at)
+                .is_none_or(|word| !word.quoted && !is_hex(word.text))
+            {
+                return Ok(Source::Bytes(Vec::new()));
+            }
+            return Ok(Source::Bytes(self.hex("bytes", None)?));
+        }
+        if self.take("text") {
+            return match self.list.get(self.at) {
+                Some(word) if word.quoted => {
+                    self.at += 1;
+                    Ok(Source::Bytes(word.text.as_bytes().to_vec()))
+                }
+                _ => self.wrong("behind 'text' stands a text in quotation marks"),
+            };
+        }
+        Ok(Source::File(self.next(what)?.to_string()))
+    }
+}
+
+fn is_hex(text: &str) -> bool {
+    text.bytes()
+        .all(|byte| matches!(byte, b'0'..=b'9' | b'A'..=b'F'))
+        && text.len() >= 2
+}
+
+fn shortened(text: &str) -> String {
+    match text.char_indices().nth(16) {
+        Some((at, _)) => format!("{}..", &text[..at]),
+        None => text.to_string(),
+    }
+}
+
+/// What may begin a statement, for a message and for help.
+pub const BEGINNINGS: &str = "read, check bytes, read supplied, write, erase, rewind, fast forward, skip, search, write mark, \
+track, density, set, clear, reset, load, report, result, data, accept, refuse, tick, queue, hand, taken, broken, byte, \
+store, line or refused";
+
+/// Reads a line of words, given without its #0A.
+pub fn read(line: &[u8]) -> Result<Said, Wrong> {
+    let whole = |statement| Said {
+        refused: false,
+        statement,
+        column: 1,
+        source_column: 1,
+    };
+    if line.first() == Some(&b'#') {
+        return Ok(whole(Statement::Comment(line.to_vec())));
+    }
+    if let Some(rest) = line.strip_prefix(b"line") {
+        if rest.is_empty() || rest[0] == b' ' {
+            return Ok(whole(Statement::Line(
+                rest.get(1..).unwrap_or(b"").to_vec(),
+            )));
+        }
+    }
+    let at = |column: usize, what: &str| Wrong {
+        column,
+        what: what.to_string(),
+    };
+    if line.ends_with(b"\r") {
+        return Err(at(
+            line.len(),
+            "the line ends with CR: save the file with LF ends",
+        ));
+    }
+    let text = std::str::from_utf8(line)
+        .map_err(|error| at(error.valid_up_to() + 1, "no text: it is not UTF-8"))?;
+    let mut words = Words {
+        list: split(text)?,
+        at: 0,
+        end: text.len() + 1,
+    };
+    if words.list.is_empty() {
+        return Ok(whole(Statement::Nothing));
+    }
+    let column = words.column();
+    let refused = words.take("refused");
+    let mut said = Said {
+        refused,
+        statement: Statement::Nothing,
+        column,
+        source_column: column,
+    };
+    said.statement = statement(&mut words, &mut said.source_column)?;
+    if words.at < words.list.len() {
+        let text = shortened(words.list[words.at].text);
+        return words.wrong(format!("'{text}' says nothing here"));
+    }
+    let one_line = !matches!(
+        said.statement,
+        Statement::Store(..)
+            | Statement::Load(_)
+            | Statement::Accept
+            | Statement::AcceptOne
+            | Statement::Refuse
+    );
+    if refused && !one_line {
+        return Err(at(
+            column,
+            "'refused' stands before a statement of one line, and this makes several",
+        ));
+    }
+    Ok(said)
+}
+
+fn statement(words: &mut Words, source_column: &mut usize) -> Result<Statement, Wrong> {
+    let Some(first) = words.peek() else {
+        return words.wrong(format!("a statement begins with {BEGINNINGS}"));
+    };
+    let bare = match first {
+        "taken" => Some(Statement::Taken),
+        "broken" => Some(Statement::Broken),
+        "tick" => Some(Statement::Tick),
+        "hand" => Some(Statement::Hand),
+        "refuse" => Some(Statement::Refuse),
+        _ => None,
+    };
+    if let Some(bare) = bare {
+        words.at += 1;
+        return Ok(bare);
+    }
+    match first {
+        "accept" => {
+            words.at += 1;
+            Ok(if words.take("one") {
+                Statement::AcceptOne
+            } else {
+                Statement::Accept
+            })
+        }
+        "reset"
+            if words
+                .list
+                .get(1 + words.at)
+                .is_none_or(|word| word.text != "store") =>
+        {
+            words.at += 1;
+            Ok(Statement::Reset)
+        }
+        "load" => {
+            words.at += 1;
+            if words.take("address") {
+                return Ok(Statement::Load(words.hex("address", Some(1))?[0]));
+            }
+            match words.name(Kind::Load) {
+                Some(name) => Ok(Statement::Load((name.number as u8) << 4)),
+                None => words.wrong("a load is identity, primary, secondary, tertiary, reports, quintary or address HH"),
+            }
+        }
+        "byte" => {
+            words.at += 1;
+            let mut bytes = words.hex("byte", Some(1))?;
+            while words.at < words.list.len() {
+                bytes.extend(words.hex("byte", Some(1))?);
+            }
+            Ok(Statement::Bytes(bytes))
+        }
+        "report" => {
+            words.at += 1;
+            words.need("drive")?;
+            let drive = words.number("drive", 255)? as u8;
+            let mut report = 0;
+            let mut any = words.take("nothing");
+            while let Some(name) = words.name(Kind::Report) {
+                report |= name.number as u8;
+                any = true;
+            }
+            if !any {
+                let bits: Vec<&str> = names().all(Kind::Report).map(|name| name.words).collect();
+                return words.wrong(format!(
+                    "a report is nothing, or some of {}",
+                    bits.join(", ")
+                ));
+            }
+            Ok(Statement::Report(drive, report))
+        }
+        "data" => {
+            words.at += 1;
+            *source_column = words.column();
+            Ok(Statement::Data(words.source("a file, bytes or text")?))
+        }
+        "result" => {
+            words.at += 1;
+            result(words, source_column).map(Statement::Result)
+        }
+        "queue" => {
+            words.at += 1;
+            words.need("job")?;
+            let job = words.number("job", 255)? as u8;
+            match store(words, source_column)? {
+                (store, None) => Ok(Statement::Queue(job, store)),
+                _ => words.wrong(
+                    "a store that is queued has its bytes when it is handed over: say data then",
+                ),
+            }
+        }
+        _ => store(words, source_column).map(|(store, from)| Statement::Store(store, from)),
+    }
+}
+
+/// What a store asks for, with its drive and the other words that it takes.
+fn store(words: &mut Words, source_column: &mut usize) -> Result<(Store, Option<Source>), Wrong> {
+    if words.take("store") {
+        words.need("address")?;
+        let address = words.hex("address", Some(1))?[0];
+        words.need("operand")?;
+        let operand = words.hex("operand", Some(4))?;
+        let operand = operand.try_into().expect("four bytes");
+        return Ok((Store { address, operand }, None));
+    }
+    let start = words.at;
+    let mut longest: Option<(Kind, &Name)> = None;
+    for kind in [Kind::Control, Kind::Reading, Kind::Store] {
+        words.at = start;
+        if let Some(name) = words.name(kind) {
+            let none = name.kind == Kind::Store && matches!(name.number, 3 | 4);
+            if !none && longest.is_none_or(|(_, other)| other.words.len() < name.words.len()) {
+                longest = Some((kind, name));
+            }
+        }
+    }
+    words.at = start;
+    let Some((kind, name)) = longest else {
+        let text = shortened(words.list[start].text);
+        return words.wrong(format!(
+            "'{text}' begins no statement: it begins with {BEGINNINGS}"
+        ));
+    };
+    words.at += name.words.split(' ').count();
+    let number = name.number as u8;
+    let (operation, mut operand) = match kind {
+        Kind::Control => (3, [0, 0, 0, number]),
+        Kind::Reading => (4, [number, 0, 0, 0]),
+        _ => (number, [0; 4]),
+    };
+    let writes = (kind, number) == (Kind::Store, 5);
+    let counts = writes || (kind, number) == (Kind::Reading, 0x80);
+    let mut address = operation << 4;
+    let mut count = None;
+    let mut from = None;
+    while let Some(word) = words.peek() {
+        match word {
+            "drive" => {
+                words.at += 1;
+                address = address & 0xF0 | 8 | words.number("drive", 7)? as u8;
+            }
+            "interrupt" => {
+                words.at += 1;
+                address |= 0x80;
+            }
+            "count" if counts => {
+                words.at += 1;
+                count = Some(words.number("count", 65_535)?);
+            }
+            "discard" if writes => {
+                words.at += 1;
+                operand[1] = words.number("discard", 255)? as u8;
+            }
+            "from" if writes => {
+                words.at += 1;
+                *source_column = words.column();
+                from = Some(words.source("a file, bytes or text")?);
+            }
+            _ => break,
+        }
+    }
+    if counts {
+        let bytes = match &from {
+            Some(Source::Bytes(bytes)) => Some(bytes.len().saturating_sub(operand[1] as usize)),
+            _ => None,
+        };
+        let Some(count) = count.or(bytes).filter(|count| *count <= 65_535) else {
+            return words.wrong(format!("{} needs a count, 0 to 65535", name.words));
+        };
+        operand[2..].copy_from_slice(&(count as u16).to_be_bytes());
+    }
+    Ok((Store { address, operand }, from))
+}
+
+fn result(words: &mut Words, source_column: &mut usize) -> Result<ResultWords, Wrong> {
+    let code = if words.take("good") {
+        0
+    } else if words.take("code") {
+        words.hex("code", Some(1))?[0]
+    } else if let Some(name) = words.name(Kind::Code) {
+        name.number as u8
+    } else {
+        return words.wrong("behind 'result' stands good, code HH or the name of a code");
+    };
+    let mut said = ResultWords {
+        code,
+        mark: false,
+        late: 0,
+        brings: Brings::Nothing,
+        space: None,
+    };
+    while let Some(word) = words.peek() {
+        let start = words.at;
+        words.at += 1;
+        match word {
+            "mark" => said.mark = true,
+            "late" => {
+                said.late = match words.peek() {
+                    Some("write") => 1,
+                    Some("read") => 2,
+                    Some("both") => 3,
+                    _ => words.number("late", 255)? as u8,
+                };
+                if matches!(words.peek(), Some("write" | "read" | "both")) {
+                    words.at += 1;
+                }
+            }
+            "record" => {
+                *source_column = words.column();
+                said.brings = Brings::Record(words.source("a file, bytes or text")?, Vec::new());
+            }
+            "spoiled" | "marked" => {
+                let list = blockettes(words, word)?;
+                let Brings::Record(_, bad) = &mut said.brings else {
+                    words.at = start;
+                    return words.wrong(format!("'{word}' stands behind a record"));
+                };
+                bad.extend(list);
+            }
+            "count" => said.brings = Brings::Count(words.number("count", 65_535)? as u16),
+            "image" => {
+                *source_column = words.column();
+                let image = words.source("a file, bytes or text")?;
+                let marks = match words.take("marks") {
+                    true => words.source("a file, bytes or text")?,
+                    false => Source::Bytes(Vec::new()),
+                };
+                said.brings = Brings::Image(image, marks);
+            }
+            "space" => said.space = Some(words.number("space", crate::line::HOST_LIMIT)?),
+            _ => {
+                words.at = start;
+                break;
+            }
+        }
+    }
+    Ok(said)
+}
+
+/// `1 3 mark 9 check 0`
+fn blockettes(words: &mut Words, word: &str) -> Result<Vec<Spoiled>, Wrong> {
+    let mut list: Vec<Spoiled> = Vec::new();
+    loop {
+        let check = words.take("check");
+        let is_number = words
+            .peek()
+            .is_some_and(|word| word.bytes().all(|byte| byte.is_ascii_digit()));
+        if !check && !is_number {
+            break;
+        }
+        let number = words.number("blockette", 255)?;
+        // the word alone is the mark that was found
+        let behind = words
+            .list
+            .get(words.at + 1)
+            .is_some_and(|word| word.text.parse::<u8>().is_ok());
+        let mark = match words.peek() {
+            Some("mark") if behind => {
+                words.at += 1;
+                words.number("mark", 255)? as u8
+            }
+            _ => USUAL_MARK,
+        };
+        list.push(Spoiled {
+            check,
+            number,
+            mark,
+            turned: word == "spoiled",
+        });
+    }
+    match list.is_empty() {
+        true => words.wrong(format!(
+            "behind '{word}' stand numbers of blockettes, and check 0 or check 1"
+        )),
+        false => Ok(list),
+    }
+}
+
+// ---- writing
+
+fn put(words: &str, out: &mut Vec<u8>) {
+    out.extend_from_slice(words.as_bytes());
+}
+
+fn put_source(source: &Source, out: &mut Vec<u8>) {
+    match source {
+        Source::Bytes(bytes) => {
+            put("bytes", out);
+            if !bytes.is_empty() {
+                out.push(b' ');
+                put_hex(bytes, out);
+            }
+        }
+        Source::File(file) => put(file, out),
+    }
+}
+
+/// A store in words where they say all of it, else its bytes.
+pub fn put_store(store: &Store, out: &mut Vec<u8>) {
+    let [first, second, third, fourth] = store.operand;
+    let name = |kind, number| names().of(kind, number);
+    let words = match store.operation() {
+        3 if (first, second, third) == (0, 0, 0) => name(Kind::Control, fourth),
+        4 if first == 0x80 && second == 0 => name(Kind::Reading, first),
+        4 if (second, third, fourth) == (0, 0, 0) && first != 0x80 => name(Kind::Reading, first),
+        5 if first == 0 => name(Kind::Store, 5),
+        operation @ (0 | 6) if store.operand == [0; 4] => name(Kind::Store, operation),
+        _ => "",
+    };
+    if words.is_empty() || store.drive().is_none() && store.address & 7 != 0 {
+        put("store address ", out);
+        put_hex(&[store.address], out);
+        put(" operand ", out);
+        put_hex(&store.operand, out);
+        return;
+    }
+    put(words, out);
+    if let Some(drive) = store.drive() {
+        put(" drive ", out);
+        out.push(b'0' + drive);
+    }
+    if store.asks_interrupt() {
+        put(" interrupt", out);
+    }
+    if store.operation() == 5 || store.operation() == 4 && first == 0x80 {
+        put(" count ", out);
+        put_decimal(store.count() as usize, out);
+    }
+    if store.operation() == 5 && second != 0 {
+        put(" discard ", out);
+        put_decimal(second as usize, out);
+    }
+}
+
+/// Writes a statement as it is read, without #0A.
+pub fn put_said(said: &Said, out: &mut Vec<u8>) {
+    if said.refused {
+        put("refused ", out);
+    }
+    match &said.statement {
+        Statement::Nothing => {}
+        Statement::Comment(text) => out.extend_from_slice(text),
+        Statement::Store(store, from) => {
+            put_store(store, out);
+            if let Some(source) = from {
+                put(" from ", out);
+                put_source(source, out);
+            }
+        }
+        Statement::Load(address) => {
+            let words = names().of(Kind::Load, address >> 4);
+            put("load ", out);
+            if words.is_empty() || address & 15 != 0 {
+                put("address ", out);
+                put_hex(&[*address], out);
+            } else {
+                put(words, out);
+            }
+        }
+        Statement::Accept => put("accept", out),
+        Statement::AcceptOne => put("accept one", out),
+        Statement::Refuse => put("refuse", out),
+        Statement::Bytes(bytes) => {
+            put("byte", out);
+            for byte in bytes {
+                out.push(b' ');
+                put_hex(&[*byte], out);
+            }
+        }
+        Statement::Taken => put("taken", out),
+        Statement::Broken => put("broken", out),
+        Statement::Tick => put("tick", out),
+        Statement::Reset => put("reset", out),
+        Statement::Hand => put("hand", out),
+        Statement::Report(drive, report) => {
+            put("report drive ", out);
+            put_decimal(*drive as usize, out);
+            for bit in (0..8).rev().filter(|bit| report >> bit & 1 != 0) {
+                out.push(b' ');
+                put(names().of(Kind::Report, 1 << bit), out);
+            }
+            if *report == 0 {
+                put(" nothing", out);
+            }
+        }
+        Statement::Data(source) => {
+            put("data ", out);
+            put_source(source, out);
+        }
+        Statement::Result(result) => put_result(result, out),
+        Statement::Queue(job, store) => {
+            put("queue job ", out);
+            put_decimal(*job as usize, out);
+            out.push(b' ');
+            put_store(store, out);
+        }
+        Statement::Line(text) => {
+            put("line", out);
+            if !text.is_empty() {
+                out.push(b' ');
+                out.extend_from_slice(text);
+            }
+        }
+    }
+}
+
+fn put_result(result: &ResultWords, out: &mut Vec<u8>) {
+    put("result ", out);
+    match result.code {
+        0 => put("good", out),
+        code => {
+            put("code ", out);
+            put_hex(&[code], out);
+        }
+    }
+    if result.mark {
+        put(" mark", out);
+    }
+    match result.late {
+        0 => {}
+        1 => put(" late write", out),
+        2 => put(" late read", out),
+        3 => put(" late both", out),
+        late => put(&format!(" late {late}"), out),
+    }
+    match &result.brings {
+        Brings::Nothing => {}
+        Brings::Record(source, spoiled) => {
+            put(" record ", out);
+            put_source(source, out);
+            for (at, bad) in spoiled.iter().enumerate() {
+                if at == 0 || spoiled[at - 1].turned != bad.turned {
+                    put(if bad.turned { " spoiled" } else { " marked" }, out);
+                }
+                put(if bad.check { " check " } else { " " }, out);
+                put_decimal(bad.number, out);
+                if bad.mark != USUAL_MARK {
+                    put(" mark ", out);
+                    put_decimal(bad.mark as usize, out);
+                }
+            }
+        }
+        Brings::Count(count) => {
+            put(" count ", out);
+            put_decimal(*count as usize, out);
+        }
+        Brings::Image(image, marks) => {
+            put(" image ", out);
+            put_source(image, out);
+            if *marks != Source::Bytes(Vec::new()) {
+                put(" marks ", out);
+                put_source(marks, out);
+            }
+        }
+    }
+    if let Some(space) = result.space {
+        put(" space ", out);
+        put_decimal(space, out);
+    }
+}
+
+/// The words of a statement.
+pub fn written(said: &Said) -> String {
+    let mut out = Vec::new();
+    put_said(said, &mut out);
+    String::from_utf8(out).unwrap_or_else(|error| hex(error.as_bytes()))
+}
