@@ -1,0 +1,255 @@
+//! A run in words: each event with its lane, for the explanation and for the page.
+
+use crate::board::{Call, Event};
+use crate::cartridge::image_count;
+use ctc_words::interface::{Action, Answer, Answered, Store, NO_PLACE};
+use ctc_words::names::{name, Kind};
+use ctc_words::status;
+use std::collections::VecDeque;
+
+/// Where an entry stands.
+#[derive(Clone, Copy, Debug, PartialEq, Eq)]
+pub enum Lane {
+    Host,
+    Drive(u8),
+}
+
+#[derive(Clone, Copy, Debug, PartialEq, Eq)]
+pub enum Sort {
+    /// What the host says or hears.
+    Link,
+    Order,
+    Result,
+    Report,
+    /// What became of a store.
+    Ended,
+    /// What the host does about it.
+    Recovery,
+    Restart,
+}
+
+impl Sort {
+    pub fn word(self) -> &'static str {
+        match self {
+            Sort::Link => "link",
+            Sort::Order => "order",
+            Sort::Result => "result",
+            Sort::Report => "report",
+            Sort::Ended => "ended",
+            Sort::Recovery => "host",
+            Sort::Restart => "restart",
+        }
+    }
+}
+
+#[derive(Clone, Debug, PartialEq, Eq)]
+pub struct Entry {
+    /// The number of the call, from 1.
+    pub time: usize,
+    pub lane: Lane,
+    pub sort: Sort,
+    pub words: String,
+    /// What one reads where one points: status words in words.
+    pub more: String,
+}
+
+fn text(put: impl FnOnce(&mut Vec<u8>)) -> String {
+    let mut out = Vec::new();
+    put(&mut out);
+    String::from_utf8_lossy(&out).into_owned()
+}
+
+fn code_words(code: u8) -> String {
+    text(|out| status::put_code(code, out))
+}
+
+fn hex(bytes: &[u8]) -> String {
+    bytes.iter().map(|byte| format!("{byte:02X}")).collect()
+}
+
+fn store_words(store: &Store) -> String {
+    // every store of a job asks an interrupt
+    text(|out| ctc_words::explain::put_store(store, out)).replace(", asks an interrupt", "")
+}
+
+/// All entries of a run.
+pub fn tell(events: &[Event]) -> Vec<Entry> {
+    let mut story =
+        Story { entries: Vec::new(), time: 0, drive: None, handed: None, queues: Default::default(), last: 3 };
+    for event in events {
+        match event {
+            Event::Note { drive, text } => {
+                let lane = drive.map_or(Lane::Host, Lane::Drive);
+                story.put(lane, Sort::Recovery, text.clone(), String::new());
+            }
+            Event::Restart => {
+                let words = "the controller's memory is damaged: it is started anew".to_string();
+                let more =
+                    "every call is refused with 1: the bytes are no state, or a field is out of range".to_string();
+                story.put(Lane::Host, Sort::Restart, words, more);
+                story.queues = Default::default();
+                story.last = 3;
+            }
+            Event::Call { call, answered, bytes } => story.call(call, answered, bytes),
+        }
+    }
+    story.entries
+}
+
+struct Story {
+    entries: Vec<Entry>,
+    time: usize,
+    /// The drive of the last order.
+    drive: Option<u8>,
+    /// The store that was handed over, and the queues that it came from.
+    handed: Option<Store>,
+    queues: [VecDeque<Store>; 4],
+    last: usize,
+}
+
+impl Story {
+    fn put(&mut self, lane: Lane, sort: Sort, words: String, more: String) {
+        self.entries.push(Entry { time: self.time, lane, sort, words, more });
+    }
+
+    fn call(&mut self, call: &Call, answered: &Answered, bytes: &[u8]) {
+        self.time += 1;
+        match call {
+            Call::Queue { job, store } => {
+                let words = format!("job {job} queues {}", store_words(store));
+                self.put(Lane::Host, Sort::Link, words, format!("{:02X} {}", store.address, hex(&store.operand)));
+                self.queues[usize::from(*job) & 3].push_back(*store);
+            }
+            Call::Hand => {
+                let next = (1..=4).map(|step| (self.last + step) % 4).find(|job| !self.queues[*job].is_empty());
+                if let Some(job) = next {
+                    self.last = job;
+                    self.handed = self.queues[job].pop_front();
+                }
+            }
+            Call::Broken => self.put(Lane::Host, Sort::Link, "the link breaks".to_string(), String::new()),
+            Call::Data { host, place } if *place != NO_PLACE => {
+                let words = format!("{} bytes, byte {place} with bad parity", host.len());
+                self.put(Lane::Host, Sort::Link, words, String::new());
+            }
+            Call::Data { host, .. } => {
+                self.put(Lane::Host, Sort::Link, format!("{} bytes for the write", host.len()), String::new());
+            }
+            Call::Report { drive, report } => {
+                let words = text(|out| status::put_report(*report, out));
+                self.put(Lane::Drive(*drive), Sort::Report, words, format!("report {report:02X}"));
+            }
+            Call::Result { code, mark, late, image, marks, .. } => {
+                self.result(*code, *mark, *late, image, marks, bytes.len());
+            }
+            Call::Byte(_) | Call::Taken | Call::Tick => {}
+        }
+        match answered {
+            Ok(answer) => self.answer(call, answer),
+            Err(refusal) => {
+                let words = format!("refused with {}: {}", refusal.0, name(Kind::Refusal, refusal.0));
+                self.put(Lane::Host, Sort::Link, words, String::new());
+            }
+        }
+    }
+
+    fn result(&mut self, code: u8, mark: bool, late: u8, image: &[u8], marks: &[u8], delivered: usize) {
+        let Some(drive) = self.drive else {
+            self.put(Lane::Host, Sort::Link, format!("check bytes: {delivered} delivered"), String::new());
+            return;
+        };
+        let mut words = code_words(code);
+        let mut more = Vec::new();
+        if mark {
+            words += "; a mark";
+        }
+        if late != 0 {
+            words += &format!("; late flags {late}");
+        }
+        if let Some(count) = image_count(image) {
+            words += &format!("; count {count}");
+        }
+        let bad: Vec<String> = marks.iter().enumerate().filter(|(_, mark)| **mark != 15).map(bad_words).collect();
+        if !bad.is_empty() {
+            words += &format!("; {} of {} blockettes bad", bad.len(), marks.len());
+            more.push(format!("bad in tape order: {}", bad.join(", ")));
+        }
+        if delivered > 0 {
+            more.push(format!("{delivered} bytes delivered"));
+        }
+        self.put(Lane::Drive(drive), Sort::Result, words, more.join("; "));
+    }
+
+    fn answer(&mut self, call: &Call, answer: &Answer) {
+        if let Some(settled) = answer.settled {
+            // a store that moves nothing has no order
+            let (lane, before) = match (self.drive, call, self.handed) {
+                (Some(drive), ..) => (Lane::Drive(drive), String::new()),
+                (None, Call::Hand, Some(store)) => {
+                    let drive = store.drive().filter(|drive| *drive < 4);
+                    (drive.map_or(Lane::Host, Lane::Drive), format!("{}: ", store_words(&store)))
+                }
+                _ => (Lane::Host, String::new()),
+            };
+            let mut words = before
+                + &text(|out| {
+                    status::put_code(settled.code, out);
+                    out.extend(b"; ");
+                    status::put_motion(settled.motion, out);
+                });
+            words += &format!("; count {}", settled.count);
+            // a result that ends as it was reported is told by itself
+            let again = matches!(call, Call::Result { code, .. } if *code == settled.code);
+            if !again {
+                self.put(lane, Sort::Ended, words, String::new());
+            }
+        }
+        match answer.action {
+            Action::Order(six) => {
+                self.drive = Some(six[1]);
+                let density = name(Kind::Density, six[3]);
+                let words = format!("{}, track {}, {density}", name(Kind::Order, six[0]), six[2]);
+                self.put(Lane::Drive(six[1]), Sort::Order, words, format!("order {}", hex(&six)));
+            }
+            Action::Send(six) => {
+                let word = u32::from_be_bytes([six[1], six[2], six[3], six[4]]);
+                let (words, load) = match six[0] {
+                    0x69 => ("interrupt", 1),
+                    0x68 => ("count", 2),
+                    _ => ("reply to a load", 0),
+                };
+                let more = if load == 0 { String::new() } else { status::words(load, word) };
+                self.put(Lane::Host, Sort::Link, format!("{words} {word:08X}"), more);
+            }
+            Action::Offer(0x47) => self.put(Lane::Host, Sort::Link, "GO".to_string(), String::new()),
+            Action::Offer(0x15) => self.put(Lane::Host, Sort::Link, "NACK".to_string(), String::new()),
+            Action::Offer(_) | Action::Nothing => {}
+        }
+        // what follows a result or the link belongs to no order
+        if matches!(call, Call::Result { .. } | Call::Taken | Call::Hand) && !matches!(answer.action, Action::Order(_))
+        {
+            self.drive = None;
+        }
+    }
+}
+
+fn bad_words((place, mark): (usize, &u8)) -> String {
+    format!("{place} (mark {mark})")
+}
+
+/// The explanation: a line for each entry.
+pub fn explanation(entries: &[Entry]) -> String {
+    let mut said = String::new();
+    for entry in entries {
+        let lane = match entry.lane {
+            Lane::Host => "host   ".to_string(),
+            Lane::Drive(drive) => format!("drive {drive}"),
+        };
+        said += &format!("{:6} {lane} {:8} {}", entry.time, entry.sort.word(), entry.words);
+        if !entry.more.is_empty() {
+            said += &format!(" ({})", entry.more);
+        }
+        said.push('\n');
+    }
+    said
+}
