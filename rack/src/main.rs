@@ -7,7 +7,7 @@ use ctc_rack::cartridge::{
 use ctc_rack::driver::Filed;
 use ctc_rack::faults::Fault;
 use ctc_rack::run::{run, Ran};
-use ctc_rack::scenario::{Scenario, Slot};
+use ctc_rack::scenario::{Problem, Scenario, Slot};
 use ctc_rack::tap::{self, Object};
 use ctc_rack::{page, replay, story, summary};
 use ctc_words::interface::{build, image_count, mark_count, restore};
@@ -134,11 +134,11 @@ fn run_shown(scenario: &Scenario, options: &Options, alone: Option<u8>) -> Ran {
 fn play(words: &[String]) -> Done<bool> {
     let options = options(words)?;
     let file = options.file.clone().unwrap_or_default();
-    let text = fs::read_to_string(&file)
-        .map_err(|error| End::Failed(format!("{} cannot be read: {error}", file.display())))?;
+    let text = read_file(&file)?;
     let folder = file.parent().unwrap_or(Path::new("."));
-    let scenario = Scenario::parse(&text, folder)
-        .map_err(|(line, why)| End::Failed(format!("{}, line {line}: {why}", file.display())))?;
+    let scenario = Scenario::parse(&text, folder).map_err(|Problem { line, wrong }| {
+        End::Failed(format!("{}:{line}:{}: {}", file.display(), wrong.column, wrong.what))
+    })?;
     if options.alone.is_some() && !scenario.damages.is_empty() {
         return failed(
             "--alone: damage to the memory restarts the controller for all drives; leave it out".to_string(),

@@ -4,15 +4,16 @@ use crate::cartridge::What;
 use crate::driver::{Command, Filed, Ledger, Outcome};
 use crate::faults::inches;
 use crate::run::Ran;
+use ctc_words::names::{name, Kind};
 use std::collections::HashMap;
 
 pub fn command_words(command: &Command) -> String {
     match command {
         Command::Status => "status".to_string(),
         Command::Rewind => "rewind".to_string(),
-        Command::Density(density) => format!("density {}", crate::cartridge::density_words(*density)),
+        Command::Density(density) => format!("density {}", name(Kind::Density, *density)),
         Command::Track(track) => format!("track {track}"),
-        Command::Guard(guard) => format!("guard {}", if *guard { "on" } else { "off" }),
+        Command::Guard(guard) => format!("{} guard", if *guard { "set" } else { "clear" }),
         Command::SpaceFiles(many) => format!("fsf {many}"),
         Command::BackFiles(many) => format!("bsf {many}"),
         Command::SpaceRecords(many) => format!("fsr {many}"),
