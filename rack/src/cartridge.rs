@@ -2,6 +2,7 @@
 //! what is on tape, the image of each record, and `cartridge.txt` what that format cannot say.
 
 use crate::faults::{inches, place, Fault, Place, INCH};
+use crate::files::write_file;
 use crate::tap::{self, Object};
 use ctc_words::names::{name, names, Kind};
 use ctc_words::statement::{is_comment, Words, Wrong};
@@ -234,16 +235,12 @@ impl Cartridge {
         text
     }
 
-    /// Writes the folder, which is made where it is missing.
+    /// Writes the folder, which is made where it is missing; each file whole or not at all.
     pub fn save(&self, folder: &Path) -> Result<(), String> {
-        let told = |what: &Path, error: std::io::Error| format!("{} cannot be written: {error}", what.display());
-        fs::create_dir_all(folder).map_err(|error| told(folder, error))?;
         for (number, track) in self.tracks.iter().enumerate() {
-            let file = folder.join(track_file(number));
-            fs::write(&file, tap::write(&track_objects(track))).map_err(|error| told(&file, error))?;
+            write_file(&folder.join(track_file(number)), &tap::write(&track_objects(track)))?;
         }
-        let file = folder.join(TEXT_FILE);
-        fs::write(&file, self.text()).map_err(|error| told(&file, error))
+        write_file(&folder.join(TEXT_FILE), self.text().as_bytes())
     }
 
     /// Reads the folder. A tape image that is missing is an erased track.
