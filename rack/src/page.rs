@@ -42,7 +42,7 @@ thead small { font-weight: 400; }
 .differs::before { content: 'DIFFERS'; font-weight: 700; padding-left: .6rem; }
 .more { font-weight: 400; }
 .shown { display: none; font-weight: 600; }
-.legend span { margin-right: 1.2rem; white-space: nowrap; padding: 0 .3rem; }
+.legend span { display: inline-block; margin: 0 1.2rem .2rem 0; padding: 0 .3rem; }
 body.without-link .of-link, body.without-report .of-report, body.without-link tr.only-link,
 body.without-report tr.only-report, body.without-link.without-report tr.only-quiet,
 body.without-good tr.good { display: none; }
@@ -71,9 +71,12 @@ body.without-link col.host { width: 8rem; }
   thead { display: table-header-group; }
   thead th { position: static; }
   tr { break-inside: avoid; }
-  .entry i { font-size: 7pt; }
+  .entry i { font-size: 7pt; opacity: 1; }
+  table { break-before: page; }
   .entry[tabindex] > b { text-decoration: none; }
   .more { display: block; font-size: 7pt; padding-left: 1em; }
+  col.host { width: 28%; }
+  pre { columns: 2; font-size: 7pt; }
 }
 ";
 
