@@ -95,10 +95,13 @@ pub fn summary(ran: &Ran) -> Summary {
             let (word, words) = match outcome {
                 Outcome::Done(words) => ("done", words),
                 Outcome::Lost(words) => ("LOST", words),
+                // what stands behind a command that stopped is not tried
+                Outcome::Stopped(words) if words.starts_with("not tried") => ("NOT DONE", words),
                 Outcome::Stopped(words) => ("STOPPED", words),
             };
             lost += usize::from(word == "LOST");
             stopped += usize::from(word == "STOPPED");
+            left += usize::from(word == "NOT DONE");
             said += &format!("  {word:8} {}: {words}\n", command_words(command));
         }
         for command in ended.job.commands.iter().skip(ledger.outcomes.len()) {

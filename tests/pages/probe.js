@@ -22,12 +22,15 @@ const queuing = () => [...new Set(entries().map(words).map(text => /job (\d) que
 // what went wrong with other drives than this one, as far as it is listed
 const elsewhere = drive => all('li').filter(seen).filter(one => !words(one).includes('drive ' + drive)).length;
 
+const empty = () => all('tbody tr').filter(row => seen(row) && !all('.entry', row).some(seen)).length;
+
 function filters() {
   all('details').forEach(one => { one.open = true; });
   say('at first', heads() + ' | ' + per());
   for (const drive of ['0', '1', '2', '3']) {
     choose(drive);
-    say('drive ' + drive, heads() + ' | ' + per() + ' | jobs ' + queuing() + ' | elsewhere ' + elsewhere(drive));
+    say('drive ' + drive, heads() + ' | ' + per() + ' | jobs ' + queuing() + ' | elsewhere ' + elsewhere(drive)
+      + ', empty rows ' + empty());
   }
   choose('');
   say('all again', heads() + ' | ' + per());
@@ -35,7 +38,7 @@ function filters() {
   say('links seen without the link', entries().filter(entry => /^\d+ ?link /.test(words(entry))).length);
   box('report').click();
   say('reports seen without reports', entries().filter(entry => /^\d+ ?report/.test(words(entry))).length);
-  say('empty rows', all('tbody tr').filter(row => seen(row) && !all('.entry', row).some(seen)).length);
+  say('empty rows', empty());
   box('link').click();
   box('report').click();
   box('good').click();
@@ -99,6 +102,8 @@ function address() {
 
 filters();
 layout();
+// a window that is not the active one focuses nothing, which is the browser's doing: tests/rack tries again
+if (!document.hasFocus()) say('the window', 'not active');
 focusing();
 say('loaded from elsewhere', performance.getEntriesByType('resource').length
   + all('[src], link, iframe, object, embed').length);
