@@ -30,10 +30,10 @@ thead small { font-weight: 400; }
 .entry i { font: 11px/1 ui-monospace, monospace; margin-right: .35em; opacity: .75; }
 .order { border-left: 5px solid; }
 .result, .ended { border-left: 5px double; }
-.bad, .lost { border-left: 5px solid; background: var(--bad); font-weight: 600; }
+.bad { border-left: 5px solid; background: var(--bad); font-weight: 600; }
 .recovery { border-left: 5px dotted; background: var(--recovery); }
 .restart { border: 3px double; background: var(--restart); font-weight: 600; }
-.bad > b::before, .lost > b::before { content: '\\2716\\00a0'; }
+.bad > b::before { content: '\\2716\\00a0'; }
 .recovery > b::before { content: '\\21bb\\00a0'; }
 .restart > b::before { content: '\\26a0\\00a0'; }
 .entry[tabindex] > b { text-decoration: underline dotted; text-underline-offset: 2px; }
@@ -265,7 +265,8 @@ fn beside_html(head: &str, turn: &[&Entry], differs: bool) -> String {
 /// Links to what was not as it should be.
 fn troubles(entries: &[Entry]) -> String {
     let told: Vec<&Entry> = entries.iter().filter(|entry| entry.is_bad() || entry.sort == Sort::Restart).collect();
-    let mut html = format!("<details><summary>Results that are not code 00, and restarts: {}</summary>\n", told.len());
+    let mut html =
+        format!("<details><summary>Results that are not code 00, refusals and restarts: {}</summary>\n", told.len());
     html += "<ul class=troubles>\n";
     for entry in told {
         let lane = match entry.lane {

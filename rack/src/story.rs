@@ -34,6 +34,8 @@ pub enum Sort {
     Recovery,
     /// What it says is lost.
     Lost,
+    /// A call that the controller turned back.
+    Refused,
     Restart,
 }
 
@@ -47,6 +49,7 @@ impl Sort {
             Sort::Ended => "ended",
             Sort::Recovery => "recovery",
             Sort::Lost => "lost",
+            Sort::Refused => "refused",
             Sort::Restart => "restart",
         }
     }
@@ -68,11 +71,11 @@ pub struct Entry {
 }
 
 impl Entry {
-    /// Whether a result or the end of a store is not code 00, or something is lost.
+    /// Whether a result or the end of a store is not code 00, or something is lost or refused.
     pub fn is_bad(&self) -> bool {
         match self.sort {
             Sort::Result | Sort::Ended => !self.words.contains("code 00"),
-            sort => sort == Sort::Lost,
+            sort => matches!(sort, Sort::Lost | Sort::Refused),
         }
     }
 
@@ -241,8 +244,8 @@ impl Story {
         match answered {
             Ok(answer) => self.answer(call, answer),
             Err(refusal) => {
-                let words = format!("refused with {}: {}", refusal.0, name(Kind::Refusal, refusal.0));
-                self.put(Lane::Host, Sort::Link, words, String::new());
+                let words = format!("with {}: {}", refusal.0, name(Kind::Refusal, refusal.0));
+                self.put(Lane::Host, Sort::Refused, words, String::new());
             }
         }
     }

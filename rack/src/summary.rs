@@ -54,10 +54,10 @@ pub fn filed_name(filed: &Filed) -> String {
 
 fn filed_words(filed: &Filed) -> String {
     let had = filed.records.iter().flatten();
-    let (count, bytes) = had.fold((0, 0), |(count, bytes), record| (count + 1, bytes + record.len()));
-    match filed.records.len() - count {
+    let (whole, bytes) = had.fold((0, 0), |(whole, bytes), record| (whole + 1, bytes + record.len()));
+    match filed.records.len() - whole {
         0 => format!("{}: {bytes} bytes", filed_name(filed)),
-        lost => format!("{}: {count} records, each as a file, and not {lost} that are lost", filed_name(filed)),
+        lost => format!("{}: {} had, each as a file; {lost} lost", filed_name(filed), count(whole, "record")),
     }
 }
 
@@ -158,21 +158,19 @@ pub fn summary(ran: &Ran) -> Summary {
         said += &format!("BROKEN OFF: {broken}\n");
     }
     said += &format!("{} stores, {} calls, {}\n", ran.handed, board.calls, count(board.restarts, "restart"));
-    let mut problems = Vec::new();
-    for (number, what) in [
-        (lost, "command with losses"),
-        (stopped, "command that stopped"),
-        (left, "command that was not begun"),
-        (wrong, "wrong copy"),
-        (usize::from(ran.broken.is_some()), "run that was broken off"),
-    ] {
-        if number > 0 {
-            problems.push(format!("{what}: {number}"));
-        }
-    }
+    let problems: Vec<String> = [
+        (lost, count(lost, "command") + " with losses"),
+        (stopped, count(stopped, "command") + " stopped"),
+        (left, count(left, "command") + " not begun"),
+        (wrong, format!("{wrong} wrong copies")),
+        (usize::from(ran.broken.is_some()), "the run broken off".to_string()),
+    ]
+    .into_iter()
+    .filter_map(|(number, words)| (number > 0).then_some(words))
+    .collect();
     let verdict = match problems.is_empty() {
         true => "nothing was lost".to_string(),
-        false => format!("not all was done; {}", problems.join(", ")),
+        false => format!("NOT ALL WAS DONE: {}", problems.join(", ")),
     };
     said += &format!("{verdict}\n");
     Summary { words: said, whole: problems.is_empty(), verdict }

@@ -43,7 +43,7 @@ function filters() {
   box('report').click();
   box('good').click();
   say('quiet turns seen without them', all('tbody tr').filter(row => seen(row)
-    && all('.entry', row).every(entry => !/recovery|restart|lost|code (?!00)/.test(words(entry)))).length);
+    && all('.entry', row).every(entry => !/recovery|restart|refused|lost|code (?!00)/.test(words(entry)))).length);
   box('good').click();
   say('at last', heads() + ' | ' + per());
 }
