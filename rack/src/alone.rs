@@ -2,7 +2,7 @@
 //! and delivers the same bytes. What is not the same is told with the first that differs.
 
 use crate::board::Board;
-use crate::story::{hex, order_words, Entry};
+use crate::story::{hex, order_words, Entry, Lane};
 
 /// How a drive that was run alone compares with the whole run.
 #[derive(Clone, Debug, PartialEq, Eq)]
@@ -38,6 +38,11 @@ impl Alone {
         };
         Alone { drive, same: differences.is_empty(), words, entries }
     }
+
+    /// Whether an entry stands in the lane of this drive.
+    pub fn is_lane(&self, entry: &Entry) -> bool {
+        entry.lane == Lane::Drive(self.drive)
+    }
 }
 
 /// The first of two lists that differs, from 0.
@@ -72,7 +77,9 @@ fn other_bytes(rack: &[u8], alone: &[u8]) -> String {
         return format!("{} bytes in the rack, {} alone", rack.len(), alone.len());
     }
     match first_other(rack, alone) {
-        Some(at) => format!("of {} bytes that at place {at} is {:02X}, alone {:02X}", rack.len(), rack[at], alone[at]),
+        Some(at) => {
+            format!("of {} bytes the one at place {at} is {:02X}, alone {:02X}", rack.len(), rack[at], alone[at])
+        }
         None => format!("the same {} bytes", rack.len()),
     }
 }
@@ -90,7 +97,7 @@ mod tests {
         assert_eq!(told(&[read.clone(), write(6)], &[read.clone(), write(6)]), "");
         assert_eq!(
             told(&[read.clone(), write(6), skip.clone()], &[read.clone(), write(7)]),
-            "order 2, write, track 0, GCR, has another image: of 4 bytes that at place 3 is 06, alone 07"
+            "order 2, write, track 0, GCR, has another image: of 4 bytes the one at place 3 is 06, alone 07"
         );
         assert_eq!(
             told(&[skip.clone()], &[read.clone(), skip.clone()]),

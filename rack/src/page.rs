@@ -38,8 +38,8 @@ thead small { font-weight: 400; }
 .restart > b::before { content: '\\26a0\\00a0'; }
 .entry[tabindex] > b { text-decoration: underline dotted; text-underline-offset: 2px; }
 .entry:focus { outline: 2px solid Highlight; outline-offset: -2px; }
-.differs { outline: 3px solid; outline-offset: -3px; }
-.differs::before { content: 'DIFFERS'; font-weight: 700; padding-left: .6rem; }
+.differs { border: 3px solid; padding: .1rem; }
+.differs::before { content: 'DIFFERS'; font-weight: 700; padding-left: .4rem; }
 .more { font-weight: 400; }
 .shown { display: none; font-weight: 600; }
 .legend span { display: inline-block; margin: 0 1.2rem .2rem 0; padding: 0 .3rem; }
@@ -167,7 +167,7 @@ fn is_alike(one: &[&Entry], other: &[&Entry]) -> bool {
 }
 
 /// The classes of a row: the drives that it is about, and what may be left out with all of it.
-fn row_classes(turn: &[Entry]) -> String {
+fn row_classes(turn: &[Entry], differs: bool) -> String {
     let mut classes: Vec<String> = Vec::new();
     for drive in 0..DRIVES as u8 {
         if turn.iter().any(|entry| entry.is_of(drive)) {
@@ -179,7 +179,7 @@ fn row_classes(turn: &[Entry]) -> String {
         ("only-link", all(|sort| sort == Sort::Link)),
         ("only-report", all(|sort| sort == Sort::Report)),
         ("only-quiet", all(|sort| matches!(sort, Sort::Link | Sort::Report))),
-        ("good", !turn.iter().any(Entry::is_told)),
+        ("good", !differs && !turn.iter().any(Entry::is_told)),
     ] {
         if yes {
             classes.push(word.to_string());
@@ -223,19 +223,18 @@ fn lanes(entries: &[Entry], heads: &[String; DRIVES], alone: Option<&Alone>) -> 
             }
             cell
         };
-        html += &format!("<tr class=\"{}\">", row_classes(turn));
+        let here: Vec<&Entry> = turn.iter().filter(|entry| alone.is_some_and(|alone| alone.is_lane(entry))).collect();
+        let beside = if here.is_empty() { Vec::new() } else { others.next().unwrap_or_default() };
+        let differs = !is_alike(&here, &beside);
+        html += &format!("<tr class=\"{}\">", row_classes(turn, differs));
         html += &format!("<td data-lane=host>{}</td>", put(&|entry| entry.lane == Lane::Host));
         for column @ (drive, is_alone) in &columns {
-            let own = |entry: &Entry| entry.lane == Lane::Drive(*drive);
             let side = if *drive >= 2 { " late" } else { "" };
             let head = format!("class=\"lane-{drive}{side}\" data-lane=\"{}\"", name(*column));
-            if !is_alone {
-                html += &format!("<td {head}>{}</td>", put(&own));
-                continue;
-            }
-            let here: Vec<&Entry> = turn.iter().filter(|entry| own(entry)).collect();
-            let beside = if here.is_empty() { Vec::new() } else { others.next().unwrap_or_default() };
-            html += &beside_html(&head, &beside, !is_alike(&here, &beside));
+            html += &match is_alone {
+                true => beside_html(&head, &beside, differs),
+                false => format!("<td {head}>{}</td>", put(&|entry| entry.lane == Lane::Drive(*drive))),
+            };
         }
         html += "</tr>\n";
         last = turn.last().map_or(last, |entry| entry.time);
