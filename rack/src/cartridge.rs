@@ -1,8 +1,11 @@
 //! A cartridge: four tracks and what is wrong with them. On disk it is a folder: `track-0.tap` to `track-3.tap` hold
 //! what is on tape, the image of each record, and `cartridge.txt` what that format cannot say.
 
-use crate::faults::{inches, Fault, Place, Words, INCH};
+use crate::faults::{inches, place, Fault, Place, INCH};
+use crate::files::write_file;
 use crate::tap::{self, Object};
+use ctc_words::names::{name, names, Kind};
+use ctc_words::statement::{is_comment, Words, Wrong};
 use std::fs;
 use std::path::Path;
 
@@ -203,20 +206,9 @@ pub fn track_of(objects: &[Object], empty: impl Fn(usize) -> u8) -> Result<Track
     Ok(track)
 }
 
-pub fn density_words(density: u8) -> &'static str {
-    if density == MFM {
-        "mfm"
-    } else {
-        "gcr"
-    }
-}
-
+/// The density of a word of a command, in small letters or capitals.
 pub fn density_of_word(word: &str) -> Option<u8> {
-    match word {
-        "mfm" | "MFM" => Some(MFM),
-        "gcr" | "GCR" => Some(GCR),
-        _ => None,
-    }
+    names().number(Kind::Density, &word.to_uppercase()).map(|number| number as u8)
 }
 
 impl Cartridge {
@@ -231,7 +223,8 @@ impl Cartridge {
             for (object, segment) in track.segments.iter().enumerate() {
                 if let What::Record { image, density } = &segment.what {
                     if image.len() == 2 {
-                        text += &format!("empty track {number} object {object} {}\n", density_words(*density));
+                        let density = name(Kind::Density, *density);
+                        text += &format!("empty track {number} object {object} density {density}\n");
                     }
                 }
             }
@@ -242,16 +235,12 @@ impl Cartridge {
         text
     }
 
-    /// Writes the folder, which is made where it is missing.
+    /// Writes the folder, which is made where it is missing; each file whole or not at all.
     pub fn save(&self, folder: &Path) -> Result<(), String> {
-        let told = |what: &Path, error: std::io::Error| format!("{} cannot be written: {error}", what.display());
-        fs::create_dir_all(folder).map_err(|error| told(folder, error))?;
         for (number, track) in self.tracks.iter().enumerate() {
-            let file = folder.join(track_file(number));
-            fs::write(&file, tap::write(&track_objects(track))).map_err(|error| told(&file, error))?;
+            write_file(&folder.join(track_file(number)), &tap::write(&track_objects(track)))?;
         }
-        let file = folder.join(TEXT_FILE);
-        fs::write(&file, self.text()).map_err(|error| told(&file, error))
+        write_file(&folder.join(TEXT_FILE), self.text().as_bytes())
     }
 
     /// Reads the folder. A tape image that is missing is an erased track.
@@ -261,7 +250,7 @@ impl Cartridge {
         let mut cartridge = Cartridge::default();
         let mut empty = Vec::new();
         for (number, line) in text.lines().enumerate() {
-            let told = |what| format!("{}, line {}: {what}", file.display(), number + 1);
+            let told = |wrong: Wrong| format!("{}:{}:{}: {}", file.display(), number + 1, wrong.column, wrong.what);
             if let Some(found) = cartridge.take_line(line).map_err(told)? {
                 empty.push(found);
             }
@@ -285,36 +274,49 @@ impl Cartridge {
     }
 
     /// One line of the text; gives the density of a record of no bytes where it says one.
-    fn take_line(&mut self, line: &str) -> Result<Option<(usize, usize, u8)>, String> {
-        let line = line.split('#').next().unwrap_or("").trim();
-        let mut words = Words::of(line);
+    fn take_line(&mut self, line: &str) -> Result<Option<(usize, usize, u8)>, Wrong> {
+        if is_comment(line.as_bytes()) {
+            return Ok(None);
+        }
+        let mut words = Words::of(line.as_bytes())?;
+        if words.is_done() {
+            return Ok(None);
+        }
         match words.peek() {
-            None => {}
-            Some("inches") => {
-                self.length = words.place("inches")?;
-                words.end()?;
-                if self.length <= FIRST + LOAD_POINT {
-                    return Err(format!("a tape is longer than {} inches", inches(FIRST + LOAD_POINT)));
-                }
-            }
+            Some("inches") => self.length = length(&mut words)?,
             Some("protected") => {
-                words.next();
+                words.need("protected")?;
                 self.protected = true;
-                words.end()?;
             }
             Some("empty") => {
-                words.next();
-                let track = words.named("track", 0, 3)? as usize;
-                let object = words.named("object", 0, 1_000_000)? as usize;
-                let word = words.wanted("the density")?;
-                let density =
-                    density_of_word(word).ok_or_else(|| format!("a density is mfm or gcr, and not '{word}'"))?;
+                words.need("empty")?;
+                let (track, object) = (words.named("track", 0, 3)?, words.named("object", 0, 1_000_000)?);
+                let density = density(&mut words)?;
                 words.end()?;
                 return Ok(Some((track, object, density)));
             }
-            Some(_) => self.faults.push(Fault::parse(&mut words)?),
+            _ => self.faults.push(Fault::parse(&mut words)?),
         }
+        words.end()?;
         Ok(None)
+    }
+}
+
+/// `inches N`, as long as a tape may be.
+pub fn length(words: &mut Words) -> Result<Place, Wrong> {
+    let column = words.column();
+    match place(words, "inches")? {
+        length if length > FIRST + LOAD_POINT => Ok(length),
+        _ => Err(Wrong { column, what: format!("a tape is longer than {} inches", inches(FIRST + LOAD_POINT)) }),
+    }
+}
+
+/// `density MFM` or `density GCR`.
+pub fn density(words: &mut Words) -> Result<u8, Wrong> {
+    words.need("density")?;
+    match words.name(Kind::Density) {
+        Some(name) => Ok(name.number as u8),
+        None => words.other("a density is MFM or GCR"),
     }
 }
 
