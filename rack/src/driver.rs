@@ -105,6 +105,16 @@ enum Stop {
     Failed(String),
 }
 
+impl Stop {
+    fn words(self) -> String {
+        match self {
+            Stop::Gone => "the tape is gone".to_string(),
+            Stop::Full => "the tape has no more room".to_string(),
+            Stop::Failed(why) => why,
+        }
+    }
+}
+
 pub struct Driver {
     desk: Desk,
     pub drive: u8,
@@ -114,6 +124,10 @@ pub struct Driver {
     spot: Spot,
     /// Whether the tape stands where `spot` says, on the track and in the density that are meant.
     placed: bool,
+    /// Inches of erased tape between the spot and where the next write belongs: writes that failed may lie behind them.
+    erased: u32,
+    /// How many of them lie behind the heads.
+    passed: u32,
     pub ledger: Rc<RefCell<Ledger>>,
     pub wrong: Option<Wrong>,
 }
@@ -128,6 +142,8 @@ impl Driver {
             guard: true,
             spot: Spot::START,
             placed: false,
+            erased: 0,
+            passed: 0,
             ledger: Rc::default(),
             wrong: None,
         }
@@ -144,11 +160,7 @@ impl Driver {
                     Ok(outcome) => outcome,
                     Err(stop) => {
                         stopped = true;
-                        Outcome::Stopped(match stop {
-                            Stop::Gone => "the tape is gone".to_string(),
-                            Stop::Full => "the tape has no more room".to_string(),
-                            Stop::Failed(why) => why,
-                        })
+                        Outcome::Stopped(stop.words())
                     }
                 }
             };

@@ -119,6 +119,8 @@ pub enum Wrong {
     RestartIgnored,
     /// A failed write is left on tape and the next record follows.
     FailedWriteKept,
+    /// A write that failed is not looked for behind the tape that was erased for it, where the place was lost.
+    ErasedForgotten,
     /// No supplied count is ever tried.
     NeverSupplied,
     /// The blockettes of a record are counted upward.

@@ -19,7 +19,7 @@ impl Driver {
                 Ok(Outcome::Done(String::from_utf8_lossy(&words).into_owned()))
             }
             Command::Rewind => {
-                self.spot = Spot::START;
+                self.stands_at(Spot::START);
                 self.placed = false;
                 self.place().await?;
                 Ok(Outcome::Done("at BOT".to_string()))
@@ -31,7 +31,7 @@ impl Driver {
             Command::Track(track) => {
                 // a new track begins at BOT: in the middle of a tape nobody knows where its records stand
                 self.track = *track;
-                self.spot = Spot::START;
+                self.stands_at(Spot::START);
                 self.placed = false;
                 self.place().await?;
                 Ok(Outcome::Done(format!("track {track}, at BOT")))
@@ -55,7 +55,7 @@ impl Driver {
                     if !found {
                         return Ok(Outcome::Lost(format!("no mark behind {}", self.spot.words())));
                     }
-                    self.spot = self.spot.forward(true);
+                    self.stands_at(self.spot.forward(true));
                 }
                 Ok(Outcome::Done(self.spot.words()))
             }
@@ -66,10 +66,10 @@ impl Driver {
                         return Ok(Outcome::Lost("no mark before".to_string()));
                     }
                     let found = self.search(SEARCH_REVERSE).await?;
-                    self.spot = match self.spot {
+                    self.stands_at(match self.spot {
                         Spot::Behind { marks, .. } => Spot::Before { mark: marks - 1, records: 0 },
                         Spot::Before { mark, .. } => Spot::Before { mark: mark - 1, records: 0 },
-                    };
+                    });
                     if !found {
                         self.placed = false;
                         self.place().await?;
@@ -87,7 +87,10 @@ impl Driver {
             }
             Command::Erase(inches) => {
                 self.place().await?;
-                let done = self.erase(inches.unwrap_or(0x8000)).await?;
+                let done = match inches {
+                    Some(inches) => self.erase(*inches).await?,
+                    None => self.erase_to_the_end().await?,
+                };
                 Ok(match done {
                     true => Outcome::Done(match inches {
                         Some(inches) => format!("{inches} inches"),
@@ -139,8 +142,8 @@ impl Driver {
                     }
                     if status.is_forward() || status.is_reverse() {
                         let mark = status.is_mark();
-                        self.spot =
-                            if value == SKIP_FORWARD { self.spot.forward(mark) } else { self.spot.reverse(mark) };
+                        let forward = value == SKIP_FORWARD;
+                        self.stands_at(if forward { self.spot.forward(mark) } else { self.spot.reverse(mark) });
                         done = true;
                         break;
                     }

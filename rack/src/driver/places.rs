@@ -48,6 +48,13 @@ impl Spot {
 }
 
 impl Driver {
+    /// The tape stands at another spot than before, right behind what it passed.
+    pub(super) fn stands_at(&mut self, spot: Spot) {
+        self.spot = spot;
+        self.erased = 0;
+        self.passed = 0;
+    }
+
     /// Why a store was not carried out, by the drive's report.
     pub(super) fn refused(status: Status) -> Stop {
         let report = status.report();
@@ -90,6 +97,7 @@ impl Driver {
                 code::TAPE_GONE => return Err(Stop::Gone),
                 _ => continue,
             }
+            self.passed = 0;
             self.placed = self.go_to(self.spot).await?;
             if !self.placed {
                 continue;

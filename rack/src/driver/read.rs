@@ -75,7 +75,7 @@ impl Driver {
             behind = status.is_forward();
             match status.code() {
                 code::GOOD if status.is_mark() => {
-                    self.spot = self.spot.forward(true);
+                    self.stands_at(self.spot.forward(true));
                     return Ok(Got::Mark);
                 }
                 ILLEGAL_MOTION if status.report() & report::EOT != 0 => return Ok(Got::End),
@@ -124,7 +124,7 @@ impl Driver {
                     let count = completion.count.unwrap_or(0);
                     match self.whole(count, completion.delivered).await? {
                         Some(record) => {
-                            self.spot = self.spot.forward(false);
+                            self.stands_at(self.spot.forward(false));
                             return Ok(Got::Record(record));
                         }
                         None => {
@@ -147,7 +147,7 @@ impl Driver {
             let count = if asked.is_some() { known_count.unwrap_or(read_count) } else { read_count };
             known_count = Some(count);
             if self.wrong == Some(Wrong::FiledAsDelivered) {
-                self.spot = self.spot.forward(false);
+                self.stands_at(self.spot.forward(false));
                 return Ok(Got::Record(completion.delivered));
             }
             let Some(tertiary) = self.load(load::TERTIARY).await? else {
@@ -163,7 +163,7 @@ impl Driver {
             let pass = self.pass(count, read_count, &completion.delivered, tertiary, quintary, &checks, unrestorable);
             gathered = Some(self.merged(gathered.take(), pass));
             if let Some(record) = self.restored(&mut gathered) {
-                self.spot = self.spot.forward(false);
+                self.stands_at(self.spot.forward(false));
                 return Ok(Got::Record(record));
             }
             last = "two bad blockettes of one parity in every pass".to_string();
@@ -192,7 +192,7 @@ impl Driver {
                 _ => self.placed = false,
             }
         }
-        self.spot = self.spot.forward(false);
+        self.stands_at(self.spot.forward(false));
         Ok(Got::Lost(last))
     }
 
