@@ -128,6 +128,8 @@ pub struct Driver {
     erased: u32,
     /// How many of them lie behind the heads.
     passed: u32,
+    /// The image of the record that is held to its check bytes, in a space that is used again.
+    image: Vec<u8>,
     pub ledger: Rc<RefCell<Ledger>>,
     pub wrong: Option<Wrong>,
 }
@@ -144,6 +146,7 @@ impl Driver {
             placed: false,
             erased: 0,
             passed: 0,
+            image: Vec::new(),
             ledger: Rc::default(),
             wrong: None,
         }

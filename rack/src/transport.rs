@@ -5,7 +5,7 @@ mod motion;
 mod passes;
 mod write;
 
-use crate::cartridge::{record_length, Cartridge, Segment, Track, What, FIRST, LOAD_POINT, MARK_LENGTH, TRACKS};
+use crate::cartridge::{record_length, Cartridge, Image, Segment, Track, What, FIRST, LOAD_POINT, MARK_LENGTH, TRACKS};
 use crate::faults::{Chance, Chances, Fault, Place};
 
 /// The bits of a report.
@@ -75,7 +75,7 @@ pub struct Answer {
     pub code: u8,
     pub mark: bool,
     pub late: u8,
-    pub image: Vec<u8>,
+    pub image: Image,
     pub marks: Vec<u8>,
 }
 
@@ -295,14 +295,14 @@ impl Transport {
             operation::SEARCH_REVERSE => loop {
                 answer = Answer { reports: answer.reports, ..Answer::default() };
                 self.reverse(track, order, &mut answer);
-                answer.image.clear();
+                answer.image = Image::default();
                 if answer.mark || answer.code != code::GOOD {
                     break;
                 }
             },
             operation::WRITE => {
                 let other = u8::from(self.wrong == Some(Wrong::OtherDensity));
-                let what = What::Record { image: image.to_vec(), density: order.density ^ other };
+                let what = What::Record { image: image.to_vec().into(), density: order.density ^ other };
                 self.write(track, record_length(image.len(), order.density), what, &mut answer);
             }
             operation::WRITE_MARK => self.write(track, MARK_LENGTH, What::Mark, &mut answer),
@@ -350,10 +350,10 @@ impl Transport {
     /// Late flags mean that bytes were lost on their way, with nothing else to tell of it.
     fn lose_bytes(&mut self, order: Order, track: usize, answer: &mut Answer) {
         let byte = self.chance.next() as usize;
-        let spoil = |image: &mut [u8]| {
+        let spoil = |image: &mut Image| {
             if image.len() > 2 {
                 let place = 2 + byte % (image.len() - 2);
-                image[place] ^= 0x81;
+                image.own()[place] ^= 0x81;
             }
         };
         match order.operation {
@@ -390,7 +390,7 @@ impl Transport {
     }
 
     fn track(&self, track: usize) -> &Track {
-        static NONE: Track = Track { segments: Vec::new() };
-        self.cartridge.as_ref().map_or(&NONE, |cartridge| &cartridge.tracks[track])
+        const NONE: &Track = &Track { segments: Vec::new() };
+        self.cartridge.as_ref().map_or(NONE, |cartridge| &cartridge.tracks[track])
     }
 }

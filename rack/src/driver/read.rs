@@ -210,12 +210,14 @@ impl Driver {
         let Some(checks) = self.check_bytes().await? else {
             return Ok(None);
         };
-        let mut image = Vec::with_capacity(2 + BLOCKETTE * blockettes(count));
+        let image = &mut self.image;
+        image.clear();
+        image.reserve(2 + BLOCKETTE * blockettes(count));
         image.extend((count as u16).rotate_right(1).to_be_bytes());
         image.extend(&delivered);
         image.resize(2 + BLOCKETTE * count.div_ceil(BLOCKETTE), 0);
         image.extend(&checks);
-        let fits = verify(&image).is_ok_and(|unfit| !unfit.even && !unfit.odd);
+        let fits = verify(image).is_ok_and(|unfit| !unfit.even && !unfit.odd);
         if !fits {
             self.count(|ledger| &mut ledger.unlike);
             self.note("the check bytes do not fit what was read; back, and again");

@@ -2,7 +2,7 @@
 
 use super::{code, operation, Answer, Order, Seen, Transport, Wrong, GOOD_MARK};
 use crate::cartridge::{
-    blockettes, byte_place, image_count, Segment, What, BLOCKETTE, GCR, IMPROPER, LEAD, LOAD_POINT, MFM, PROPER,
+    blockettes, byte_place, image_count, Image, Segment, What, BLOCKETTE, GCR, IMPROPER, LEAD, LOAD_POINT, MFM, PROPER,
 };
 use crate::faults::{Fault, Place, INCH};
 
@@ -101,7 +101,7 @@ impl Transport {
         if supplied {
             match tail_of(&read, &marks, usize::from(order.operand), self.wrong) {
                 Ok((image, tail)) => {
-                    answer.image = image;
+                    answer.image = image.into();
                     answer.marks = tail;
                 }
                 Err(code) => answer.code = code,
@@ -158,7 +158,7 @@ impl Transport {
     }
 
     /// Changes a byte that no mark tells of. In MFM the CRC would tell.
-    fn silence(&mut self, track: usize, object: usize, density: u8, image: &mut [u8]) -> bool {
+    fn silence(&mut self, track: usize, object: usize, density: u8, image: &mut Image) -> bool {
         let mut changed = false;
         if density == MFM {
             return false;
@@ -167,7 +167,7 @@ impl Transport {
             if let Fault::Silent { track: on, object: number, byte, .. } = met.fault {
                 if (usize::from(on), number) == (track, object) && byte >= 2 && byte < image.len() {
                     met.times += 1;
-                    image[byte] ^= 0x5A;
+                    image.own()[byte] ^= 0x5A;
                     changed = true;
                 }
             }
@@ -175,7 +175,7 @@ impl Transport {
         if image.len() > 2 && self.chance.in_thousand(self.chances.silent) {
             self.by_chance[4] += 1;
             let byte = 2 + self.chance.below(image.len() as u64 - 2) as usize;
-            image[byte] ^= 1 + self.chance.below(255) as u8;
+            image.own()[byte] ^= 1 + self.chance.below(255) as u8;
             changed = true;
         }
         changed
@@ -187,7 +187,7 @@ impl Transport {
         track: usize,
         object: usize,
         lies: (Place, Place),
-        image: &mut [u8],
+        image: &mut Image,
         marks: &mut [u8],
         density: u8,
     ) -> bool {
@@ -235,7 +235,7 @@ impl Transport {
                 spoiled = true;
                 if density == GCR {
                     let start = 2 + BLOCKETTE * piece;
-                    for byte in &mut image[start..start + BLOCKETTE] {
+                    for byte in &mut image.own()[start..start + BLOCKETTE] {
                         *byte ^= self.chance.next() as u8;
                     }
                     if self.wrong != Some(Wrong::MarkLost) {
@@ -280,7 +280,7 @@ impl Transport {
                 if self.reverse_count_bad(track, object, end) {
                     answer.code = code::COUNT_BAD;
                 } else {
-                    answer.image = count.to_vec();
+                    answer.image = count.to_vec().into();
                 }
             }
             What::Record { .. } => {}
