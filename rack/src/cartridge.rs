@@ -376,6 +376,41 @@ mod tests {
         assert_eq!(track.segments, []);
     }
 
+    /// An erase of any place leaves, tenth by tenth, what the papers' gap lets it leave.
+    #[test]
+    fn an_erase_takes_what_it_passes_and_nothing_else() {
+        let mut chance = Chance::new(7);
+        for _ in 0..2000 {
+            let mut track = Track::default();
+            let mut place = FIRST;
+            for _ in 0..chance.below(8) {
+                place += GAP + chance.below(40) as Place;
+                let segment = record(place, chance.below(9000) as usize);
+                place = segment.end();
+                track.put(segment);
+            }
+            let from = FIRST + chance.below(600) as Place;
+            let to = from + 1 + chance.below(300) as Place;
+            let before = track.clone();
+            track.erase(from, to);
+            for tenth in 0..place + 400 {
+                let holds = |track: &Track| {
+                    let found = track.segments.iter().find(|segment| segment.start <= tenth && tenth < segment.end());
+                    found.cloned()
+                };
+                let met = |segment: &Segment| segment.start < to && segment.end() > from;
+                match (holds(&before), holds(&track)) {
+                    (Some(was), now) if !met(&was) => assert_eq!(Some(was), now),
+                    (Some(_), now) => {
+                        let left = tenth < from - PROPER || tenth >= to.max(from + GAP);
+                        assert_eq!(left, now.is_some_and(|segment| segment.what == What::Scrap));
+                    }
+                    (None, now) => assert_eq!(now, None),
+                }
+            }
+        }
+    }
+
     /// Random writes and erasures leave a track that its tape image gives back, place by place.
     #[test]
     fn a_track_comes_back_from_its_tape_image() {
