@@ -4,7 +4,7 @@
 use crate::board::{Heard, Link, Trouble};
 use ctc_words::interface::Store;
 
-const ACK: u8 = 0x06;
+pub const ACK: u8 = 0x06;
 const NACK: u8 = 0x15;
 const GO: u8 = 0x47;
 const EOR: u8 = 0x45;

@@ -468,7 +468,8 @@ fn unneeded_stop(ledger: &Ledger, transport: &Transport, link: u32) -> Option<St
     (!known).then(|| format!("stopped: {why} ({command:.40?})"))
 }
 
-/// Whether each drive was given the same orders and images, and delivered the same bytes, as it is alone.
+/// Whether each drive was given the same orders and images, and delivered the same bytes, as it is alone. A string that the
+/// link made another one may be a reset, which is meant for all drives: such a run says nothing of this.
 pub fn separate(seed: u64, wrongs: Wrongs) -> Vec<String> {
     let mut together = scenario(seed, None);
     together.damages.clear();
@@ -476,6 +477,9 @@ pub fn separate(seed: u64, wrongs: Wrongs) -> Vec<String> {
     together.wrongs = wrongs;
     let together = run(together, &mut |_, _| {});
     let mut wrong = Vec::new();
+    if together.host.link.mistaken > 0 {
+        return wrong;
+    }
     for drive in 0..DRIVES {
         let mut alone = scenario(seed, Some(drive as u8));
         alone.wrongs = wrongs;

@@ -7,7 +7,7 @@ use ctc_rack::faults::{Fault, Place, INCH};
 use ctc_rack::host::Wrong;
 use ctc_rack::noise::LinkChances;
 use ctc_rack::run::{run, Job, Ran, Setup, Wrongs};
-use ctc_rack::soak::judge;
+use ctc_rack::soak::{judge, scenario};
 use ctc_rack::transport::Transport;
 use std::rc::Rc;
 
@@ -102,4 +102,13 @@ fn nothing_but_what_was_asked_for_is_left() {
 fn a_driver_that_forgets_what_it_erased_leaves_a_second_mark() {
     let said = all_places(Some(Wrong::ErasedForgotten));
     assert!(said.iter().any(|why| why.contains(r#""mark", "mark""#)), "{said:?}");
+}
+
+/// Scenarios of the soak that once were not as they should be: a second mark was left, and a density that the link had
+/// changed was not set anew.
+#[test]
+fn what_was_wrong_once_is_right() {
+    for seed in [45_047, 1_023_866] {
+        assert_eq!(judge(&run(scenario(seed, None), &mut |_, _| {})), Vec::<String>::new(), "seed {seed}");
+    }
 }

@@ -35,6 +35,7 @@ impl Driver {
         // whether the tape stands behind the record, by a read that failed
         let mut behind = false;
         let (mut tries, mut first_try, mut known) = (0, true, 0);
+        let mut not_recognized = 0;
         while tries < READ_TRIES {
             tries += 1;
             if !std::mem::take(&mut first_try) {
@@ -118,6 +119,12 @@ impl Driver {
                     self.note(format!("read: code {:02X}; its count is asked for by a skip back", status.code()));
                     last = format!("torn: code {:02X}, and no count", status.code());
                     torn = true;
+                    // a string that two changed bytes made another store may have set the density anew: the record is
+                    // looked for once more from BOT, with all settings
+                    not_recognized += 1;
+                    if not_recognized == READ_TRIES / 2 && known_count.is_none() {
+                        self.placed = false;
+                    }
                     continue;
                 }
                 code::GOOD | 0x10 | 0x11 | 0x12 => {
