@@ -108,7 +108,8 @@ pub struct Noisy<L: Link> {
     job: usize,
     /// How many bytes of the string that is said were changed.
     changed: u32,
-    /// Strings that two changed bytes made others, which fit their check byte too: the controller did what nobody meant.
+    /// Strings that two changed bytes made others, which fit their check byte too: the controller did what nobody
+    /// meant.
     pub mistaken: u32,
 }
 

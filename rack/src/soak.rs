@@ -238,8 +238,9 @@ fn stop(ledger: &Ledger) -> Option<(usize, Objects, &str)> {
     None
 }
 
-/// Why what lies on a track is not what its job says: all of what was done, in its order, and nothing else. A command that
-/// was stopped may have done its beginning. Only a driver that says so leaves more behind: a try that it could not erase.
+/// Why what lies on a track is not what its job says: all of what was done, in its order, and nothing else. A command
+/// that was stopped may have done its beginning. Only a driver that says so leaves more behind: a try that it could not
+/// erase.
 fn unlike(
     number: usize,
     track: &Track,
@@ -468,8 +469,8 @@ fn unneeded_stop(ledger: &Ledger, transport: &Transport, link: u32) -> Option<St
     (!known).then(|| format!("stopped: {why} ({command:.40?})"))
 }
 
-/// Whether each drive was given the same orders and images, and delivered the same bytes, as it is alone. A string that the
-/// link made another one may be a reset, which is meant for all drives: such a run says nothing of this.
+/// Whether each drive was given the same orders and images, and delivered the same bytes, as it is alone. A string that
+/// the link made another one may be a reset, which is meant for all drives: such a run says nothing of this.
 pub fn separate(seed: u64, wrongs: Wrongs) -> Vec<String> {
     let mut together = scenario(seed, None);
     together.damages.clear();

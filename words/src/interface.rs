@@ -1,5 +1,5 @@
-//! The controller, called through include/ctc_controller.h, and the records beside it. What the proved functions promise
-//! of a state, an answer and a lent space is what makes the calls below safe.
+//! The controller, called through include/ctc_controller.h, and the records beside it. What the proved functions
+//! promise of a state, an answer and a lent space is what makes the calls below safe.
 
 pub use crate::records::{
     build, image_count, image_length, mark_count, merge, restore, verify, Refusal, Unfit,

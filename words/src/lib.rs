@@ -1,7 +1,7 @@
 //! What is sent to the controller and what comes back, in words, both ways. `names` has every word, `interface` and
-//! `records` call the proved functions, `line` reads and writes the lines of sessions, `status` the status words. `explain` tells
-//! lines in words; `statement` reads and writes words, of which `make` makes lines and as which `statements` tells
-//! them; `prompt` does all of it as it is typed.
+//! `records` call the proved functions, `line` reads and writes the lines of sessions, `status` the status words.
+//! `explain` tells lines in words; `statement` reads and writes words, of which `make` makes lines and as which
+//! `statements` tells them; `prompt` does all of it as it is typed.
 
 #[cfg(feature = "controller")]
 pub mod explain;

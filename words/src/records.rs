@@ -1,5 +1,5 @@
-//! The records, called through include/ctc_records.h, alone or beside the controller. A slice is handed over with its own
-//! length, and what is written shares no byte with what is read: that is all that the proved functions ask for.
+//! The records, called through include/ctc_records.h, alone or beside the controller. A slice is handed over with its
+//! own length, and what is written shares no byte with what is read: that is all that the proved functions ask for.
 
 use std::ptr;
 

@@ -1,5 +1,5 @@
-//! What several passes over a GCR record tell together: a blockette that one of them read well is known, and at most one
-//! of each parity is restored from the check blockettes.
+//! What several passes over a GCR record tell together: a blockette that one of them read well is known, and at most
+//! one of each parity is restored from the check blockettes.
 
 use super::Driver;
 use crate::cartridge::{blockettes, BLOCKETTE};

@@ -18,8 +18,8 @@ const NO_GO: u8 = 0x05;
 const TO_THE_END: u16 = 0x8000;
 
 impl Driver {
-    /// Writes a record, or a mark where there is none. What tries that failed have begun is gone when this ends, or it is
-    /// told that it is not.
+    /// Writes a record, or a mark where there is none. What tries that failed have begun is gone when this ends, or it
+    /// is told that it is not.
     pub(super) async fn write(&mut self, record: Option<Part>) -> Result<(), Stop> {
         let mut begun = false;
         let Err(stop) = self.try_to_write(record, &mut begun).await else {
@@ -120,8 +120,8 @@ impl Driver {
         }
     }
 
-    /// Erases so many inches more behind the spot. Where the place is lost meanwhile, all of them are erased again. False
-    /// where that was not to be done.
+    /// Erases so many inches more behind the spot. Where the place is lost meanwhile, all of them are erased again.
+    /// False where that was not to be done.
     pub(super) async fn erase(&mut self, inches: u16) -> Result<bool, Stop> {
         self.erased += u32::from(inches);
         for _ in 0..POSITION_TRIES {
