@@ -7,7 +7,9 @@ use crate::tap::{self, Object};
 use ctc_words::names::{name, names, Kind};
 use ctc_words::statement::{is_comment, Words, Wrong};
 use std::fs;
+use std::ops::Deref;
 use std::path::Path;
+use std::rc::Rc;
 
 pub const TRACKS: usize = 4;
 /// The length of a new tape: 600 feet.
@@ -29,11 +31,44 @@ pub const MFM: u8 = 0;
 pub const GCR: u8 = 1;
 pub const BLOCKETTE: usize = 256;
 
+/// The image of a record. A tape and those who read it share its bytes, until a fault changes some of them for one.
+#[derive(Clone, Debug, Default)]
+pub struct Image(Option<Rc<Vec<u8>>>);
+
+impl Image {
+    /// The bytes for one who changes them: a copy where somebody else has them too.
+    pub fn own(&mut self) -> &mut Vec<u8> {
+        Rc::make_mut(self.0.get_or_insert_with(Rc::default))
+    }
+}
+
+impl Deref for Image {
+    type Target = [u8];
+
+    fn deref(&self) -> &[u8] {
+        self.0.as_ref().map_or(&[], |bytes| bytes)
+    }
+}
+
+impl From<Vec<u8>> for Image {
+    fn from(bytes: Vec<u8>) -> Image {
+        Image(Some(Rc::new(bytes)))
+    }
+}
+
+impl PartialEq for Image {
+    fn eq(&self, other: &Image) -> bool {
+        **self == **other
+    }
+}
+
+impl Eq for Image {}
+
 /// What a stretch of track holds.
 #[derive(Clone, Debug, PartialEq, Eq)]
 pub enum What {
     Record {
-        image: Vec<u8>,
+        image: Image,
         density: u8,
     },
     Mark,
@@ -75,22 +110,17 @@ pub struct Track {
 impl Track {
     /// Erases from here to there. What is cut stays as scraps, at least a gap away.
     pub fn erase(&mut self, from: Place, to: Place) {
-        let mut kept = Vec::with_capacity(self.segments.len() + 2);
-        for segment in self.segments.drain(..) {
-            if segment.end() <= from || segment.start >= to {
-                kept.push(segment);
-                continue;
-            }
-            let front = from - PROPER - segment.start;
-            if front > 0 {
-                kept.push(Segment { start: segment.start, length: front, what: What::Scrap });
-            }
-            let start = to.max(from + GAP);
-            if segment.end() > start {
-                kept.push(Segment { start, length: segment.end() - start, what: What::Scrap });
-            }
+        let first = self.segments.partition_point(|segment| segment.end() <= from);
+        let behind = self.segments.partition_point(|segment| segment.start < to);
+        if first >= behind {
+            return;
         }
-        self.segments = kept;
+        let scrap = |start: Place, end: Place| Segment { start, length: end - start, what: What::Scrap };
+        let (start, end) = (self.segments[first].start, self.segments[behind - 1].end());
+        let before = (start < from - PROPER).then(|| scrap(start, from - PROPER));
+        let rest = to.max(from + GAP);
+        let after = (rest < end).then(|| scrap(rest, end));
+        self.segments.splice(first..behind, before.into_iter().chain(after));
     }
 
     /// Puts something where all is erased.
@@ -197,7 +227,7 @@ pub fn track_of(objects: &[Object], empty: impl Fn(usize) -> u8) -> Result<Track
                     return Err(format!("object {number}, of {} bytes, is no image of a record", bytes.len()));
                 };
                 let density = density.unwrap_or_else(|| empty(number));
-                (record_length(bytes.len(), density), What::Record { image: bytes.clone(), density })
+                (record_length(bytes.len(), density), What::Record { image: bytes.clone().into(), density })
             }
         };
         track.segments.push(Segment { start: place, length, what });
@@ -329,7 +359,7 @@ mod tests {
         let mut image = (count as u16).rotate_right(1).to_be_bytes().to_vec();
         image.resize(2 + count, 7);
         let length = record_length(image.len(), MFM);
-        Segment { start, length, what: What::Record { image, density: MFM } }
+        Segment { start, length, what: What::Record { image: image.into(), density: MFM } }
     }
 
     #[test]
@@ -346,6 +376,41 @@ mod tests {
         assert_eq!((track.segments[1].start, track.segments[1].end()), (552, end));
         track.erase(0, 10_000);
         assert_eq!(track.segments, []);
+    }
+
+    /// An erase of any place leaves, tenth by tenth, what the papers' gap lets it leave.
+    #[test]
+    fn an_erase_takes_what_it_passes_and_nothing_else() {
+        let mut chance = Chance::new(7);
+        for _ in 0..2000 {
+            let mut track = Track::default();
+            let mut place = FIRST;
+            for _ in 0..chance.below(8) {
+                place += GAP + chance.below(40) as Place;
+                let segment = record(place, chance.below(9000) as usize);
+                place = segment.end();
+                track.put(segment);
+            }
+            let from = FIRST + chance.below(600) as Place;
+            let to = from + 1 + chance.below(300) as Place;
+            let before = track.clone();
+            track.erase(from, to);
+            for tenth in 0..place + 400 {
+                let holds = |track: &Track| {
+                    let found = track.segments.iter().find(|segment| segment.start <= tenth && tenth < segment.end());
+                    found.cloned()
+                };
+                let met = |segment: &Segment| segment.start < to && segment.end() > from;
+                match (holds(&before), holds(&track)) {
+                    (Some(was), now) if !met(&was) => assert_eq!(Some(was), now),
+                    (Some(_), now) => {
+                        let left = tenth < from - PROPER || tenth >= to.max(from + GAP);
+                        assert_eq!(left, now.is_some_and(|segment| segment.what == What::Scrap));
+                    }
+                    (None, now) => assert_eq!(now, None),
+                }
+            }
+        }
     }
 
     /// Random writes and erasures leave a track that its tape image gives back, place by place.

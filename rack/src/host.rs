@@ -4,7 +4,7 @@
 use crate::board::{Heard, Link, Trouble};
 use ctc_words::interface::Store;
 
-const ACK: u8 = 0x06;
+pub const ACK: u8 = 0x06;
 const NACK: u8 = 0x15;
 const GO: u8 = 0x47;
 const EOR: u8 = 0x45;
@@ -119,6 +119,8 @@ pub enum Wrong {
     RestartIgnored,
     /// A failed write is left on tape and the next record follows.
     FailedWriteKept,
+    /// A write that failed is not looked for behind the tape that was erased for it, where the place was lost.
+    ErasedForgotten,
     /// No supplied count is ever tried.
     NeverSupplied,
     /// The blockettes of a record are counted upward.

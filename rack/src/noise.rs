@@ -2,6 +2,7 @@
 
 use crate::board::{Heard, Hearing, Link, Trouble, IMAGE_MOST};
 use crate::faults::{listed, Chance};
+use crate::host::ACK;
 use ctc_words::interface::Store;
 use ctc_words::statement::{Words, Wrong};
 use std::fmt;
@@ -103,6 +104,11 @@ pub struct Noisy<L: Link> {
     pub link: L,
     lines: [Line; 4],
     job: usize,
+    /// How many bytes of the string that is said were changed.
+    changed: u32,
+    /// Strings that two changed bytes made others, which fit their check byte too: the controller did what nobody
+    /// meant.
+    pub mistaken: u32,
 }
 
 impl<L: Link> Noisy<L> {
@@ -116,7 +122,7 @@ impl<L: Link> Noisy<L> {
             exchanges: 0,
             by_chance: 0,
         };
-        Noisy { link, lines: [line(0), line(1), line(2), line(3)], job: 0 }
+        Noisy { link, lines: [line(0), line(1), line(2), line(3)], job: 0, changed: 0, mistaken: 0 }
     }
 
     pub fn set(&mut self, job: usize, faults: &[LinkFault], chances: LinkChances) {
@@ -199,8 +205,15 @@ impl<L: Link> Link for Noisy<L> {
         let hearing = match self.fate(byte) {
             Fate::Comes => self.link.byte(byte),
             Fate::Breaks => self.link.break_off(),
-            Fate::Changed(other) => self.link.byte(other),
+            Fate::Changed(other) => {
+                self.changed += 1;
+                self.link.byte(other)
+            }
         };
+        if hearing != Ok(Heard::Nothing) {
+            self.mistaken += u32::from(self.changed >= 2 && hearing == Ok(Heard::Byte(ACK)));
+            self.changed = 0;
+        }
         self.to_host(hearing)
     }
 
@@ -214,6 +227,7 @@ impl<L: Link> Link for Noisy<L> {
     }
 
     fn break_off(&mut self) -> Hearing {
+        self.changed = 0;
         self.link.break_off()
     }
 
