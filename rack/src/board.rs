@@ -113,6 +113,9 @@ pub enum Wrong {
     SilentRestart,
     /// The controller is told that the host has space, where it has not.
     SpaceUntold,
+    /// The controller is reset before its Nth store is handed over, as by a string that was changed on its way and
+    /// still checks; the host is not told.
+    ResetBefore(usize),
 }
 
 pub struct Board {
@@ -124,6 +127,7 @@ pub struct Board {
     lent: usize,
     delivered: Vec<u8>,
     orders: [usize; DRIVES],
+    handings: usize,
     pub damages: Vec<Damage>,
     /// Damages that came, and those that nobody could tell.
     pub damaged: Vec<(Damage, bool)>,
@@ -151,6 +155,7 @@ impl Board {
             lent: IMAGE_MOST,
             delivered: Vec::new(),
             orders: [0; DRIVES],
+            handings: 0,
             damages: Vec::new(),
             damaged: Vec::new(),
             restarts: 0,
@@ -371,6 +376,10 @@ impl Link for Board {
 
     fn hand(&mut self) -> Result<Option<(u8, Heard)>, Trouble> {
         let next = self.next();
+        self.handings += 1;
+        if self.wrong == Some(Wrong::ResetBefore(self.handings)) {
+            let _ = self.controller.reset();
+        }
         let answered = self.controller.hand();
         let answer = self.made(|| Call::Hand, answered)?;
         match next {

@@ -16,8 +16,8 @@ pub use desk::{Desk, Mail, Part, Reply, Request};
 pub use places::Spot;
 
 use crate::board::Trouble;
-use crate::cartridge::BLOCKETTE;
-use crate::host::{Completion, Wrong};
+use crate::cartridge::{BLOCKETTE, GCR};
+use crate::host::{Completion, Status, Wrong};
 use ctc_words::interface::Store;
 use desk::Waiting;
 use std::cell::RefCell;
@@ -25,8 +25,9 @@ use std::rc::Rc;
 
 /// How often the tape is brought back to a place, and how often a move is tried there.
 const POSITION_TRIES: usize = 6;
-/// The controller's own code for a store that its drive's report forbids.
+/// The controller's own codes: for a store that its drive's report forbids, and for a write whose data did not come.
 const ILLEGAL_MOTION: u8 = 0x04;
+const NO_GO: u8 = 0x05;
 /// Values of control stores that move the tape.
 const REWIND: u8 = 0x10;
 const SKIP_FORWARD: u8 = 0x20;
@@ -124,6 +125,10 @@ pub struct Driver {
     spot: Spot,
     /// Whether the tape stands where `spot` says, on the track and in the density that are meant.
     placed: bool,
+    /// Whether track and density have been set for the drive, and nothing is known that took them away.
+    settled: bool,
+    /// A store that was carried out with other settings than were meant.
+    astray: Option<Status>,
     /// Inches of erased tape between the spot and where the next write belongs: writes that failed may lie behind them.
     erased: u32,
     /// How many of them lie behind the heads.
@@ -132,6 +137,10 @@ pub struct Driver {
     image: Vec<u8>,
     pub ledger: Rc<RefCell<Ledger>>,
     pub wrong: Option<Wrong>,
+}
+
+fn settings(track: u8, density: u8) -> String {
+    format!("track {track} in {}", if density == GCR { "GCR" } else { "MFM" })
 }
 
 impl Driver {
@@ -144,6 +153,8 @@ impl Driver {
             guard: true,
             spot: Spot::START,
             placed: false,
+            settled: false,
+            astray: None,
             erased: 0,
             passed: 0,
             image: Vec::new(),
@@ -203,6 +214,7 @@ impl Driver {
             Err(Trouble::Restarted) => {
                 if self.wrong != Some(Wrong::RestartIgnored) {
                     self.placed = false;
+                    self.settled = false;
                 }
                 self.note("the controller was started anew");
                 Ok(None)
@@ -212,8 +224,36 @@ impl Driver {
         }
     }
 
+    /// One store. None, too, where it was carried out on another track or in another density: what a string that was
+    /// changed on its way, and still checks, did to the controller shows in primary alone.
     async fn store(&mut self, store: Store, data: Part) -> Result<Option<Completion>, Stop> {
-        Ok(self.stores(vec![store], data).await?.and_then(|mut all| all.pop()))
+        let completion = self.stores(vec![store], data).await?.and_then(|mut all| all.pop());
+        Ok(completion.filter(|completion| self.is_own(completion.status)))
+    }
+
+    /// Whether a store was carried out with the settings of this job. Where not, they are made again before the next.
+    fn is_own(&mut self, status: Status) -> bool {
+        let own = (status.drive(), status.track(), status.density()) == (self.drive, self.track, self.density);
+        if own || !self.settled || self.wrong == Some(Wrong::SettingsUnchecked) {
+            return true;
+        }
+        self.note(format!("the controller has lost what was set: {}", settings(status.track(), status.density())));
+        self.placed = false;
+        self.settled = false;
+        self.astray = Some(status);
+        false
+    }
+
+    /// Ends the job where something was written or erased astray: what lay there is not this job's to mend.
+    fn not_astray(&mut self, what: &str) -> Result<(), Stop> {
+        match self.astray.take() {
+            Some(status) if ![ILLEGAL_MOTION, NO_GO].contains(&status.code()) => Err(Stop::Failed(format!(
+                "the controller had lost what was set, and {what} {} instead of {}: what lay there may be damaged",
+                settings(status.track(), status.density()),
+                settings(self.track, self.density)
+            ))),
+            _ => Ok(()),
+        }
     }
 
     async fn move_by(&mut self, value: u8) -> Result<Option<Completion>, Stop> {
@@ -225,6 +265,7 @@ impl Driver {
             Ok(Reply::Word(word)) => Ok(Some(word)),
             Err(Trouble::Restarted) => {
                 self.placed = false;
+                self.settled = false;
                 Ok(None)
             }
             _ => Err(Stop::Failed("the link is silent".to_string())),
@@ -241,6 +282,7 @@ impl Driver {
             }
             Err(Trouble::Restarted) => {
                 self.placed = false;
+                self.settled = false;
                 Ok(None)
             }
             _ => Err(Stop::Failed("the link is silent".to_string())),

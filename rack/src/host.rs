@@ -42,6 +42,19 @@ impl Status {
         self.field(15, 5)
     }
 
+    /// The selected drive and what it is set to: the last store's own, since every store names its drive.
+    pub fn drive(self) -> u8 {
+        self.field(7, 2)
+    }
+
+    pub fn track(self) -> u8 {
+        self.field(5, 3)
+    }
+
+    pub fn density(self) -> u8 {
+        self.field(23, 1)
+    }
+
     pub fn is_mark(self) -> bool {
         self.bit(8)
     }
@@ -105,6 +118,8 @@ pub enum Wrong {
     ChecksSwapped,
     /// No skip back before another try.
     NoSkipBack,
+    /// Track and density of a completion are not looked at.
+    SettingsUnchecked,
     /// Two skips back before another try.
     SkipsBackTwice,
     /// The supplied count is one blockette too long.

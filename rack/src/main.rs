@@ -110,21 +110,20 @@ fn options(words: &[String]) -> Done<Options> {
 fn run_shown(scenario: &Scenario, options: &Options, alone: Option<u8>) -> Ran {
     let keeps = options.session.is_some() || options.explain.is_some() || options.page.is_some();
     let shown = std::io::stderr().is_terminal();
-    let mut last = Instant::now();
-    let mut said = false;
+    // shown at once, so that a long run is told from one that does nothing
+    let mut last: Option<Instant> = None;
     let mut setup = scenario.setup(options.seed, alone, keeps);
     setup.keeps_orders = options.alone.is_some();
     let whose = alone.map_or("rack".to_string(), |drive| format!("rack, drive {drive} alone"));
     let ran = run(setup, &mut |stores, board: &Board| {
-        if shown && last.elapsed() > Duration::from_millis(200) {
-            last = Instant::now();
-            said = true;
+        if shown && last.is_none_or(|last| last.elapsed() > Duration::from_millis(200)) {
+            last = Some(Instant::now());
             let places: Vec<String> = board.transports.iter().map(|drive| inches(drive.place())).collect();
             let (places, calls) = (places.join(", "), board.calls);
             eprint!("\r\x1b[K{whose}: {stores} stores, {calls} calls; the tapes stand at {places} inches");
         }
     });
-    if said {
+    if last.is_some() {
         // what became of it stands in its place
         eprint!("\r\x1b[K");
     }

@@ -97,6 +97,10 @@ impl Driver {
                 code::TAPE_GONE => return Err(Stop::Gone),
                 _ => continue,
             }
+            self.settled = true;
+            if !self.is_own(completions[completions.len() - 1].status) {
+                continue;
+            }
             self.passed = 0;
             self.placed = self.go_to(self.spot).await?;
             if !self.placed {
@@ -132,7 +136,7 @@ impl Driver {
                 if status.code() == code::TAPE_GONE {
                     return Err(Stop::Gone);
                 }
-                if !(status.is_forward() || status.is_reverse()) {
+                if !(status.is_forward() || status.is_reverse()) || !self.is_own(status) {
                     return Ok(false);
                 }
             }

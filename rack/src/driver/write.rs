@@ -1,7 +1,7 @@
 //! Writing: a record or a mark is written until its status is good, and nothing of a try that failed is left.
 
 use super::desk::Part;
-use super::{Driver, Stop, ILLEGAL_MOTION, POSITION_TRIES, SKIP_FORWARD};
+use super::{Driver, Stop, ILLEGAL_MOTION, NO_GO, POSITION_TRIES, SKIP_FORWARD};
 use crate::host::{Status, Wrong};
 use crate::transport::{code, report};
 use ctc_words::interface::Store;
@@ -11,9 +11,6 @@ const WRITE_TRIES: usize = 8;
 /// What a store that failed before is given: inches of erased tape.
 const ERASED_INCHES: u16 = 3;
 const WRITE_MARK: u8 = 0x24;
-/// The code of a write whose data the host did not send.
-const NO_GO: u8 = 0x05;
-
 /// An erase with this operand goes to the end of the tape; one of inches has at most this many less one.
 const TO_THE_END: u16 = 0x8000;
 
@@ -52,6 +49,7 @@ impl Driver {
                 None => (self.control(WRITE_MARK), Part::default()),
             };
             let Some(completion) = self.store(store, data).await? else {
+                self.not_astray("wrote on")?;
                 *begun = true;
                 failed += 1;
                 self.count(|ledger| &mut ledger.retries);
@@ -157,6 +155,7 @@ impl Driver {
         let [high, low] = operand.to_be_bytes();
         let store = Store { address: self.address(6), operand: [0, 0, high, low] };
         let Some(completion) = self.store(store, Part::default()).await? else {
+            self.not_astray("erased")?;
             return Ok(false);
         };
         let status = completion.status;
