@@ -51,6 +51,7 @@ const HEADERS: [&str; 3] = [
     "include/ctc_records.h",
     "include/ctc_contest.h",
 ];
+const MANUAL: &str = "docs/MANUAL.md";
 const SESSIONS: &str = "docs/SESSIONS.md";
 const JOBS: &str = "docs/JOBS.md";
 
@@ -187,6 +188,7 @@ fn table<'a>(text: &'a str, heading: &str) -> &'a str {
 
 /// What of the pages does not hold for a name.
 fn page_complaints(sources: &Sources, name: &Name, complaints: &mut Vec<String>) {
+    let manual = sources.text(MANUAL);
     let sessions = sources.text(SESSIONS);
     let jobs = sources.text(JOBS);
     let mut complain = |page: &str| {
@@ -203,50 +205,50 @@ fn page_complaints(sources: &Sources, name: &Name, complaints: &mut Vec<String>)
     match name.kind {
         Kind::Code => {
             if !has(
-                table(&sessions, "| Code | | Code |"),
+                table(&manual, "| Code | | Code |"),
                 format!("{:02X}", name.number),
             ) {
-                complain(SESSIONS);
+                complain(MANUAL);
             }
         }
         Kind::Refusal => {
             let number = name.number.to_string();
-            for (page, text) in [(SESSIONS, &sessions), (JOBS, &jobs)] {
-                let part = table(text, "| Refusal | |");
-                let told = rows(part).iter().any(|row| row.0 == number);
-                let must = match page {
-                    SESSIONS => matches!(name.number, 2..=5 | 7..=11),
-                    _ => matches!(name.number, 4 | 16 | 17),
-                };
-                if told != must || must && !has(part, number.clone()) {
-                    complain(page);
-                }
+            if !has(table(&manual, "| Refusal | |"), number.clone()) {
+                complain(MANUAL);
+            }
+            let shown = rows(table(&sessions, "| Refusal | Stored sessions |"));
+            if shown.iter().any(|row| row.0 == number) != matches!(name.number, 2..=5 | 7..=11) {
+                complain(SESSIONS);
+            }
+            let part = table(&jobs, "| Refusal | |");
+            let told = rows(part).iter().any(|row| row.0 == number);
+            let must = matches!(name.number, 4 | 16 | 17);
+            if told != must || must && !has(part, number) {
+                complain(JOBS);
             }
         }
         Kind::Report => {
-            let bits = rows(table(&sessions, "| Line | Call |"));
-            let row = bits
-                .iter()
-                .find(|row| row.0 == "report")
-                .map_or("", |row| &row.1);
-            if !format!(" {row},").contains(&format!(" {} {:02X},", name.words, name.number)) {
-                complain(SESSIONS);
+            if !has(
+                table(&manual, "| Bit | Report |"),
+                format!("{:02X}", name.number),
+            ) {
+                complain(MANUAL);
             }
         }
         Kind::Primary => {
-            let told = rows(table(&sessions, "| Bits | Field of primary |"))
+            let told = rows(table(&manual, "| Bits | Field of primary |"))
                 .iter()
                 .any(|row| {
                     row.0.rsplit('-').next() == Some(&name.number.to_string())
                         && row.1 == name.words
                 });
             if !told {
-                complain(SESSIONS);
+                complain(MANUAL);
             }
         }
         Kind::Gap => {
-            if !has(table(&sessions, "| Gap | |"), name.number.to_string()) {
-                complain(SESSIONS);
+            if !has(table(&manual, "| Gap | |"), name.number.to_string()) {
+                complain(MANUAL);
             }
         }
         Kind::Motion => {
@@ -394,9 +396,8 @@ fn a_changed_word_is_found() {
     for name in names().list() {
         let of_pages = matches!(
             name.kind,
-            Kind::Code | Kind::Report | Kind::Primary | Kind::Gap | Kind::Motion
-        ) || name.kind == Kind::Refusal
-            && matches!(name.number, 2..=5 | 7..=11 | 16 | 17);
+            Kind::Code | Kind::Refusal | Kind::Report | Kind::Primary | Kind::Gap | Kind::Motion
+        );
         if of_pages {
             let words: &'static str = Box::leak(format!("{} indeed", name.words).into_boxed_str());
             let changed = Name { words, ..*name };
@@ -417,24 +418,21 @@ fn a_changed_word_is_found() {
 fn a_moved_row_is_found() {
     let sources = Sources::new();
     for (page, row, moved) in [
+        (MANUAL, "| 09 | sync zone late |", "| 19 | sync zone late |"),
         (
-            SESSIONS,
-            "| 09 | sync zone late |",
-            "| 19 | sync zone late |",
-        ),
-        (
-            SESSIONS,
+            MANUAL,
             "| 5 | a report for a drive above 3 |",
             "| 6 | a report for a drive above 3 |",
         ),
-        (SESSIONS, "EOT warning 40", "EOT warning 20"),
+        (SESSIONS, "| 5 | `refusal-5` |", "| 6 | `refusal-5` |"),
+        (MANUAL, "| 40 | EOT warning |", "| 20 | EOT warning |"),
         (
-            SESSIONS,
+            MANUAL,
             "| 22 | count valid | secondary",
             "| 21 | count valid | secondary",
         ),
         (
-            SESSIONS,
+            MANUAL,
             "| 2 | unfinished write |",
             "| 1 | unfinished write |",
         ),
