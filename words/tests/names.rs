@@ -1,5 +1,6 @@
 //! Holds the table of names to all that has the same numbers and words: the C headers, the Rattle code, the definitions
-//! and the pages. Then moves each of them alone, in a copy, and sees that it is found.
+//! and the pages, but for docs/MANUAL.md, which tests/manual holds to it. Then moves each of them alone, in a copy, and
+//! sees that it is found.
 
 use ctc_words::names::{names, read, Kind, Name, TABLE};
 use std::cell::RefCell;
@@ -51,7 +52,6 @@ const HEADERS: [&str; 3] = [
     "include/ctc_records.h",
     "include/ctc_contest.h",
 ];
-const MANUAL: &str = "docs/MANUAL.md";
 const SESSIONS: &str = "docs/SESSIONS.md";
 const JOBS: &str = "docs/JOBS.md";
 
@@ -188,7 +188,6 @@ fn table<'a>(text: &'a str, heading: &str) -> &'a str {
 
 /// What of the pages does not hold for a name.
 fn page_complaints(sources: &Sources, name: &Name, complaints: &mut Vec<String>) {
-    let manual = sources.text(MANUAL);
     let sessions = sources.text(SESSIONS);
     let jobs = sources.text(JOBS);
     let mut complain = |page: &str| {
@@ -203,52 +202,13 @@ fn page_complaints(sources: &Sources, name: &Name, complaints: &mut Vec<String>)
             .any(|row| row.0 == number && row.1.starts_with(name.words))
     };
     match name.kind {
-        Kind::Code => {
-            if !has(
-                table(&manual, "| Code | | Code |"),
-                format!("{:02X}", name.number),
-            ) {
-                complain(MANUAL);
-            }
-        }
         Kind::Refusal => {
             let number = name.number.to_string();
-            if !has(table(&manual, "| Refusal | |"), number.clone()) {
-                complain(MANUAL);
-            }
-            let shown = rows(table(&sessions, "| Refusal | Stored sessions |"));
-            if shown.iter().any(|row| row.0 == number) != matches!(name.number, 2..=5 | 7..=11) {
-                complain(SESSIONS);
-            }
             let part = table(&jobs, "| Refusal | |");
             let told = rows(part).iter().any(|row| row.0 == number);
             let must = matches!(name.number, 4 | 16 | 17);
             if told != must || must && !has(part, number) {
                 complain(JOBS);
-            }
-        }
-        Kind::Report => {
-            if !has(
-                table(&manual, "| Bit | Report |"),
-                format!("{:02X}", name.number),
-            ) {
-                complain(MANUAL);
-            }
-        }
-        Kind::Primary => {
-            let told = rows(table(&manual, "| Bits | Field of primary |"))
-                .iter()
-                .any(|row| {
-                    row.0.rsplit('-').next() == Some(&name.number.to_string())
-                        && row.1 == name.words
-                });
-            if !told {
-                complain(MANUAL);
-            }
-        }
-        Kind::Gap => {
-            if !has(table(&manual, "| Gap | |"), name.number.to_string()) {
-                complain(MANUAL);
             }
         }
         Kind::Motion => {
@@ -394,10 +354,8 @@ fn a_changed_word_is_found() {
     let sources = Sources::new();
     let mut tried = 0;
     for name in names().list() {
-        let of_pages = matches!(
-            name.kind,
-            Kind::Code | Kind::Refusal | Kind::Report | Kind::Primary | Kind::Gap | Kind::Motion
-        );
+        let of_pages = name.kind == Kind::Motion
+            || name.kind == Kind::Refusal && matches!(name.number, 4 | 16 | 17);
         if of_pages {
             let words: &'static str = Box::leak(format!("{} indeed", name.words).into_boxed_str());
             let changed = Name { words, ..*name };
@@ -410,7 +368,7 @@ fn a_changed_word_is_found() {
             tried += 1;
         }
     }
-    assert!(tried > 60, "{tried} words were changed");
+    assert!(tried == 7, "{tried} words were changed");
 }
 
 /// Every row of the pages that has a name, with another number.
@@ -418,24 +376,7 @@ fn a_changed_word_is_found() {
 fn a_moved_row_is_found() {
     let sources = Sources::new();
     for (page, row, moved) in [
-        (MANUAL, "| 09 | sync zone late |", "| 19 | sync zone late |"),
-        (
-            MANUAL,
-            "| 5 | a report for a drive above 3 |",
-            "| 6 | a report for a drive above 3 |",
-        ),
-        (SESSIONS, "| 5 | `refusal-5` |", "| 6 | `refusal-5` |"),
-        (MANUAL, "| 40 | EOT warning |", "| 20 | EOT warning |"),
-        (
-            MANUAL,
-            "| 22 | count valid | secondary",
-            "| 21 | count valid | secondary",
-        ),
-        (
-            MANUAL,
-            "| 2 | unfinished write |",
-            "| 1 | unfinished write |",
-        ),
+        (SESSIONS, "16,898", "16,899"),
         (JOBS, "| 17 | the queue", "| 18 | the queue"),
         (JOBS, "1 forward, 2 reverse", "2 forward, 1 reverse"),
     ] {
