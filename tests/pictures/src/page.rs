@@ -1,0 +1,259 @@
+//! docs/ARCHITECTURE.md: its table of crates, its tables of where to find what, and every path, name and link in it.
+
+use crate::code::{self, Names};
+use crate::tree::Tree;
+use crate::{compared, groups_of, Faults};
+
+const PAGE: &str = "docs/ARCHITECTURE.md";
+const COLUMNS: usize = 120;
+/// The folder of a crate that a column is of, and how its files end.
+const FOLDERS: [(&str, &str, &str); 3] = [
+    ("Code", "src", ".rt"),
+    ("Definition", "specs", ".antt"),
+    ("Theorem", "proofs", ".antt"),
+];
+
+/// What stands between backquotes, each with the text before it.
+fn spans(text: &str) -> Vec<(String, String)> {
+    let parts: Vec<_> = text.split('`').collect();
+    let pairs = parts.chunks_exact(2);
+    pairs
+        .map(|pair| (pair[0].to_string(), pair[1].to_string()))
+        .collect()
+}
+
+/// The cells of a table's row.
+fn cells(line: &str) -> Vec<String> {
+    let row = line.trim_start_matches('|').trim_end_matches('|');
+    row.split('|').map(|cell| cell.trim().to_string()).collect()
+}
+
+/// The lines under a heading, up to the next of its level or a higher one.
+fn section(text: &str, heading: &str) -> Result<Vec<String>, String> {
+    let level = heading.split(' ').next().unwrap_or("").len();
+    let mut lines = text.lines().skip_while(|line| *line != heading);
+    lines.next().ok_or(format!("{PAGE}: no '{heading}'"))?;
+    let ends = |line: &&str| {
+        let marks = line.chars().take_while(|&c| c == '#').count();
+        marks == 0 || marks > level
+    };
+    Ok(lines.take_while(ends).map(str::to_string).collect())
+}
+
+fn is_file(span: &str) -> bool {
+    span.ends_with(".rt") || span.ends_with(".antt")
+}
+
+/// Whether the names are defined in a file of the repository.
+fn stand_in(tree: &Tree, path: &str, names: &[String], faults: &mut Faults) {
+    match tree.read(path) {
+        Err(_) => faults.push(format!("{PAGE}: no file {path}")),
+        Ok(text) => {
+            let defined = code::defined(path, &text);
+            let missing = names.iter().filter(|name| !defined.contains(*name));
+            faults.extend(missing.map(|name| format!("{PAGE}: {name} is not in {path}")));
+        }
+    }
+}
+
+/// The table of crates: each once, in its group, and what it knows nothing of is not below it.
+pub fn crates(tree: &Tree) -> Result<Faults, String> {
+    let (text, crates) = (tree.read(PAGE)?, code::crates(tree)?);
+    let (groups, mut faults, mut listed) = (groups_of(tree)?, vec![], Names::new());
+    for line in section(&text, "## The crates")? {
+        let cells = cells(&line);
+        let [group, name, _, unknown] = &cells[..] else {
+            continue;
+        };
+        let Some((_, name)) = spans(name).into_iter().next() else {
+            continue;
+        };
+        if groups.get(&name) != Some(group) {
+            faults.push(format!(
+                "{PAGE}: {name} is in {:?}, not {group}",
+                groups.get(&name)
+            ));
+        }
+        let spans = spans(unknown);
+        if spans.is_empty() {
+            faults.push(format!("{PAGE}: {name} knows nothing of what?"));
+        }
+        for (_, other) in spans {
+            let known = crates
+                .below
+                .get(&name)
+                .is_some_and(|below| below.contains(&other));
+            if known || !crates.direct.contains_key(&other) {
+                faults.push(format!("{PAGE}: {name} knows nothing of {other}"));
+            }
+        }
+        if !listed.insert(name.clone()) {
+            faults.push(format!("{PAGE}: {name} stands twice"));
+        }
+    }
+    faults.extend(compared(
+        "the table of crates",
+        &listed,
+        &crates.direct.keys().cloned().collect(),
+    ));
+    Ok(faults)
+}
+
+/// Where to find: every file is there, and every name is defined in its file. `link/Link.collectByte` is a crate, a
+/// file and a name; the crate is that of the heading where none stands, `.name` is in the file before it, and a name
+/// with hyphens alone is a theorem of Demands. Other columns hold paths.
+pub fn places(tree: &Tree) -> Result<Faults, String> {
+    let (mut faults, mut rows) = (vec![], 0);
+    let (mut heading, mut columns) = (String::new(), vec![]);
+    for line in section(&tree.read(PAGE)?, "## Where to find")? {
+        if line.starts_with("### ") {
+            heading = spans(&line)
+                .into_iter()
+                .next()
+                .map_or(String::new(), |(_, name)| name);
+        }
+        if !line.starts_with("| ") {
+            continue;
+        }
+        if line.starts_with("| Topic ") {
+            columns = cells(&line);
+            continue;
+        }
+        rows += 1;
+        let cells = cells(&line);
+        if cells.len() != columns.len() {
+            faults.push(format!("{PAGE}: '{line}' has {} cells", cells.len()));
+        }
+        for (column, cell) in columns.iter().zip(cells) {
+            let kind = FOLDERS.iter().find(|(name, ..)| name == column);
+            let mut before = String::new();
+            for (_, span) in spans(&cell) {
+                let Some((_, folder, ending)) = kind else {
+                    if !tree.exists(&span) {
+                        faults.push(format!("{PAGE}: no {span}"));
+                    }
+                    continue;
+                };
+                let (krate, rest) = span.split_once('/').unwrap_or((&heading, &span));
+                let (file, names) = match rest.split_once('.') {
+                    Some(("", name)) => (before.clone(), vec![name.to_string()]),
+                    Some((file, name)) => (file.to_string(), vec![name.to_string()]),
+                    None if rest.contains('-') => ("Demands".to_string(), vec![rest.to_string()]),
+                    None => (rest.to_string(), vec![]),
+                };
+                let path = match rest.starts_with('.') {
+                    true => before.clone(),
+                    false => format!("crates/{krate}/{folder}/{file}{ending}"),
+                };
+                stand_in(tree, &path, &names, &mut faults);
+                before = path;
+            }
+        }
+    }
+    if rows == 0 {
+        faults.push(format!("{PAGE}: no row of where to find"));
+    }
+    Ok(faults)
+}
+
+/// Whether a path is one from the root, from crates/ or from a crate, or the name of a file of a crate.
+fn is_there(tree: &Tree, path: &str) -> bool {
+    let path = path.trim_end_matches('/');
+    if ["", "crates/", "docs/"]
+        .iter()
+        .any(|folder| tree.exists(&format!("{folder}{path}")))
+    {
+        return true;
+    }
+    let within = ["", "src/", "specs/", "proofs/"];
+    let places = |name: &String| {
+        let crates = within
+            .iter()
+            .map(move |folder| format!("crates/{name}/{folder}{path}"));
+        crates.into_iter().any(|path| tree.exists(&path))
+    };
+    tree.names("crates").iter().any(places)
+}
+
+/// The anchor of a heading.
+fn anchor(heading: &str) -> String {
+    let kept = |c: &char| c.is_alphanumeric() || matches!(c, ' ' | '-' | '_');
+    let plain: String = heading.to_lowercase().chars().filter(kept).collect();
+    plain.replace(' ', "-")
+}
+
+/// Every path and link of the page leads somewhere, names "in" a file are defined there, and no line is too long.
+pub fn paths(tree: &Tree) -> Result<Faults, String> {
+    let (text, mut faults) = (tree.read(PAGE)?, vec![]);
+    let long = text
+        .lines()
+        .enumerate()
+        .filter(|(_, line)| line.chars().count() > COLUMNS);
+    faults.extend(long.map(|(at, _)| format!("{PAGE}: line {} is too long", at + 1)));
+
+    let find = section(&text, "## Where to find")?.join("\n");
+    let rest = text.replace(&find, "");
+    for paragraph in rest.split("\n\n") {
+        let mut names = vec![];
+        for (before, span) in spans(&paragraph.replace('\n', " ")) {
+            let before = before.as_str();
+            if is_file(&span) && span.contains('/') && before == " in " {
+                stand_in(tree, &span, &names, &mut faults);
+                names.clear();
+                continue;
+            }
+            if !matches!(before, ", " | " and ") {
+                names.clear();
+            }
+            let is_path = is_file(&span) || (span.contains('/') && !span.contains(' '));
+            if is_path && !is_there(tree, &span) {
+                faults.push(format!("{PAGE}: no {span}"));
+            }
+            names.push(span);
+        }
+    }
+    for behind in text.split("](").skip(1) {
+        let link = behind.split(')').next().unwrap_or("");
+        let (file, place) = link.split_once('#').unwrap_or((link, ""));
+        let path = match file {
+            "" => PAGE.to_string(),
+            _ => format!("docs/{file}"),
+        };
+        if !tree.exists(&path) {
+            faults.push(format!("{PAGE}: no {path}"));
+        } else if !place.is_empty() {
+            let page = tree.read(&path)?;
+            let mut headings = page.lines().filter(|line| line.starts_with('#'));
+            if !headings.any(|line| anchor(line.trim_start_matches('#').trim()) == place) {
+                faults.push(format!("{PAGE}: no heading #{place} in {path}"));
+            }
+        }
+    }
+    Ok(faults)
+}
+
+/// Other pages' links to headings of this one.
+pub fn links(tree: &Tree) -> Result<Faults, String> {
+    let (page, mut faults) = (tree.read(PAGE)?, vec![]);
+    let headings: Names = page
+        .lines()
+        .filter(|line| line.starts_with('#'))
+        .map(|line| anchor(line.trim_start_matches('#').trim()))
+        .collect();
+    let pages = tree
+        .names("docs")
+        .into_iter()
+        .map(|name| format!("docs/{name}"));
+    for path in pages
+        .chain(["README.md".to_string()])
+        .filter(|path| path.ends_with(".md"))
+    {
+        for behind in tree.read(&path)?.split("ARCHITECTURE.md#").skip(1) {
+            let place = behind.split(')').next().unwrap_or("");
+            if !headings.contains(place) {
+                faults.push(format!("{path}: no heading #{place} in {PAGE}"));
+            }
+        }
+    }
+    Ok(faults)
+}
