@@ -68,6 +68,18 @@ fn definition(text: &str, name: &str) -> Result<Vec<String>, String> {
     Ok([first].into_iter().chain(rest).collect())
 }
 
+/// The numbers before the conditions of a definition, in order.
+pub fn numbered(text: &str, name: &str) -> Result<Vec<String>, String> {
+    let lines = definition(text, name)?.join("\n");
+    let tried = lines.split('(').filter_map(|part| part.split_once(','));
+    let is_number = |word: &&str| word.parse::<u32>().is_ok();
+    Ok(tried
+        .map(|(word, _)| word)
+        .filter(is_number)
+        .map(str::to_string)
+        .collect())
+}
+
 /// The phases in which a call is carried out, where it goes by them.
 pub fn carried_in(tree: &Tree, call: &str) -> Result<Option<Names>, String> {
     let machine = tree.read("crates/controller/specs/Machine.antt")?;

@@ -99,6 +99,37 @@ pub fn crates(tree: &Tree) -> Result<Faults, String> {
     Ok(faults)
 }
 
+/// The ways outside the controller: their refusals, in the order of the definition that says which is given.
+pub fn ways(tree: &Tree) -> Result<Faults, String> {
+    let (text, mut faults, mut rows) = (tree.read(PAGE)?, vec![], 0);
+    let section = section(&text, "## Phases, and a store's life")?;
+    for line in section
+        .iter()
+        .filter(|line| line.starts_with("| ") && !line.starts_with("| Way "))
+    {
+        let cells = cells(line);
+        let [way, _, listed] = &cells[..] else {
+            return Err(format!("{PAGE}: '{line}'"));
+        };
+        let krate = if way == "view" { "views" } else { "records" };
+        let claims = tree.read(&format!("crates/{krate}/specs/Refused.antt"))?;
+        let name = format!("{}{}Refused", way[..1].to_uppercase(), &way[1..]);
+        let mut order: Vec<String> = code::numbered(&claims, &name)?;
+        order.dedup();
+        if order.join(" ") != *listed {
+            faults.push(format!(
+                "{PAGE}: {way} refuses with {listed}, not {}",
+                order.join(" ")
+            ));
+        }
+        rows += 1;
+    }
+    if rows == 0 {
+        faults.push(format!("{PAGE}: no ways"));
+    }
+    Ok(faults)
+}
+
 /// Where to find: every file is there, and every name is defined in its file. `link/Link.collectByte` is a crate, a
 /// file and a name; the crate is that of the heading where none stands, `.name` is in the file before it, and a name
 /// with hyphens alone is a theorem of Demands. Other columns hold paths.

@@ -35,6 +35,11 @@ fn table_of_crates() {
 }
 
 #[test]
+fn ways_outside_the_controller() {
+    right(page::ways);
+}
+
+#[test]
 fn where_to_find() {
     right(page::places);
 }

@@ -313,6 +313,20 @@ fn pages_that_are_wrong() {
         "views knows nothing of net",
     );
 
+    told(
+        page::ways,
+        PAGE,
+        ["| 9 10 13 14 11 |", "| 9 10 11 13 14 |"],
+        "merge refuses with 9 10 11 13 14",
+    );
+    let view = ["((18, width < 1)", "((20, width < 1)"];
+    told(
+        page::ways,
+        "crates/views/specs/Refused.antt",
+        view,
+        "view refuses with 18 19 11, not 20 18",
+    );
+
     let places = page::places;
     told(
         places,
