@@ -99,6 +99,34 @@ pub fn crates(tree: &Tree) -> Result<Faults, String> {
     Ok(faults)
 }
 
+/// The examples of the rule of names: a function of the code, and the definitions that it promises.
+pub fn names(tree: &Tree) -> Result<Faults, String> {
+    let (text, places) = (tree.read(PAGE)?, code::definitions(tree)?);
+    let (mut functions, mut faults, mut rows) = (Names::new(), vec![], 0);
+    for krate in tree.names("crates") {
+        for file in tree.names(&format!("crates/{krate}/src")) {
+            let path = format!("crates/{krate}/src/{file}");
+            functions.extend(code::defined(&path, &tree.read(&path)?));
+        }
+    }
+    for line in section(&text, "## A crate")? {
+        let cells = cells(&line);
+        let [_, _, example] = &cells[..] else {
+            continue;
+        };
+        for (at, (_, name)) in spans(example).into_iter().enumerate() {
+            rows += 1;
+            if !(at == 0 && functions.contains(&name) || at > 0 && places.contains_key(&name)) {
+                faults.push(format!("{PAGE}: {name} is no example of the rule of names"));
+            }
+        }
+    }
+    if rows == 0 {
+        faults.push(format!("{PAGE}: no example of the rule of names"));
+    }
+    Ok(faults)
+}
+
 /// The ways outside the controller: their refusals, in the order of the definition that says which is given.
 pub fn ways(tree: &Tree) -> Result<Faults, String> {
     let (text, mut faults, mut rows) = (tree.read(PAGE)?, vec![], 0);
@@ -166,18 +194,16 @@ pub fn places(tree: &Tree) -> Result<Faults, String> {
                     continue;
                 };
                 let (krate, rest) = span.split_once('/').unwrap_or((&heading, &span));
-                let (file, names) = match rest.split_once('.') {
-                    Some(("", name)) => (before.clone(), vec![name.to_string()]),
-                    Some((file, name)) => (file.to_string(), vec![name.to_string()]),
-                    None if rest.contains('-') => ("Demands".to_string(), vec![rest.to_string()]),
-                    None => (rest.to_string(), vec![]),
+                let (file, name) = match rest.split_once('.') {
+                    Some((file, name)) => (file, Some(name)),
+                    None if rest.contains('-') => ("Demands", Some(rest)),
+                    None => (rest, None),
                 };
-                let path = match rest.starts_with('.') {
-                    true => before.clone(),
-                    false => format!("crates/{krate}/{folder}/{file}{ending}"),
-                };
-                stand_in(tree, &path, &names, &mut faults);
-                before = path;
+                if !file.is_empty() {
+                    before = format!("crates/{krate}/{folder}/{file}{ending}");
+                }
+                let names: Vec<_> = name.map(str::to_string).into_iter().collect();
+                stand_in(tree, &before, &names, &mut faults);
             }
         }
     }

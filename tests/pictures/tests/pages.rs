@@ -35,6 +35,11 @@ fn table_of_crates() {
 }
 
 #[test]
+fn rule_of_names() {
+    right(page::names);
+}
+
+#[test]
 fn ways_outside_the_controller() {
     right(page::ways);
 }

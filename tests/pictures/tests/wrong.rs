@@ -327,6 +327,13 @@ fn pages_that_are_wrong() {
         "view refuses with 18 19 11, not 20 18",
     );
 
+    told(
+        page::names,
+        PAGE,
+        ["`hand`: `handCall`", "`hand`: `handsCall`"],
+        "handsCall is no example",
+    );
+
     let places = page::places;
     told(
         places,
