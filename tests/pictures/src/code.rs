@@ -35,23 +35,26 @@ pub fn phases(tree: &Tree) -> Result<Vec<String>, String> {
     cases(tree, "crates/link/src/state.rt", "Phase")
 }
 
-/// The calls: the public methods of the controller and of the dispatcher.
-pub fn calls(tree: &Tree) -> Result<Names, String> {
-    let mut calls = Names::new();
-    for (krate, name) in [("controller", "Controller"), ("dispatcher", "Dispatcher")] {
-        let folder = format!("crates/{krate}/src");
-        for file in tree.names(&folder) {
-            let text = tree.read(&format!("{folder}/{file}"))?;
-            let Ok(lines) = block(&text, &format!("impl {name} {{")) else {
-                continue;
-            };
-            let methods = lines
-                .iter()
-                .filter_map(|line| line.strip_prefix("    pub fn "));
-            calls.extend(methods.map(word));
-        }
+/// The public methods of a struct of a crate.
+pub fn methods(tree: &Tree, krate: &str, name: &str) -> Result<Names, String> {
+    let (folder, mut found) = (format!("crates/{krate}/src"), Names::new());
+    for file in tree.names(&folder) {
+        let text = tree.read(&format!("{folder}/{file}"))?;
+        let Ok(lines) = block(&text, &format!("impl {name} {{")) else {
+            continue;
+        };
+        let heads = lines
+            .iter()
+            .filter_map(|line| line.strip_prefix("    pub fn "));
+        found.extend(heads.map(word));
     }
-    Ok(calls)
+    Ok(found)
+}
+
+/// The calls: the controller's and the dispatcher's.
+pub fn calls(tree: &Tree) -> Result<Names, String> {
+    let controller = methods(tree, "controller", "Controller")?;
+    Ok(&controller | &methods(tree, "dispatcher", "Dispatcher")?)
 }
 
 /// A definition's lines, with that of its type.

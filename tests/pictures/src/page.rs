@@ -127,6 +127,53 @@ pub fn names(tree: &Tree) -> Result<Faults, String> {
     Ok(faults)
 }
 
+/// How many: calls, functions for C, phases, answers of the table and bytes of a state, wherever they are said.
+pub fn counts(tree: &Tree) -> Result<Faults, String> {
+    const WORDS: [&str; 13] = [
+        "no", "one", "two", "three", "four", "five", "six", "seven", "eight", "nine", "ten",
+        "eleven", "twelve",
+    ];
+    let word = |count: usize| WORDS.get(count).copied().unwrap_or("more");
+    let calls = code::methods(tree, "controller", "Controller")?.len();
+    let passed = code::calls(tree)?.len() - 2;
+    let interface = tree.read("crates/firmware/src/interface.rt")?;
+    let functions = interface.matches("extern \"C\" fn ").count();
+    let phases = code::phases(tree)?.len();
+    let answers = 32 * code::cases(tree, "crates/operations/src/operation.rt", "Operation")?.len();
+    let places = tree.read("crates/layout/src/places.rt")?;
+    let length = places
+        .split("STATE_LENGTH: usize = ")
+        .nth(1)
+        .ok_or("no STATE_LENGTH")?;
+    let length: String = length.chars().take_while(char::is_ascii_digit).collect();
+    let said = [
+        (PAGE, format!("the {} calls", word(calls))),
+        (PAGE, format!("{} calls passed on", word(passed))),
+        (PAGE, format!("{} functions: a call", word(functions))),
+        (PAGE, format!("The {} phases", word(phases))),
+        (PAGE, format!("the {answers} answers")),
+        (
+            "docs/pictures/phases.svg",
+            format!("The {} phases", word(phases)),
+        ),
+        (
+            "docs/pictures/groups.svg",
+            format!("{} calls and their refusals", word(calls)),
+        ),
+        (
+            "docs/pictures/groups.svg",
+            format!("the state as {length} bytes"),
+        ),
+    ];
+    let mut faults = vec![];
+    for (path, phrase) in said {
+        if !tree.read(path)?.contains(&phrase) {
+            faults.push(format!("{path}: does not say '{phrase}'"));
+        }
+    }
+    Ok(faults)
+}
+
 /// The ways outside the controller: their refusals, in the order of the definition that says which is given.
 pub fn ways(tree: &Tree) -> Result<Faults, String> {
     let (text, mut faults, mut rows) = (tree.read(PAGE)?, vec![], 0);

@@ -40,6 +40,11 @@ fn rule_of_names() {
 }
 
 #[test]
+fn how_many() {
+    right(page::counts);
+}
+
+#[test]
 fn ways_outside_the_controller() {
     right(page::ways);
 }

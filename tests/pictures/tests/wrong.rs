@@ -334,6 +334,15 @@ fn pages_that_are_wrong() {
         "handsCall is no example",
     );
 
+    let more = [
+        "pub extern \"C\" fn ctc_hand(",
+        "pub extern \"C\" fn ctc_stop(\npub extern \"C\" fn ctc_hand(",
+    ];
+    let functions = "crates/firmware/src/interface.rt";
+    told(page::counts, functions, more, "twelve functions");
+    let bytes = ["the state as 224 bytes", "the state as 220 bytes"];
+    told(page::counts, GROUPS, bytes, "the state as 224 bytes");
+
     let places = page::places;
     told(
         places,
