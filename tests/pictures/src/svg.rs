@@ -16,6 +16,9 @@ impl Piece {
 /// The pieces of a group, a line's end after each text.
 pub type Text = Vec<Piece>;
 
+/// From the left, and from the top.
+type Point = (f64, f64);
+
 /// A rectangle with what stands in its group.
 pub struct Shape {
     pub class: String,
@@ -37,7 +40,7 @@ impl Shape {
     }
 
     /// Whether a point is on the border, as an arrow's end is: a unit beside it at most.
-    fn touches(&self, (x, y): (f64, f64)) -> bool {
+    fn touches(&self, (x, y): Point) -> bool {
         let within =
             |least: f64, value: f64, most: f64| least - 1.5 <= value && value <= most + 1.5;
         let near = |one: f64, other: f64| (one - other).abs() <= 1.5;
@@ -88,7 +91,7 @@ fn number(tag: &str, name: &str) -> Result<f64, String> {
 }
 
 /// The first and the last point of a path of M, H and V alone.
-fn ends(path: &str) -> Result<((f64, f64), (f64, f64)), String> {
+fn ends(path: &str) -> Result<(Point, Point), String> {
     let wrong = || format!("a way is {path}, and not of M, H and V");
     let (mut at, mut first) = ((0.0, 0.0), None);
     let mut words = path.split_whitespace();
@@ -184,7 +187,7 @@ impl Picture {
                     if picture
                         .others
                         .last()
-                        .map_or(true, |(class, _)| !class.is_empty())
+                        .is_none_or(|(class, _)| !class.is_empty())
                     {
                         picture.others.push((String::new(), vec![]));
                     }
