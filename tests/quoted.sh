@@ -38,8 +38,8 @@ alike() {
     no "they differ from character $(differs_at "${stored[n]-}" "${got[n]-}") on"
 }
 
-# A page quotes exchanges in blocks that begin with '```WORD NAME'. Line and answer take turns there, parted by blanks or
-# line ends; '0{n}' stands for n digits 0. All blocks of a name together are its lines and answers, without comments.
+# A page quotes exchanges in blocks that begin with '```WORD NAME'. Line and answer take turns there, parted by blanks
+# or line ends; '0{n}' stands for n digits 0. All blocks of a name together are its lines and answers, without comments.
 quoted() { # PAGE WORD; writes quoted/NAME
     rm -rf quoted
     mkdir -p quoted
