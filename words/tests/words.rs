@@ -17,21 +17,27 @@ fn root() -> PathBuf {
     Path::new(env!("CARGO_MANIFEST_DIR")).join("..")
 }
 
+/// The sessions in a folder and those below it.
+fn sessions_in(folder: &Path, program: Program, found: &mut Vec<(PathBuf, Program)>) {
+    for entry in fs::read_dir(folder).expect("a folder of sessions") {
+        let path = entry.expect("an entry").path();
+        if path.is_dir() {
+            sessions_in(&path, program, found);
+        } else if path.extension().is_some_and(|end| end == "session") {
+            found.push((path, program));
+        }
+    }
+}
+
 /// The stored sessions, with the program that plays them.
 fn stored() -> Vec<(PathBuf, Program)> {
     let mut found = Vec::new();
     for (folder, program) in [
-        ("sessions", Program::Session),
+        ("sessions/session", Program::Session),
         ("sessions/jobs", Program::Jobs),
         ("sessions/words", Program::Jobs),
     ] {
-        let entries = fs::read_dir(root().join(folder)).expect("a folder of sessions");
-        for entry in entries {
-            let path = entry.expect("an entry").path();
-            if path.extension().is_some_and(|end| end == "session") {
-                found.push((path, program));
-            }
-        }
+        sessions_in(&root().join(folder), program, &mut found);
     }
     assert!(found.len() > 200, "{} stored sessions", found.len());
     found
