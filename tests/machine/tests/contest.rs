@@ -62,8 +62,8 @@ fn outcomes(position: Position, store: Store) -> Vec<Position> {
     }
 }
 
-/// A yes with its first store leads to a yes, whatever the tape does, until all is written; after a no the tape can hold
-/// against any store of the driver's. So the answers are right, however they were found.
+/// A yes with its first store leads to a yes, whatever the tape does, until all is written; after a no the tape can
+/// hold against any store of the driver's. So the answers are right, however they were found.
 #[test]
 fn the_answers_played_out() {
     let mut search = Search::new(None);
@@ -243,7 +243,8 @@ fn each_wrong_rule_is_found() {
     assert_eq!(left, []);
 }
 
-/// A rule of the contest, of its answer or of its limits needs no random question: the whole range, and the limits, tell it.
+/// A rule of the contest, of its answer or of its limits needs no random question: the whole range, and the limits,
+/// tell it.
 #[test]
 fn each_wrong_rule_of_the_contest_is_found_in_the_whole_range() {
     let text = [contest::questions(1, 0), contest::questions(2, 0)].concat();

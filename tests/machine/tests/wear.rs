@@ -40,8 +40,8 @@ fn three_bytes_for_each_full_stretch() {
     assert_eq!(view.first, Some(1));
 }
 
-/// Every run of up to five codes out of four, with widths 1 to 6, by another way of counting: each record is added to the
-/// stretches that it is in.
+/// Every run of up to five codes out of four, with widths 1 to 6, by another way of counting: each record is added to
+/// the stretches that it is in.
 #[test]
 fn every_short_run() {
     const CODES: [u8; 4] = [0, 0x15, 0x16, 0x20];

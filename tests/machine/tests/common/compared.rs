@@ -1,4 +1,5 @@
-//! What is asked of every kind of line: its stored texts are answered as stored, and the comparison finds each wrong program.
+//! What is asked of every kind of line: its stored texts are answered as stored, and the comparison finds each wrong
+//! program.
 
 use std::collections::BTreeSet;
 use std::fmt::Debug;
