@@ -1,5 +1,6 @@
 # shellcheck shell=bash disable=SC2154 # root and name are the command's
-# What the commands of this repository share. A command sets root, the top folder, and name, what it is called, and sources this.
+# What the commands of this repository share. A command sets root, the top folder, and name, what it is called, and
+# sources this.
 
 # Answers --help with the comment at the head of the command's file, and --version; after either nothing else is done.
 answer_help() { # WORDS...

@@ -222,7 +222,8 @@ fn single(load: Option<&str>, word: &str) -> Done {
     match told_word(load, word) {
         Some(told) => write(format!("{told}\n").as_bytes()),
         None => Err(Failure::usage(format!(
-            "'{} {word}' is no status word: primary, secondary, tertiary, reports or quintary, and 8 hexadecimal digits",
+            "'{} {word}' is no status word: primary, secondary, tertiary, reports or quintary, and 8 \
+             hexadecimal digits",
             load.unwrap_or("")
         ))),
     }

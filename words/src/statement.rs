@@ -260,9 +260,9 @@ fn shortened(text: &str) -> String {
 }
 
 /// What may begin a statement, for a message and for help.
-pub const BEGINNINGS: &str = "read, check bytes, read supplied, write, erase, rewind, fast forward, skip, search, write mark, \
-track, density, set, clear, reset, load, report, result, data, accept, refuse, tick, queue, hand, taken, broken, byte, \
-store, line or refused";
+pub const BEGINNINGS: &str = "read, check bytes, read supplied, write, erase, rewind, fast forward, skip, search, \
+write mark, track, density, set, clear, reset, load, report, result, data, accept, refuse, tick, queue, hand, taken, \
+broken, byte, store, line or refused";
 
 /// Reads a line of words, given without its #0A.
 pub fn read(line: &[u8]) -> Result<Said, Wrong> {
@@ -373,7 +373,9 @@ fn statement(words: &mut Words, source_column: &mut usize) -> Result<Statement, 
             }
             match words.name(Kind::Load) {
                 Some(name) => Ok(Statement::Load((name.number as u8) << 4)),
-                None => words.wrong("a load is identity, primary, secondary, tertiary, reports, quintary or address HH"),
+                None => words.wrong(
+                    "a load is identity, primary, secondary, tertiary, reports, quintary or address HH",
+                ),
             }
         }
         "byte" => {

@@ -428,6 +428,15 @@ fn a_line_that_is_none_is_told() {
             "names.txt:1: a line has six fields",
         ),
         ("colour|00|red|-|-|-\n", "names.txt:1: no such kind"),
+        ("    |red|-|-|-\n", "names.txt:1: a line has six fields"),
+        (
+            "code|00|no error|-|-\n    -\n",
+            "names.txt:1: a line goes on from a | on",
+        ),
+        (
+            "code|00|no error|-|-\n    |-|-\n",
+            "names.txt:1: a line has six fields",
+        ),
         ("# head\ncode|0G|no error|-|-|-\n", "names.txt:2: no number"),
         (
             "code|00|a|-|-|-\ncode|00|b|-|-|-\n",
@@ -437,4 +446,7 @@ fn a_line_that_is_none_is_told() {
         assert_eq!(read(table).err().as_deref(), Some(said));
     }
     assert!(read(TABLE).is_ok());
+    let whole = read("code|00|no error|-|a|b\n").expect("a table");
+    let broken = read("code|00|no error|-|a\n    |b\n").expect("a table");
+    assert_eq!(whole.list(), broken.list());
 }

@@ -17,21 +17,27 @@ fn root() -> PathBuf {
     Path::new(env!("CARGO_MANIFEST_DIR")).join("..")
 }
 
+/// The sessions in a folder and those below it.
+fn sessions_in(folder: &Path, program: Program, found: &mut Vec<(PathBuf, Program)>) {
+    for entry in fs::read_dir(folder).expect("a folder of sessions") {
+        let path = entry.expect("an entry").path();
+        if path.is_dir() {
+            sessions_in(&path, program, found);
+        } else if path.extension().is_some_and(|end| end == "session") {
+            found.push((path, program));
+        }
+    }
+}
+
 /// The stored sessions, with the program that plays them.
 fn stored() -> Vec<(PathBuf, Program)> {
     let mut found = Vec::new();
     for (folder, program) in [
-        ("sessions", Program::Session),
+        ("sessions/session", Program::Session),
         ("sessions/jobs", Program::Jobs),
         ("sessions/words", Program::Jobs),
     ] {
-        let entries = fs::read_dir(root().join(folder)).expect("a folder of sessions");
-        for entry in entries {
-            let path = entry.expect("an entry").path();
-            if path.extension().is_some_and(|end| end == "session") {
-                found.push((path, program));
-            }
-        }
+        sessions_in(&root().join(folder), program, &mut found);
     }
     assert!(found.len() > 200, "{} stored sessions", found.len());
     found
@@ -247,7 +253,8 @@ fn every_operation_comes_back() {
                 for interrupt in ["", " interrupt"] {
                     let store = format!("{name}{drive}{interrupt}{count}");
                     let bench = format!(
-                        "report drive 0 installed selectable\nreport drive 3 installed selectable\ndensity {density} drive 3\n"
+                        "report drive 0 installed selectable\nreport drive 3 installed selectable\n\
+                         density {density} drive 3\n"
                     );
                     comes_back(&format!("{bench}{store}\n"));
                     // what follows is told too: the calls that are due, whichever they are
@@ -277,15 +284,18 @@ fn courses_come_back() {
     let bench = "report drive 1 installed selectable\ndensity GCR drive 1\n";
     for course in [
         "read drive 1 interrupt\nresult good record bytes 48454C4C4F\naccept\n",
-        "read drive 1 interrupt\nresult good record bytes 48\naccept one\nreport drive 0 nothing\naccept one\nrefuse\naccept\n",
+        "read drive 1 interrupt\nresult good record bytes 48\naccept one\nreport drive 0 nothing\n\
+         accept one\nrefuse\naccept\n",
         "read drive 1\nresult good record bytes 48454C4C4F spoiled 0 check 1 mark 9\naccept\n",
         "read drive 1\nresult good record bytes 48454C4C4F marked 0 mark 4 check 0\naccept\nload primary\naccept\n",
         "read drive 1\nresult good record bytes 48454C4C4F space 3\nrefuse\n",
         "read drive 1\nresult good mark\naccept\n",
         "read drive 1\nresult code 0C late both\naccept\n",
         "read drive 1\nresult good record bytes\naccept\n",
-        "read drive 1\nrefused result code 0B\nrefused result good late 7\nrefused result good image bytes 800200 marks bytes 0F0F\n",
-        "read drive 1\nrefused result good record bytes 48454C4C4F marked 0 mark 12\nrefused data bytes 48\nrefused tick\n",
+        "read drive 1\nrefused result code 0B\nrefused result good late 7\n\
+         refused result good image bytes 800200 marks bytes 0F0F\n",
+        "read drive 1\nrefused result good record bytes 48454C4C4F marked 0 mark 12\n\
+         refused data bytes 48\nrefused tick\n",
         "read supplied drive 1 count 5\nresult good record bytes 0102030405\naccept\n",
         "refused result good\nrefused data bytes\nrefused taken\n",
         "skip reverse drive 1 interrupt\nresult good late write count 600\naccept\n",
@@ -314,7 +324,8 @@ fn short_words_make_the_same() {
     for (short, whole) in [
         (
             "report drive 1 installed, selectable, BOT\nwrite drive 1 from text \"HELLO\"\nresult good\nload primary\n",
-            "report drive 1 installed selectable BOT\nwrite drive 1 count 5\naccept\ndata bytes 48454C4C4F\nresult good\naccept\nload primary\n",
+            "report drive 1 installed selectable BOT\nwrite drive 1 count 5\naccept\n\
+             data bytes 48454C4C4F\nresult good\naccept\nload primary\n",
         ),
         ("load primary\nload secondary\ntick\n", "load primary\naccept\nload secondary\naccept\ntick\n"),
         (
@@ -581,7 +592,11 @@ fn status_words_come_back() {
         assert_eq!(word_of(3, &words(3, tertiary)), Some(tertiary));
         assert_eq!(word_of(5, &words(5, error(word))), Some(error(word)));
     }
-    assert_eq!(words(1, 0x8120_0222), "changed; drive 1, track 0; code 00 no error; moved forward; count valid, MFM; installed, selectable");
+    assert_eq!(
+        words(1, 0x8120_0222),
+        "changed; drive 1, track 0; code 00 no error; moved forward; count valid, MFM; installed, \
+         selectable"
+    );
     assert_eq!(
         words(3, 0x9101_3200),
         "odd: data blockette 1, mark 9; even: check blockette 0, mark 3"
@@ -614,8 +629,8 @@ fn lines_are_told() {
         "store: read, drive 1, asks an interrupt -> ACK offered",
         "ACK taken -> order: read drive 1, track 0, MFM",
         "tick refused, 4: a tick or a hand when not idle; now: the result of read is awaited",
-        "byte refused, 2: byte, taken or broken while data or a result is awaited, or taken with no ACK offered; now: the \
-         result of read is awaited",
+        "byte refused, 2: byte, taken or broken while data or a result is awaited, or taken with no ACK offered; \
+         now: the result of read is awaited",
         "job 0 queues: read, drive 1",
     ];
     assert_eq!(words_of(text, Program::Jobs), wanted);
