@@ -1,15 +1,23 @@
 //! The board: calls the controller for what happened, carries out the action that the answer names, and hands motion
 //! orders to the transports. What the host sees of it is the trait `Link`.
 
-use crate::cartridge::image_count;
+use crate::cartridge::{image_count, Image};
 use crate::transport::{operation, report, Order, Transport};
 use ctc_words::interface::{Action, Answer, Answered, Controller, Outcome, Phase, Refusal, Store, NO_PLACE};
+
+use std::cell::Cell;
 
 pub const DRIVES: usize = 4;
 /// The longest image. A host that lends this much has space for whatever is read.
 pub const IMAGE_MOST: usize = 66_050;
 /// A call of a damaged state.
 const DAMAGED: Refusal = Refusal(1);
+
+thread_local! {
+    /// The space of a board that has come to its end, for the next one. Nothing in a space outlives the call that it is
+    /// lent to.
+    static SPARE: Cell<Vec<u8>> = const { Cell::new(Vec::new()) };
+}
 
 /// What the host hears.
 #[derive(Clone, Copy, Debug, PartialEq, Eq)]
@@ -60,7 +68,7 @@ pub enum Call {
     Broken,
     Report { drive: u8, report: u8 },
     Data { host: Vec<u8>, place: u64 },
-    Result { code: u8, mark: bool, late: u8, image: Vec<u8>, marks: Vec<u8>, space: usize },
+    Result { code: u8, mark: bool, late: u8, image: Image, marks: Vec<u8>, space: usize },
     Tick,
     Queue { job: u8, store: Store },
     Hand,
@@ -105,17 +113,21 @@ pub enum Wrong {
     SilentRestart,
     /// The controller is told that the host has space, where it has not.
     SpaceUntold,
+    /// The controller is reset before its Nth store is handed over, as by a string that was changed on its way and
+    /// still checks; the host is not told.
+    ResetBefore(usize),
 }
 
 pub struct Board {
     controller: Controller,
     pub transports: [Transport; DRIVES],
-    /// Lent to data calls and results.
+    /// Lent to data calls and results; empty until the first of them.
     space: Vec<u8>,
     /// How much of it the host has for what is read.
     lent: usize,
     delivered: Vec<u8>,
     orders: [usize; DRIVES],
+    handings: usize,
     pub damages: Vec<Damage>,
     /// Damages that came, and those that nobody could tell.
     pub damaged: Vec<(Damage, bool)>,
@@ -136,13 +148,14 @@ pub struct Board {
 
 impl Board {
     pub fn new(transports: [Transport; DRIVES]) -> Board {
-        let mut board = Board {
+        Board {
             controller: Controller::fresh(),
             transports,
-            space: vec![0; IMAGE_MOST],
+            space: Vec::new(),
             lent: IMAGE_MOST,
             delivered: Vec::new(),
             orders: [0; DRIVES],
+            handings: 0,
             damages: Vec::new(),
             damaged: Vec::new(),
             restarts: 0,
@@ -154,9 +167,21 @@ impl Board {
             orders_given: Default::default(),
             bytes_delivered: Default::default(),
             wrong: None,
-        };
-        board.space.shrink_to_fit();
-        board
+        }
+    }
+
+    fn has_space(&mut self) {
+        if self.space.is_empty() {
+            self.space = SPARE.take();
+            self.space.resize(IMAGE_MOST, 0);
+        }
+    }
+
+    /// The board has come to its end: another one may have its space.
+    pub fn rest(&mut self) {
+        if !self.space.is_empty() {
+            SPARE.set(std::mem::take(&mut self.space));
+        }
     }
 
     /// The drives report: at the start, and after a restart.
@@ -287,6 +312,7 @@ impl Board {
         let crate::transport::Answer { code, mark, late, image, marks, .. } = answer;
         let outcome = Outcome { code, mark, late, image: &image, marks: &marks };
         let space = if self.wrong == Some(Wrong::SpaceUntold) { IMAGE_MOST } else { self.lent };
+        self.has_space();
         let answered = self.controller.result(&outcome, &mut self.space[..space]);
         if let (Some(drive), true) = (drive, image_count(&image).is_some_and(|count| space < count)) {
             self.transports[drive].cut_short();
@@ -337,6 +363,7 @@ impl Link for Board {
     fn data(&mut self, bytes: &[u8], bad: Option<usize>) -> Hearing {
         let bad = if self.wrong == Some(Wrong::ParityUntold) { None } else { bad };
         let place = bad.map_or(NO_PLACE, |place| place as u64);
+        self.has_space();
         let answered = self.controller.data(bytes, place, &mut self.space);
         let answer = self.made(|| Call::Data { host: bytes.to_vec(), place }, answered)?;
         self.act(answer)
@@ -349,6 +376,10 @@ impl Link for Board {
 
     fn hand(&mut self) -> Result<Option<(u8, Heard)>, Trouble> {
         let next = self.next();
+        self.handings += 1;
+        if self.wrong == Some(Wrong::ResetBefore(self.handings)) {
+            let _ = self.controller.reset();
+        }
         let answered = self.controller.hand();
         let answer = self.made(|| Call::Hand, answered)?;
         match next {

@@ -1,10 +1,15 @@
 //! A cartridge: four tracks and what is wrong with them. On disk it is a folder: `track-0.tap` to `track-3.tap` hold
 //! what is on tape, the image of each record, and `cartridge.txt` what that format cannot say.
 
-use crate::faults::{inches, Fault, Place, Words, INCH};
+use crate::faults::{inches, place, Fault, Place, INCH};
+use crate::files::write_file;
 use crate::tap::{self, Object};
+use ctc_words::names::{name, names, Kind};
+use ctc_words::statement::{is_comment, Words, Wrong};
 use std::fs;
+use std::ops::Deref;
 use std::path::Path;
+use std::rc::Rc;
 
 pub const TRACKS: usize = 4;
 /// The length of a new tape: 600 feet.
@@ -26,11 +31,44 @@ pub const MFM: u8 = 0;
 pub const GCR: u8 = 1;
 pub const BLOCKETTE: usize = 256;
 
+/// The image of a record. A tape and those who read it share its bytes, until a fault changes some of them for one.
+#[derive(Clone, Debug, Default)]
+pub struct Image(Option<Rc<Vec<u8>>>);
+
+impl Image {
+    /// The bytes for one who changes them: a copy where somebody else has them too.
+    pub fn own(&mut self) -> &mut Vec<u8> {
+        Rc::make_mut(self.0.get_or_insert_with(Rc::default))
+    }
+}
+
+impl Deref for Image {
+    type Target = [u8];
+
+    fn deref(&self) -> &[u8] {
+        self.0.as_ref().map_or(&[], |bytes| bytes)
+    }
+}
+
+impl From<Vec<u8>> for Image {
+    fn from(bytes: Vec<u8>) -> Image {
+        Image(Some(Rc::new(bytes)))
+    }
+}
+
+impl PartialEq for Image {
+    fn eq(&self, other: &Image) -> bool {
+        **self == **other
+    }
+}
+
+impl Eq for Image {}
+
 /// What a stretch of track holds.
 #[derive(Clone, Debug, PartialEq, Eq)]
 pub enum What {
     Record {
-        image: Vec<u8>,
+        image: Image,
         density: u8,
     },
     Mark,
@@ -72,22 +110,17 @@ pub struct Track {
 impl Track {
     /// Erases from here to there. What is cut stays as scraps, at least a gap away.
     pub fn erase(&mut self, from: Place, to: Place) {
-        let mut kept = Vec::with_capacity(self.segments.len() + 2);
-        for segment in self.segments.drain(..) {
-            if segment.end() <= from || segment.start >= to {
-                kept.push(segment);
-                continue;
-            }
-            let front = from - PROPER - segment.start;
-            if front > 0 {
-                kept.push(Segment { start: segment.start, length: front, what: What::Scrap });
-            }
-            let start = to.max(from + GAP);
-            if segment.end() > start {
-                kept.push(Segment { start, length: segment.end() - start, what: What::Scrap });
-            }
+        let first = self.segments.partition_point(|segment| segment.end() <= from);
+        let behind = self.segments.partition_point(|segment| segment.start < to);
+        if first >= behind {
+            return;
         }
-        self.segments = kept;
+        let scrap = |start: Place, end: Place| Segment { start, length: end - start, what: What::Scrap };
+        let (start, end) = (self.segments[first].start, self.segments[behind - 1].end());
+        let before = (start < from - PROPER).then(|| scrap(start, from - PROPER));
+        let rest = to.max(from + GAP);
+        let after = (rest < end).then(|| scrap(rest, end));
+        self.segments.splice(first..behind, before.into_iter().chain(after));
     }
 
     /// Puts something where all is erased.
@@ -194,7 +227,7 @@ pub fn track_of(objects: &[Object], empty: impl Fn(usize) -> u8) -> Result<Track
                     return Err(format!("object {number}, of {} bytes, is no image of a record", bytes.len()));
                 };
                 let density = density.unwrap_or_else(|| empty(number));
-                (record_length(bytes.len(), density), What::Record { image: bytes.clone(), density })
+                (record_length(bytes.len(), density), What::Record { image: bytes.clone().into(), density })
             }
         };
         track.segments.push(Segment { start: place, length, what });
@@ -203,20 +236,9 @@ pub fn track_of(objects: &[Object], empty: impl Fn(usize) -> u8) -> Result<Track
     Ok(track)
 }
 
-pub fn density_words(density: u8) -> &'static str {
-    if density == MFM {
-        "mfm"
-    } else {
-        "gcr"
-    }
-}
-
+/// The density of a word of a command, in small letters or capitals.
 pub fn density_of_word(word: &str) -> Option<u8> {
-    match word {
-        "mfm" | "MFM" => Some(MFM),
-        "gcr" | "GCR" => Some(GCR),
-        _ => None,
-    }
+    names().number(Kind::Density, &word.to_uppercase()).map(|number| number as u8)
 }
 
 impl Cartridge {
@@ -231,7 +253,8 @@ impl Cartridge {
             for (object, segment) in track.segments.iter().enumerate() {
                 if let What::Record { image, density } = &segment.what {
                     if image.len() == 2 {
-                        text += &format!("empty track {number} object {object} {}\n", density_words(*density));
+                        let density = name(Kind::Density, *density);
+                        text += &format!("empty track {number} object {object} density {density}\n");
                     }
                 }
             }
@@ -242,16 +265,12 @@ impl Cartridge {
         text
     }
 
-    /// Writes the folder, which is made where it is missing.
+    /// Writes the folder, which is made where it is missing; each file whole or not at all.
     pub fn save(&self, folder: &Path) -> Result<(), String> {
-        let told = |what: &Path, error: std::io::Error| format!("{} cannot be written: {error}", what.display());
-        fs::create_dir_all(folder).map_err(|error| told(folder, error))?;
         for (number, track) in self.tracks.iter().enumerate() {
-            let file = folder.join(track_file(number));
-            fs::write(&file, tap::write(&track_objects(track))).map_err(|error| told(&file, error))?;
+            write_file(&folder.join(track_file(number)), &tap::write(&track_objects(track)))?;
         }
-        let file = folder.join(TEXT_FILE);
-        fs::write(&file, self.text()).map_err(|error| told(&file, error))
+        write_file(&folder.join(TEXT_FILE), self.text().as_bytes())
     }
 
     /// Reads the folder. A tape image that is missing is an erased track.
@@ -261,7 +280,7 @@ impl Cartridge {
         let mut cartridge = Cartridge::default();
         let mut empty = Vec::new();
         for (number, line) in text.lines().enumerate() {
-            let told = |what| format!("{}, line {}: {what}", file.display(), number + 1);
+            let told = |wrong: Wrong| format!("{}:{}:{}: {}", file.display(), number + 1, wrong.column, wrong.what);
             if let Some(found) = cartridge.take_line(line).map_err(told)? {
                 empty.push(found);
             }
@@ -285,36 +304,49 @@ impl Cartridge {
     }
 
     /// One line of the text; gives the density of a record of no bytes where it says one.
-    fn take_line(&mut self, line: &str) -> Result<Option<(usize, usize, u8)>, String> {
-        let line = line.split('#').next().unwrap_or("").trim();
-        let mut words = Words::of(line);
+    fn take_line(&mut self, line: &str) -> Result<Option<(usize, usize, u8)>, Wrong> {
+        if is_comment(line.as_bytes()) {
+            return Ok(None);
+        }
+        let mut words = Words::of(line.as_bytes())?;
+        if words.is_done() {
+            return Ok(None);
+        }
         match words.peek() {
-            None => {}
-            Some("inches") => {
-                self.length = words.place("inches")?;
-                words.end()?;
-                if self.length <= FIRST + LOAD_POINT {
-                    return Err(format!("a tape is longer than {} inches", inches(FIRST + LOAD_POINT)));
-                }
-            }
+            Some("inches") => self.length = length(&mut words)?,
             Some("protected") => {
-                words.next();
+                words.need("protected")?;
                 self.protected = true;
-                words.end()?;
             }
             Some("empty") => {
-                words.next();
-                let track = words.named("track", 0, 3)? as usize;
-                let object = words.named("object", 0, 1_000_000)? as usize;
-                let word = words.wanted("the density")?;
-                let density =
-                    density_of_word(word).ok_or_else(|| format!("a density is mfm or gcr, and not '{word}'"))?;
+                words.need("empty")?;
+                let (track, object) = (words.named("track", 0, 3)?, words.named("object", 0, 1_000_000)?);
+                let density = density(&mut words)?;
                 words.end()?;
                 return Ok(Some((track, object, density)));
             }
-            Some(_) => self.faults.push(Fault::parse(&mut words)?),
+            _ => self.faults.push(Fault::parse(&mut words)?),
         }
+        words.end()?;
         Ok(None)
+    }
+}
+
+/// `inches N`, as long as a tape may be.
+pub fn length(words: &mut Words) -> Result<Place, Wrong> {
+    let column = words.column();
+    match place(words, "inches")? {
+        length if length > FIRST + LOAD_POINT => Ok(length),
+        _ => Err(Wrong { column, what: format!("a tape is longer than {} inches", inches(FIRST + LOAD_POINT)) }),
+    }
+}
+
+/// `density MFM` or `density GCR`.
+pub fn density(words: &mut Words) -> Result<u8, Wrong> {
+    words.need("density")?;
+    match words.name(Kind::Density) {
+        Some(name) => Ok(name.number as u8),
+        None => words.other("a density is MFM or GCR"),
     }
 }
 
@@ -327,7 +359,7 @@ mod tests {
         let mut image = (count as u16).rotate_right(1).to_be_bytes().to_vec();
         image.resize(2 + count, 7);
         let length = record_length(image.len(), MFM);
-        Segment { start, length, what: What::Record { image, density: MFM } }
+        Segment { start, length, what: What::Record { image: image.into(), density: MFM } }
     }
 
     #[test]
@@ -344,6 +376,41 @@ mod tests {
         assert_eq!((track.segments[1].start, track.segments[1].end()), (552, end));
         track.erase(0, 10_000);
         assert_eq!(track.segments, []);
+    }
+
+    /// An erase of any place leaves, tenth by tenth, what the papers' gap lets it leave.
+    #[test]
+    fn an_erase_takes_what_it_passes_and_nothing_else() {
+        let mut chance = Chance::new(7);
+        for _ in 0..2000 {
+            let mut track = Track::default();
+            let mut place = FIRST;
+            for _ in 0..chance.below(8) {
+                place += GAP + chance.below(40) as Place;
+                let segment = record(place, chance.below(9000) as usize);
+                place = segment.end();
+                track.put(segment);
+            }
+            let from = FIRST + chance.below(600) as Place;
+            let to = from + 1 + chance.below(300) as Place;
+            let before = track.clone();
+            track.erase(from, to);
+            for tenth in 0..place + 400 {
+                let holds = |track: &Track| {
+                    let found = track.segments.iter().find(|segment| segment.start <= tenth && tenth < segment.end());
+                    found.cloned()
+                };
+                let met = |segment: &Segment| segment.start < to && segment.end() > from;
+                match (holds(&before), holds(&track)) {
+                    (Some(was), now) if !met(&was) => assert_eq!(Some(was), now),
+                    (Some(_), now) => {
+                        let left = tenth < from - PROPER || tenth >= to.max(from + GAP);
+                        assert_eq!(left, now.is_some_and(|segment| segment.what == What::Scrap));
+                    }
+                    (None, now) => assert_eq!(now, None),
+                }
+            }
+        }
     }
 
     /// Random writes and erasures leave a track that its tape image gives back, place by place.

@@ -1,5 +1,7 @@
 //! What can be wrong with a tape and a drive: at a place that one names, or by chance with a seed.
 
+use ctc_words::names::{name, Kind};
+use ctc_words::statement::{Words, Wrong, LATE};
 use std::fmt;
 
 /// A place along the tape, in tenths of an inch from BOT.
@@ -112,166 +114,149 @@ impl fmt::Display for Fault {
                 write!(to, "trailing track {track} object {object} code {code:02X}")
             }
             Fault::Silent { track, object, byte, times } => {
-                write!(to, "silent track {track} object {object} byte {byte}{}", times_words(*times))
+                write!(to, "silent track {track} object {object} place {byte}{}", times_words(*times))
             }
             Fault::DropOut { track, at, times } => {
                 write!(to, "drop-out track {track} at {}{}", inches(*at), times_words(*times))
             }
             Fault::EarlyEnd { at, times } => write!(to, "early-end at {}{}", inches(*at), times_words(*times)),
             Fault::Gone { track, at } => write!(to, "gone track {track} at {}", inches(*at)),
-            Fault::Late { order, flags } => write!(to, "late order {order} flags {flags}"),
+            Fault::Late { order, flags } => {
+                let which = LATE.get(usize::from(*flags).wrapping_sub(1)).unwrap_or(&"both");
+                write!(to, "late {which} order {order}")
+            }
             Fault::LoadPointLate { times } => write!(to, "load-point-late{}", times_words(*times)),
             Fault::EndLate { times } => write!(to, "end-late{}", times_words(*times)),
         }
     }
 }
 
-/// Words and what they come before, in their order: `track 0 from 60 to 100`.
-pub struct Words<'a> {
-    words: std::iter::Peekable<std::str::SplitWhitespace<'a>>,
+/// A name and a place in inches, with at most one digit behind the point.
+pub fn place(words: &mut Words, name: &str) -> Result<Place, Wrong> {
+    words.need(name)?;
+    let column = words.column();
+    let text = words.next("how many inches")?;
+    let (whole, tenths) = text.split_once('.').unwrap_or((text, "0"));
+    let is_digits = |part: &str| !part.is_empty() && part.bytes().all(|byte| byte.is_ascii_digit());
+    match (whole.parse::<u32>(), tenths.parse::<u32>()) {
+        (Ok(whole_inches), Ok(tenths_more))
+            if is_digits(whole) && is_digits(tenths) && tenths.len() == 1 && whole_inches <= 100_000 =>
+        {
+            Ok(Place::from(whole_inches) * INCH + Place::from(tenths_more))
+        }
+        _ => Err(Wrong { column, what: format!("{name} '{text}' is no number of inches, such as 60 or 60.5") }),
+    }
 }
 
-impl<'a> Words<'a> {
-    pub fn of(text: &'a str) -> Words<'a> {
-        Words { words: text.split_whitespace().peekable() }
-    }
+/// A track.
+fn track(words: &mut Words) -> Result<u8, Wrong> {
+    Ok(words.named("track", 0, 3)? as u8)
+}
 
-    pub fn next(&mut self) -> Option<&'a str> {
-        self.words.next()
-    }
+/// A record or mark of a track, counted from 0.
+fn object(words: &mut Words) -> Result<usize, Wrong> {
+    words.named("object", 0, 1_000_000)
+}
 
-    pub fn peek(&mut self) -> Option<&'a str> {
-        self.words.peek().copied()
-    }
-
-    /// The word that must come now.
-    pub fn wanted(&mut self, what: &str) -> Result<&'a str, String> {
-        self.next().ok_or_else(|| format!("{what} is missing"))
-    }
-
-    /// Takes a word where it comes now.
-    pub fn take(&mut self, word: &str) -> bool {
-        let found = self.peek() == Some(word);
-        if found {
-            self.next();
-        }
-        found
-    }
-
-    pub fn number(&mut self, name: &str, least: u64, most: u64) -> Result<u64, String> {
-        let word = self.wanted(name)?;
-        match word.parse() {
-            Ok(number) if (least..=most).contains(&number) => Ok(number),
-            _ => Err(format!("{name} is a number from {least} to {most}, and not '{word}'")),
-        }
-    }
-
-    /// A name and its number.
-    pub fn named(&mut self, name: &str, least: u64, most: u64) -> Result<u64, String> {
-        let word = self.wanted(&format!("'{name} NUMBER'"))?;
-        if word != name {
-            return Err(format!("'{name} NUMBER' comes here, and not '{word}'"));
-        }
-        self.number(name, least, most)
-    }
-
-    /// A name and a place in inches, with at most one digit behind the point.
-    pub fn place(&mut self, name: &str) -> Result<Place, String> {
-        let word = self.wanted(&format!("'{name} INCHES'"))?;
-        if word != name {
-            return Err(format!("'{name} INCHES' comes here, and not '{word}'"));
-        }
-        let word = self.wanted(&format!("the inches of '{name}'"))?;
-        let (whole, tenths) = word.split_once('.').unwrap_or((word, "0"));
-        match (whole.parse::<u32>(), tenths.parse::<u32>()) {
-            (Ok(whole), Ok(tenths)) if tenths < 10 && whole <= 100_000 => {
-                Ok(Place::from(whole) * INCH + Place::from(tenths))
+/// One of these codes: `code HH` or its name.
+fn code(words: &mut Words, codes: &[u8]) -> Result<u8, Wrong> {
+    let column = words.column();
+    match words.code()? {
+        Some(code) if codes.contains(&code) => Ok(code),
+        found => {
+            let each: Vec<String> =
+                codes.iter().map(|code| format!("code {code:02X} {}", name(Kind::Code, *code))).collect();
+            let each = each.join(", ");
+            match found {
+                Some(code) => Err(Wrong { column, what: format!("code {code:02X} is none of {each}") }),
+                None => words.other(&format!("one of {each}")),
             }
-            _ => Err(format!("'{name}' has inches, such as 60 or 60.5, and not '{word}'")),
         }
     }
+}
 
-    fn code(&mut self, codes: &[u8]) -> Result<u8, String> {
-        self.take("code");
-        let word = self.wanted("the code")?;
-        match u8::from_str_radix(word, 16) {
-            Ok(code) if codes.contains(&code) => Ok(code),
-            _ => Err(format!("the code is one of {codes:X?}, and not '{word}'")),
-        }
+/// `times N`, or always.
+fn times(words: &mut Words) -> Result<Times, Wrong> {
+    match words.take("times") {
+        true => Ok(Some(words.number_in("times", 1, 1_000_000)? as u32)),
+        false => Ok(None),
     }
+}
 
-    fn times(&mut self) -> Result<Times, String> {
-        if self.take("times") {
-            return Ok(Some(self.number("times", 1, 1_000_000)? as u32));
-        }
-        Ok(None)
-    }
+/// The words that a fault of a drive begins with.
+const KINDS: [&str; 12] = [
+    "stretched",
+    "bad",
+    "torn",
+    "gap",
+    "trailing",
+    "silent",
+    "drop-out",
+    "early-end",
+    "gone",
+    "late",
+    "load-point-late",
+    "end-late",
+];
 
-    pub fn end(&mut self) -> Result<(), String> {
-        match self.next() {
-            Some(word) => Err(format!("'{word}' is one word too many")),
-            None => Ok(()),
-        }
+/// Words with commas between them.
+pub fn listed(words: &[&str]) -> String {
+    match words {
+        [all @ .., last] if !all.is_empty() => format!("{} or {last}", all.join(", ")),
+        _ => words.concat(),
     }
 }
 
 impl Fault {
     /// The fault of its words, which `Display` writes.
-    pub fn parse(words: &mut Words) -> Result<Fault, String> {
-        let kind = words.wanted("the kind of fault")?;
+    pub fn parse(words: &mut Words) -> Result<Fault, Wrong> {
+        let Some(kind) = words.peek().filter(|kind| KINDS.contains(kind)) else {
+            return words.other(&format!("a fault of a drive is {}", listed(&KINDS)));
+        };
+        words.need(kind)?;
         let fault = match kind {
-            "stretched" => Fault::Stretched {
-                track: words.named("track", 0, 3)? as u8,
-                from: words.place("from")?,
-                to: words.place("to")?,
-                chance: words.named("chance", 1, 100)? as u32,
-            },
+            "stretched" => {
+                let (track, from) = (track(words)?, place(words, "from")?);
+                let column = words.column();
+                let to = place(words, "to")?;
+                if to < from {
+                    return Err(Wrong { column, what: format!("the stretch ends before {} inches", inches(from)) });
+                }
+                Fault::Stretched { track, from, to, chance: words.named("chance", 1, 100)? as u32 }
+            }
             "bad" => Fault::Bad {
-                track: words.named("track", 0, 3)? as u8,
-                object: words.named("object", 0, 1_000_000)? as usize,
-                blockette: words.named("blockette", 0, 257)? as usize,
+                track: track(words)?,
+                object: object(words)?,
+                blockette: words.named("blockette", 0, 257)?,
                 mark: words.named("mark", 1, 9)? as u8,
             },
-            "torn" => Fault::Torn {
-                track: words.named("track", 0, 3)? as u8,
-                object: words.named("object", 0, 1_000_000)? as usize,
-                code: words.code(&[0x0C, 0x0D, 0x0E])?,
-            },
-            "gap" => Fault::Gap {
-                track: words.named("track", 0, 3)? as u8,
-                object: words.named("object", 0, 1_000_000)? as usize,
-                times: words.times()?,
-            },
-            "trailing" => Fault::Trailing {
-                track: words.named("track", 0, 3)? as u8,
-                object: words.named("object", 0, 1_000_000)? as usize,
-                code: words.code(&[0x10, 0x11, 0x12])?,
-            },
-            "silent" => Fault::Silent {
-                track: words.named("track", 0, 3)? as u8,
-                object: words.named("object", 0, 1_000_000)? as usize,
-                byte: words.named("byte", 2, 66_049)? as usize,
-                times: words.times()?,
-            },
-            "drop-out" => Fault::DropOut {
-                track: words.named("track", 0, 3)? as u8,
-                at: words.place("at")?,
-                times: words.times()?,
-            },
-            "early-end" => Fault::EarlyEnd { at: words.place("at")?, times: words.times()? },
-            "gone" => Fault::Gone { track: words.named("track", 0, 3)? as u8, at: words.place("at")? },
-            "late" => Fault::Late {
-                order: words.named("order", 1, 1_000_000)? as usize,
-                flags: words.named("flags", 1, 3)? as u8,
-            },
-            "load-point-late" => Fault::LoadPointLate { times: words.times()? },
-            "end-late" => Fault::EndLate { times: words.times()? },
-            _ => {
-                return Err(format!(
-                    "'{kind}' is no kind of fault; there are stretched, bad, torn, gap, trailing, silent, \
-                     drop-out, early-end, gone, late, load-point-late and end-late"
-                ))
+            "torn" => {
+                Fault::Torn { track: track(words)?, object: object(words)?, code: code(words, &[0x0C, 0x0D, 0x0E])? }
             }
+            "gap" => Fault::Gap { track: track(words)?, object: object(words)?, times: times(words)? },
+            "trailing" => {
+                let codes = [0x10, 0x11, 0x12];
+                Fault::Trailing { track: track(words)?, object: object(words)?, code: code(words, &codes)? }
+            }
+            "silent" => Fault::Silent {
+                track: track(words)?,
+                object: object(words)?,
+                byte: words.named("place", 2, 66_049)?,
+                times: times(words)?,
+            },
+            "drop-out" => Fault::DropOut { track: track(words)?, at: place(words, "at")?, times: times(words)? },
+            "early-end" => Fault::EarlyEnd { at: place(words, "at")?, times: times(words)? },
+            "gone" => Fault::Gone { track: track(words)?, at: place(words, "at")? },
+            "late" => {
+                let column = words.column();
+                let flags = words.late(3)?;
+                if flags == 0 {
+                    return Err(Wrong { column, what: "late flags are write, read or both".to_string() });
+                }
+                Fault::Late { order: words.named("order", 1, 1_000_000)?, flags }
+            }
+            "load-point-late" => Fault::LoadPointLate { times: times(words)? },
+            _ => Fault::EndLate { times: times(words)? },
         };
         words.end()?;
         Ok(fault)
@@ -304,33 +289,40 @@ mod tests {
             "gap track 2 object 4 times 3",
             "gap track 2 object 4",
             "trailing track 3 object 12 code 11",
-            "silent track 0 object 2 byte 700 times 1",
+            "silent track 0 object 2 place 700 times 1",
             "drop-out track 0 at 61.3 times 2",
             "drop-out track 0 at 61",
             "early-end at 700 times 1",
             "gone track 2 at 90",
-            "late order 7 flags 2",
+            "late read order 7",
             "load-point-late times 1",
             "end-late",
         ];
         for text in texts {
-            let fault = Fault::parse(&mut Words::of(text)).unwrap();
+            let fault = Fault::parse(&mut Words::of(text.as_bytes()).unwrap()).unwrap();
             assert_eq!(fault.to_string(), text);
         }
     }
 
     #[test]
     fn what_cannot_be_meant_is_said() {
-        for (text, part) in [
-            ("stretched track 4 from 1 to 2 chance 3", "track is a number from 0 to 3"),
-            ("stretched track 1 to 2", "'from INCHES'"),
-            ("torn track 1 object 2 code 16", "the code is one of"),
-            ("late order 7 flags 2 more", "'more' is one word too many"),
-            ("bent", "no kind of fault"),
-            ("", "the kind of fault is missing"),
+        for (text, column, part) in [
+            ("stretched track 4 from 1 to 2 chance 3", 17, "track '4' is not 0 to 3"),
+            ("stretched track 1 to 2", 19, "the word 'from' is missing here"),
+            ("stretched track 1 from 9 to 2 chance 3", 26, "ends before 9 inches"),
+            ("stretched track 1 from 9.25 to 10 chance 3", 24, "no number of inches"),
+            ("torn track 1 object 2 code 16", 23, "code 16 is none of code 0C identification zone late, code 0D"),
+            ("torn track 1 object 2", 22, "the line ends too soon: one of code 0C"),
+            ("late order 7", 6, "'order' cannot stand here: the late flags are write, read or both"),
+            ("late 0 order 7", 6, "write, read or both"),
+            ("late read order 7 more", 19, "'more' says nothing here"),
+            ("bent", 1, "'bent' cannot stand here: a fault of a drive is stretched, bad"),
+            ("", 1, "a fault of a drive is stretched, bad"),
         ] {
-            let said = Fault::parse(&mut Words::of(text)).unwrap_err();
-            assert!(said.contains(part), "{text}: {said}");
+            let said = Fault::parse(&mut Words::of(text.as_bytes()).unwrap()).unwrap_err();
+            assert!(said.what.contains(part) && said.column == column, "{text}: {said:?}");
         }
+        let named = Fault::parse(&mut Words::of(b"torn track 1 object 2 byte count check bad").unwrap()).unwrap();
+        assert_eq!(named, Fault::Torn { track: 1, object: 2, code: 0x0E });
     }
 }

@@ -4,7 +4,7 @@
 use crate::board::{Heard, Link, Trouble};
 use ctc_words::interface::Store;
 
-const ACK: u8 = 0x06;
+pub const ACK: u8 = 0x06;
 const NACK: u8 = 0x15;
 const GO: u8 = 0x47;
 const EOR: u8 = 0x45;
@@ -40,6 +40,19 @@ impl Status {
 
     pub fn code(self) -> u8 {
         self.field(15, 5)
+    }
+
+    /// The selected drive and what it is set to: the last store's own, since every store names its drive.
+    pub fn drive(self) -> u8 {
+        self.field(7, 2)
+    }
+
+    pub fn track(self) -> u8 {
+        self.field(5, 3)
+    }
+
+    pub fn density(self) -> u8 {
+        self.field(23, 1)
     }
 
     pub fn is_mark(self) -> bool {
@@ -105,6 +118,8 @@ pub enum Wrong {
     ChecksSwapped,
     /// No skip back before another try.
     NoSkipBack,
+    /// Track and density of a completion are not looked at.
+    SettingsUnchecked,
     /// Two skips back before another try.
     SkipsBackTwice,
     /// The supplied count is one blockette too long.
@@ -119,6 +134,8 @@ pub enum Wrong {
     RestartIgnored,
     /// A failed write is left on tape and the next record follows.
     FailedWriteKept,
+    /// A write that failed is not looked for behind the tape that was erased for it, where the place was lost.
+    ErasedForgotten,
     /// No supplied count is ever tried.
     NeverSupplied,
     /// The blockettes of a record are counted upward.

@@ -1,21 +1,25 @@
 //! The rack's command: `./ctc rack`.
 
-use ctc_rack::board::Board;
+use ctc_rack::alone::Alone;
+use ctc_rack::board::{Board, Event, DRIVES};
 use ctc_rack::cartridge::{
     density_of_word, track_of, Cartridge, Segment, Track, What, BLOCKETTE, GCR, MFM, TEXT_FILE, TRACKS,
 };
 use ctc_rack::driver::Filed;
-use ctc_rack::faults::Fault;
+use ctc_rack::faults::{inches, Fault};
+use ctc_rack::files::{make_folder, write_file};
+use ctc_rack::page::Page;
 use ctc_rack::run::{run, Ran};
-use ctc_rack::scenario::{Scenario, Slot};
+use ctc_rack::scenario::{Problem, Scenario, Slot};
 use ctc_rack::tap::{self, Object};
-use ctc_rack::{page, replay, story, summary};
+use ctc_rack::{replay, story, summary};
 use ctc_words::interface::{build, image_count, mark_count, restore};
+use ctc_words::statement::Source;
+use std::env;
 use std::io::{IsTerminal, Write};
 use std::path::{Path, PathBuf};
 use std::process::ExitCode;
 use std::time::{Duration, Instant};
-use std::{env, fs};
 
 /// What ends the command: wrong usage, or what failed.
 enum End {
@@ -102,31 +106,26 @@ fn options(words: &[String]) -> Done<Options> {
     Ok(options)
 }
 
-fn write_file(file: &Path, bytes: &[u8]) -> Done<()> {
-    if let Some(folder) = file.parent() {
-        fs::create_dir_all(folder)
-            .map_err(|error| End::Failed(format!("{} cannot be made: {error}", folder.display())))?;
-    }
-    fs::write(file, bytes).map_err(|error| End::Failed(format!("{} cannot be written: {error}", file.display())))
-}
-
-/// Runs a scenario with its progress on standard error.
+/// Runs a scenario with its progress on standard error, where that is a terminal.
 fn run_shown(scenario: &Scenario, options: &Options, alone: Option<u8>) -> Ran {
     let keeps = options.session.is_some() || options.explain.is_some() || options.page.is_some();
     let shown = std::io::stderr().is_terminal();
-    let mut last = Instant::now();
-    let mut said = false;
+    // shown at once, so that a long run is told from one that does nothing
+    let mut last: Option<Instant> = None;
     let mut setup = scenario.setup(options.seed, alone, keeps);
     setup.keeps_orders = options.alone.is_some();
+    let whose = alone.map_or("rack".to_string(), |drive| format!("rack, drive {drive} alone"));
     let ran = run(setup, &mut |stores, board: &Board| {
-        if shown && stores % 64 == 0 && last.elapsed() > Duration::from_millis(500) {
-            last = Instant::now();
-            said = true;
-            eprint!("\rrack: {stores} stores, {} calls, {} restarts ", board.calls, board.restarts);
+        if shown && last.is_none_or(|last| last.elapsed() > Duration::from_millis(200)) {
+            last = Some(Instant::now());
+            let places: Vec<String> = board.transports.iter().map(|drive| inches(drive.place())).collect();
+            let (places, calls) = (places.join(", "), board.calls);
+            eprint!("\r\x1b[K{whose}: {stores} stores, {calls} calls; the tapes stand at {places} inches");
         }
     });
-    if said {
-        eprintln!();
+    if last.is_some() {
+        // what became of it stands in its place
+        eprint!("\r\x1b[K");
     }
     ran
 }
@@ -134,21 +133,46 @@ fn run_shown(scenario: &Scenario, options: &Options, alone: Option<u8>) -> Ran {
 fn play(words: &[String]) -> Done<bool> {
     let options = options(words)?;
     let file = options.file.clone().unwrap_or_default();
-    let text = fs::read_to_string(&file)
-        .map_err(|error| End::Failed(format!("{} cannot be read: {error}", file.display())))?;
+    let text = read_file(&file)?;
     let folder = file.parent().unwrap_or(Path::new("."));
-    let scenario = Scenario::parse(&text, folder)
-        .map_err(|(line, why)| End::Failed(format!("{}, line {line}: {why}", file.display())))?;
+    let scenario = Scenario::parse(&text, folder).map_err(|Problem { line, wrong }| {
+        End::Failed(format!("{}:{line}:{}: {}", file.display(), wrong.column, wrong.what))
+    })?;
     if options.alone.is_some() && !scenario.damages.is_empty() {
         return failed(
             "--alone: damage to the memory restarts the controller for all drives; leave it out".to_string(),
         );
     }
+    if let Some(drive) = options.alone.filter(|drive| scenario.jobs.iter().all(|job| job.drive != *drive)) {
+        return failed(format!("--alone: no job of the scenario works with drive {drive}"));
+    }
+    // a folder that cannot be made is told before a long run, and not behind it
+    for file in [&options.session, &options.explain, &options.page].into_iter().flatten() {
+        make_folder(file).map_err(End::Failed)?;
+    }
+    make_folder(&options.into.join("file")).map_err(End::Failed)?;
     let ran = run_shown(&scenario, &options, None);
-    let (mut said, mut whole) = summary::summary(&ran);
+    let summary::Summary { mut words, mut whole, mut verdict } = summary::summary(&ran);
+    let alone = options.alone.map(|drive| {
+        let alone = run_shown(&scenario, &options, Some(drive));
+        Alone::of(drive, ran.board(), alone.board(), story::tell(alone.board().events()))
+    });
+    if let Some(alone) = &alone {
+        whole &= alone.same;
+        words += &format!("drive {} alone: {}\n", alone.drive, alone.words);
+        if !alone.same {
+            verdict += &format!("; drive {} alone is not the same", alone.drive);
+        }
+    }
+    // told before anything is written, so that a full disk leaves it standing
+    let mut out = std::io::stdout();
+    let mut problems: Vec<String> = Vec::new();
+    if let Err(error) = out.write_all(words.as_bytes()).and_then(|()| out.flush()) {
+        problems.push(format!("standard output cannot be written: {error}"));
+    }
     for ended in &ran.jobs {
         for filed in &ended.ledger.borrow().filed {
-            file_away(filed, &options.into)?;
+            problems.extend(file_away(filed, &options.into).err());
         }
     }
     for (drive, slot) in scenario.slots.iter().enumerate() {
@@ -156,67 +180,61 @@ fn play(words: &[String]) -> Done<bool> {
             (slot, ran.board().transports[drive].cartridge())
         {
             if now != cartridge || !folder.join(TEXT_FILE).exists() {
-                now.save(folder).map_err(End::Failed)?;
+                problems.extend(now.save(folder).err());
             }
         }
     }
-    let mut beside = None;
-    if let Some(drive) = options.alone {
-        let alone = run_shown(&scenario, &options, Some(drive));
-        let same = is_same(&ran, &alone, drive);
-        whole &= same;
-        let (orders, bytes) = (
-            ran.board().orders_given[usize::from(drive)].len(),
-            ran.board().bytes_delivered[usize::from(drive)].iter().map(Vec::len).sum::<usize>(),
-        );
-        let verdict = match same {
-            true => format!("the same {orders} orders and images, and the same {bytes} bytes delivered"),
-            false => "OTHER orders, images or bytes".to_string(),
-        };
-        said += &format!("drive {drive} alone: {verdict}\n");
-        beside = Some((drive, story::tell(alone.board().events()), verdict));
-    }
     let events = ran.board().events();
     let entries = story::tell(events);
-    if let Some(file) = &options.explain {
-        write_file(file, story::explanation(&entries).as_bytes())?;
+    if let Some(to) = &options.explain {
+        problems.extend(write_file(to, story::explanation(&entries).as_bytes()).err());
     }
     if let Some(to) = &options.page {
         let title = format!("{}, seed {}", file.file_name().unwrap_or_default().to_string_lossy(), options.seed);
-        let alone = beside.as_ref().map(|(drive, entries, verdict)| (*drive, entries.as_slice(), verdict.as_str()));
-        write_file(to, page::page(&title, &said, &entries, alone).as_bytes())?;
+        let (summary, verdict, heads) = (words.as_str(), verdict.as_str(), heads(&scenario));
+        let page = Page { title: &title, summary, verdict, entries: &entries, heads, alone: alone.as_ref() };
+        problems.extend(write_file(to, page.html().as_bytes()).err());
     }
-    let mut out = std::io::stdout();
-    out.write_all(said.as_bytes())
-        .and_then(|()| out.flush())
-        .map_err(|error| End::Failed(format!("standard output cannot be written: {error}")))?;
-    // last, so that a run that no session says is told all the same
     if let Some(name) = &options.session {
-        let session = replay::session(events)
-            .map_err(|why| End::Failed(format!("--session: {why}; nothing was written to {}", name.display())))?;
-        write_file(&name.with_extension("session"), &session.lines)?;
-        write_file(&name.with_extension("answers"), &session.answers)?;
+        problems.extend(write_session(events, name).err());
     }
-    Ok(whole)
+    for problem in &problems {
+        eprintln!("rack: {problem}");
+    }
+    Ok(whole && problems.is_empty())
 }
 
-fn is_same(together: &Ran, alone: &Ran, drive: u8) -> bool {
-    let drive = usize::from(drive);
-    together.board().orders_given[drive] == alone.board().orders_given[drive]
-        && together.board().bytes_delivered[drive] == alone.board().bytes_delivered[drive]
+/// What stands in the head of each drive's lane.
+fn heads(scenario: &Scenario) -> [String; DRIVES] {
+    std::array::from_fn(|drive| {
+        let job = scenario.jobs.iter().find(|job| usize::from(job.drive) == drive);
+        let slot = match &scenario.slots[drive] {
+            Slot::Missing => ", not there",
+            Slot::Empty => ", empty",
+            Slot::Cartridge { .. } => "",
+        };
+        job.map_or("no job".to_string(), |job| format!("job {}", job.number)) + slot
+    })
+}
+
+/// The run as a session of jobs, both files or neither.
+fn write_session(events: &[Event], name: &Path) -> Result<(), String> {
+    let session = replay::session(events)
+        .map_err(|why| format!("--session: {why}; nothing was written to {}", name.display()))?;
+    write_file(&name.with_extension("session"), &session.lines)?;
+    write_file(&name.with_extension("answers"), &session.answers)
 }
 
 /// A file of tape that was had whole is one file; else each record that was had is one.
-fn file_away(filed: &Filed, into: &Path) -> Done<()> {
-    let name = format!("track-{}.file-{}", filed.track, filed.file);
-    let folder = into.join(&filed.folder);
+fn file_away(filed: &Filed, into: &Path) -> Result<(), String> {
+    let file = into.join(summary::filed_name(filed));
     if filed.records.iter().all(Result::is_ok) {
         let bytes: Vec<u8> = filed.records.iter().flatten().flatten().copied().collect();
-        return write_file(&folder.join(name), &bytes);
+        return write_file(&file, &bytes);
     }
     for (number, record) in filed.records.iter().enumerate() {
         if let Ok(bytes) = record {
-            write_file(&folder.join(format!("{name}.record-{number}")), bytes)?;
+            write_file(&PathBuf::from(format!("{}.record-{}", file.display(), filed.first + number)), bytes)?;
         }
     }
     Ok(())
@@ -225,7 +243,10 @@ fn file_away(filed: &Filed, into: &Path) -> Done<()> {
 // ---- tape images of data
 
 fn read_file(file: &Path) -> Done<Vec<u8>> {
-    fs::read(file).map_err(|error| End::Failed(format!("{} cannot be read: {error}", file.display())))
+    if file.is_dir() {
+        return failed(format!("{} is a folder, and no file", file.display()));
+    }
+    Source::File(file.to_string_lossy().into_owned()).bytes(Path::new("")).map_err(End::Failed)
 }
 
 fn track_word(word: &str) -> Done<usize> {
@@ -253,7 +274,7 @@ fn export(words: &[String]) -> Done<bool> {
             }
         }
     }
-    write_file(Path::new(file), &tap::write(&objects))?;
+    write_file(Path::new(file), &tap::write(&objects)).map_err(End::Failed)?;
     println!("{} objects of track {number} written to {file}, {lost} left out", objects.len());
     Ok(lost == 0)
 }

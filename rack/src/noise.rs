@@ -1,8 +1,10 @@
 //! A link with faults: it stands between a host and a board, breaks, changes bytes on their way, and loses data.
 
 use crate::board::{Heard, Hearing, Link, Trouble, IMAGE_MOST};
-use crate::faults::{Chance, Words};
+use crate::faults::{listed, Chance};
+use crate::host::ACK;
 use ctc_words::interface::Store;
+use ctc_words::statement::{Words, Wrong};
 use std::fmt;
 
 /// The operation of a store that reads.
@@ -29,41 +31,38 @@ pub enum LinkFault {
 impl fmt::Display for LinkFault {
     fn fmt(&self, to: &mut fmt::Formatter) -> fmt::Result {
         match self {
-            LinkFault::Parity { write, byte } => write!(to, "parity write {write} byte {byte}"),
+            LinkFault::Parity { write, byte } => write!(to, "parity write {write} place {byte}"),
             LinkFault::RunsOut { write, after } => write!(to, "runs-out write {write} after {after}"),
-            LinkFault::ShortSpace { read, bytes } => write!(to, "short-space read {read} bytes {bytes}"),
+            LinkFault::ShortSpace { read, bytes } => write!(to, "short-space read {read} space {bytes}"),
             LinkFault::Breaks { exchange } => write!(to, "breaks exchange {exchange}"),
-            LinkFault::Changed { exchange, byte } => write!(to, "changed exchange {exchange} byte {byte}"),
+            LinkFault::Changed { exchange, byte } => write!(to, "changed exchange {exchange} byte {byte:02X}"),
         }
     }
 }
 
 impl LinkFault {
-    pub fn parse(words: &mut Words) -> Result<LinkFault, String> {
-        let kind = words.wanted("the kind of fault")?;
+    pub fn parse(words: &mut Words) -> Result<LinkFault, Wrong> {
+        const KINDS: [&str; 5] = ["parity", "runs-out", "short-space", "breaks", "changed"];
+        let Some(kind) = words.peek().filter(|kind| KINDS.contains(kind)) else {
+            return words.other(&format!("a fault of a job's link is {}", listed(&KINDS)));
+        };
+        words.need(kind)?;
         let most = 1_000_000_000;
         let fault = match kind {
-            "parity" => LinkFault::Parity {
-                write: words.named("write", 1, most)? as usize,
-                byte: words.named("byte", 0, 65_790)? as usize,
-            },
-            "runs-out" => LinkFault::RunsOut {
-                write: words.named("write", 1, most)? as usize,
-                after: words.named("after", 0, 65_790)? as usize,
-            },
-            "short-space" => LinkFault::ShortSpace {
-                read: words.named("read", 1, most)? as usize,
-                bytes: words.named("bytes", 0, 65_534)? as usize,
-            },
-            "breaks" => LinkFault::Breaks { exchange: words.named("exchange", 1, most)? as usize },
-            "changed" => LinkFault::Changed {
-                exchange: words.named("exchange", 1, most)? as usize,
-                byte: words.named("byte", 0, 255)? as u8,
-            },
+            "parity" => {
+                LinkFault::Parity { write: words.named("write", 1, most)?, byte: words.named("place", 0, 65_790)? }
+            }
+            "runs-out" => {
+                LinkFault::RunsOut { write: words.named("write", 1, most)?, after: words.named("after", 0, 65_790)? }
+            }
+            "short-space" => {
+                LinkFault::ShortSpace { read: words.named("read", 1, most)?, bytes: words.named("space", 0, 65_534)? }
+            }
+            "breaks" => LinkFault::Breaks { exchange: words.named("exchange", 1, most)? },
             _ => {
-                return Err(format!(
-                    "'{kind}' is no fault of a job's link; there are parity, runs-out, short-space, breaks and changed"
-                ))
+                let exchange = words.named("exchange", 1, most)?;
+                words.need("byte")?;
+                LinkFault::Changed { exchange, byte: words.hex("byte", Some(1))?[0] }
             }
         };
         words.end()?;
@@ -105,6 +104,11 @@ pub struct Noisy<L: Link> {
     pub link: L,
     lines: [Line; 4],
     job: usize,
+    /// How many bytes of the string that is said were changed.
+    changed: u32,
+    /// Strings that two changed bytes made others, which fit their check byte too: the controller did what nobody
+    /// meant.
+    pub mistaken: u32,
 }
 
 impl<L: Link> Noisy<L> {
@@ -118,7 +122,7 @@ impl<L: Link> Noisy<L> {
             exchanges: 0,
             by_chance: 0,
         };
-        Noisy { link, lines: [line(0), line(1), line(2), line(3)], job: 0 }
+        Noisy { link, lines: [line(0), line(1), line(2), line(3)], job: 0, changed: 0, mistaken: 0 }
     }
 
     pub fn set(&mut self, job: usize, faults: &[LinkFault], chances: LinkChances) {
@@ -201,8 +205,15 @@ impl<L: Link> Link for Noisy<L> {
         let hearing = match self.fate(byte) {
             Fate::Comes => self.link.byte(byte),
             Fate::Breaks => self.link.break_off(),
-            Fate::Changed(other) => self.link.byte(other),
+            Fate::Changed(other) => {
+                self.changed += 1;
+                self.link.byte(other)
+            }
         };
+        if hearing != Ok(Heard::Nothing) {
+            self.mistaken += u32::from(self.changed >= 2 && hearing == Ok(Heard::Byte(ACK)));
+            self.changed = 0;
+        }
         self.to_host(hearing)
     }
 
@@ -216,6 +227,7 @@ impl<L: Link> Link for Noisy<L> {
     }
 
     fn break_off(&mut self) -> Hearing {
+        self.changed = 0;
         self.link.break_off()
     }
 

@@ -120,6 +120,7 @@ pub fn run(setup: Setup, progress: &mut dyn FnMut(u64, &Board)) -> Ran {
     let tasks = jobs.into_iter().map(|job| Task::new(job, wrongs.host)).collect();
     let mut rack = Rack { host, tasks, broken: None, handed: 0, progress };
     rack.run(&mut Chance::new(seed ^ 0xD15B_A7C4));
+    rack.host.link.link.rest();
     let jobs = rack.tasks.into_iter().map(|task| Ended { job: task.job, ledger: task.ledger }).collect();
     Ran { host: rack.host, jobs, handed: rack.handed, broken: rack.broken }
 }
@@ -153,8 +154,9 @@ impl Rack<'_> {
         for task in 0..self.tasks.len() {
             self.go_on(task);
         }
+        let mut steps: Vec<Step> = Vec::new();
         while self.broken.is_none() {
-            let mut steps: Vec<Step> = Vec::new();
+            steps.clear();
             for (index, task) in self.tasks.iter().enumerate() {
                 if !task.waiting.is_empty() {
                     steps.push(Step::Queue(index));
@@ -167,7 +169,8 @@ impl Rack<'_> {
                 return;
             }
             if chance.below(16) == 0 {
-                steps = vec![Step::Tick];
+                steps.clear();
+                steps.push(Step::Tick);
             }
             let picked = chance.below(steps.len() as u64) as usize;
             match steps.swap_remove(picked) {

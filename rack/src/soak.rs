@@ -195,25 +195,72 @@ pub fn scenario(seed: u64, alone: Option<u8>) -> Setup {
     }
 }
 
-/// What the commands that were done put on each track: records, and marks as none.
-fn expected(ledger: &Ledger) -> [Vec<Option<Vec<u8>>>; 4] {
-    let mut tracks: [Vec<Option<Vec<u8>>>; 4] = Default::default();
+/// What lies on a track: records, and marks as none.
+type Objects = Vec<Option<Vec<u8>>>;
+
+/// What a command puts on its track.
+fn objects(command: &Command) -> Objects {
+    match command {
+        Command::Write { bytes, .. } if bytes.is_empty() => vec![Some(Vec::new())],
+        Command::Write { bytes, count, .. } => bytes.chunks(*count).map(|part| Some(part.to_vec())).collect(),
+        Command::WriteMarks(marks) => vec![None; *marks],
+        _ => Vec::new(),
+    }
+}
+
+/// What the commands that were done put on each track.
+fn expected(ledger: &Ledger) -> [Objects; 4] {
+    let mut tracks: [Objects; 4] = Default::default();
     let mut track = 0;
     for (command, outcome) in &ledger.outcomes {
         if matches!(outcome, Outcome::Stopped(_)) {
             break;
         }
-        match command {
-            Command::Track(number) => track = usize::from(*number),
-            Command::Write { bytes, .. } if bytes.is_empty() => tracks[track].push(Some(Vec::new())),
-            Command::Write { bytes, count, .. } => {
-                tracks[track].extend(bytes.chunks(*count).map(|part| Some(part.to_vec())))
-            }
-            Command::WriteMarks(marks) => tracks[track].extend(std::iter::repeat_n(None, *marks)),
-            _ => {}
+        if let Command::Track(number) = command {
+            track = usize::from(*number);
         }
+        tracks[track].extend(objects(command));
     }
     tracks
+}
+
+/// Where a job ended early: its track, what that command would have put there, and the driver's words.
+fn stop(ledger: &Ledger) -> Option<(usize, Objects, &str)> {
+    let mut track = 0;
+    for (command, outcome) in &ledger.outcomes {
+        if let Command::Track(number) = command {
+            track = usize::from(*number);
+        }
+        if let Outcome::Stopped(why) = outcome {
+            return Some((track, objects(command), why));
+        }
+    }
+    None
+}
+
+/// Why what lies on a track is not what its job says: all of what was done, in its order, and nothing else. A command
+/// that was stopped may have done its beginning. Only a driver that says so leaves more behind: a try that it could not
+/// erase.
+fn unlike(
+    number: usize,
+    track: &Track,
+    done: &[Option<Vec<u8>>],
+    stopped: &Option<(usize, Objects, &str)>,
+) -> Option<String> {
+    let there = on_tape(track);
+    let same = there.iter().zip(done).take_while(|(one, other)| one == other).count();
+    let (begun, told) = match stopped {
+        Some((at, begun, why)) if *at == number => (&begun[..], why.ends_with("is not erased")),
+        _ => (&[][..], false),
+    };
+    let more = &there[same..];
+    let good = more.iter().zip(begun).take_while(|(one, other)| one == other).count();
+    if same < done.len() || more.len() > good + usize::from(told) {
+        let (held, written) = (there.len(), done.len());
+        return Some(format!("track {number} holds {held} objects, and {written} were written; unlike from {same}"));
+    }
+    let scraps = track.segments.iter().filter(|segment| segment.what == What::Scrap).count();
+    (scraps > 0 && !told).then(|| format!("{scraps} scraps are left on track {number}"))
 }
 
 /// The bytes of a record as its image has them, without the checks.
@@ -222,7 +269,7 @@ fn payload(image: &[u8]) -> Vec<u8> {
     image[2..2 + count].to_vec()
 }
 
-fn on_tape(track: &Track) -> Vec<Option<Vec<u8>>> {
+fn on_tape(track: &Track) -> Objects {
     let objects = track.segments.iter().filter_map(|segment| match &segment.what {
         What::Record { image, .. } => Some(Some(payload(image))),
         What::Mark => Some(None),
@@ -318,21 +365,9 @@ pub fn judge(ran: &Ran) -> Vec<String> {
         }
         // what is said to be written is on the tape
         if let Some(cartridge) = transport.cartridge() {
-            for (number, track) in cartridge.tracks.iter().enumerate() {
-                let there = on_tape(track);
-                let good = match stopped {
-                    true => there.starts_with(&tracks[number]),
-                    false => there == tracks[number],
-                };
-                if !good {
-                    let place = there.iter().zip(&tracks[number]).take_while(|(one, other)| one == other).count();
-                    wrong.push(told(format!(
-                        "track {number} holds {} objects, and {} were written; unlike from {place}",
-                        there.len(),
-                        tracks[number].len()
-                    )));
-                }
-            }
+            let at = stop(&ledger);
+            let tracks = cartridge.tracks.iter().zip(&tracks).enumerate();
+            wrong.extend(tracks.filter_map(|(number, (track, done))| unlike(number, track, done, &at)).map(told));
         }
         // what is filed is what was written
         let mut lost = 0;
@@ -424,17 +459,18 @@ fn unneeded_stop(ledger: &Ledger, transport: &Transport, link: u32) -> Option<St
     let by_chance: u32 = transport.by_chance.iter().sum();
     let faults = link + by_chance + transport.faults().iter().map(|met| met.times).sum::<u32>();
     let protected = transport.cartridge().is_some_and(|cartridge| cartridge.protected);
-    let known = match why.as_str() {
+    let known = match why.split(';').next().unwrap_or_default() {
         "the tape is gone" => !transport.is_installed(),
         "the tape is protected" => protected,
         "the tape has no more room" => true,
         // only faults keep a record from being written
-        _ => why.starts_with("not written in") && faults > 0,
+        why => why.starts_with("not written in") && faults > 0,
     };
     (!known).then(|| format!("stopped: {why} ({command:.40?})"))
 }
 
-/// Whether each drive was given the same orders and images, and delivered the same bytes, as it is alone.
+/// Whether each drive was given the same orders and images, and delivered the same bytes, as it is alone. A string that
+/// the link made another one may be a reset, which is meant for all drives: such a run says nothing of this.
 pub fn separate(seed: u64, wrongs: Wrongs) -> Vec<String> {
     let mut together = scenario(seed, None);
     together.damages.clear();
@@ -442,6 +478,9 @@ pub fn separate(seed: u64, wrongs: Wrongs) -> Vec<String> {
     together.wrongs = wrongs;
     let together = run(together, &mut |_, _| {});
     let mut wrong = Vec::new();
+    if together.host.link.mistaken > 0 {
+        return wrong;
+    }
     for drive in 0..DRIVES {
         let mut alone = scenario(seed, Some(drive as u8));
         alone.wrongs = wrongs;

@@ -7,6 +7,13 @@ use ctc_words::names::{name, Kind};
 use ctc_words::status;
 use std::collections::VecDeque;
 
+/// The order byte of a read with a supplied count, which the order brings.
+const READ_SUPPLIED: u8 = 0x80;
+
+/// The lead bytes of two strings that the controller sends; a third answers a load.
+const SECONDARY_UPDATE: u8 = 0x68;
+const INTERRUPT: u8 = 0x69;
+
 /// Where an entry stands.
 #[derive(Clone, Copy, Debug, PartialEq, Eq)]
 pub enum Lane {
@@ -25,6 +32,10 @@ pub enum Sort {
     Ended,
     /// What the host does about it.
     Recovery,
+    /// What it says is lost.
+    Lost,
+    /// A call that the controller turned back.
+    Refused,
     Restart,
 }
 
@@ -36,7 +47,9 @@ impl Sort {
             Sort::Result => "result",
             Sort::Report => "report",
             Sort::Ended => "ended",
-            Sort::Recovery => "host",
+            Sort::Recovery => "recovery",
+            Sort::Lost => "lost",
+            Sort::Refused => "refused",
             Sort::Restart => "restart",
         }
     }
@@ -46,11 +59,38 @@ impl Sort {
 pub struct Entry {
     /// The number of the call, from 1.
     pub time: usize,
+    /// The turn: what one store did, or what a job queued.
+    pub turn: usize,
     pub lane: Lane,
+    /// The drive that it is about; none where it is about all.
+    pub about: Option<u8>,
     pub sort: Sort,
     pub words: String,
     /// What one reads where one points: status words in words.
     pub more: String,
+}
+
+impl Entry {
+    /// Whether a result or the end of a store is not code 00, or something is lost or refused.
+    pub fn is_bad(&self) -> bool {
+        match self.sort {
+            Sort::Result | Sort::Ended => !self.words.contains("code 00"),
+            sort => matches!(sort, Sort::Lost | Sort::Refused),
+        }
+    }
+
+    /// Whether it tells that not all was well.
+    pub fn is_told(&self) -> bool {
+        self.is_bad() || matches!(self.sort, Sort::Recovery | Sort::Restart)
+    }
+
+    /// Whether it stands in the story of a drive.
+    pub fn is_of(&self, drive: u8) -> bool {
+        match self.lane {
+            Lane::Drive(other) => other == drive,
+            Lane::Host => self.about.is_none_or(|other| other == drive),
+        }
+    }
 }
 
 fn text(put: impl FnOnce(&mut Vec<u8>)) -> String {
@@ -63,29 +103,50 @@ fn code_words(code: u8) -> String {
     text(|out| status::put_code(code, out))
 }
 
-fn hex(bytes: &[u8]) -> String {
+pub fn hex(bytes: &[u8]) -> String {
     bytes.iter().map(|byte| format!("{byte:02X}")).collect()
 }
 
+/// A motion order in words.
+pub fn order_words(six: [u8; 6]) -> String {
+    format!("{}, track {}, {}", name(Kind::Order, six[0]), six[2], name(Kind::Density, six[3]))
+}
+
 fn store_words(store: &Store) -> String {
-    // every store of a job asks an interrupt
-    text(|out| ctc_words::explain::put_store(store, out)).replace(", asks an interrupt", "")
+    // every store of a job asks an interrupt, and its drive is told by its lane or its job
+    let drive = store.drive().map_or(String::new(), |drive| format!(", drive {drive}"));
+    text(|out| ctc_words::explain::put_store(store, out)).replace(", asks an interrupt", "").replace(&drive, "")
 }
 
 /// All entries of a run.
 pub fn tell(events: &[Event]) -> Vec<Entry> {
-    let mut story =
-        Story { entries: Vec::new(), time: 0, drive: None, handed: None, queues: Default::default(), last: 3 };
+    let mut story = Story {
+        entries: Vec::new(),
+        time: 0,
+        turn: 0,
+        queueing: None,
+        drive: None,
+        heard: [0; 4],
+        handed: None,
+        queues: Default::default(),
+        last: 3,
+    };
     for event in events {
         match event {
             Event::Note { drive, text } => {
                 let lane = drive.map_or(Lane::Host, Lane::Drive);
-                story.put(lane, Sort::Recovery, text.clone(), String::new());
+                let (sort, text) = match text.strip_prefix("lost: ") {
+                    Some(rest) => (Sort::Lost, rest),
+                    None => (Sort::Recovery, text.as_str()),
+                };
+                story.put(lane, sort, text.to_string(), String::new());
             }
             Event::Restart => {
                 let words = "the controller's memory is damaged: it is started anew".to_string();
                 let more =
                     "every call is refused with 1: the bytes are no state, or a field is out of range".to_string();
+                story.turn += 1;
+                story.handed = None;
                 story.put(Lane::Host, Sort::Restart, words, more);
                 story.queues = Default::default();
                 story.last = 3;
@@ -99,8 +160,13 @@ pub fn tell(events: &[Event]) -> Vec<Entry> {
 struct Story {
     entries: Vec<Entry>,
     time: usize,
+    turn: usize,
+    /// The job that queues its stores in this turn.
+    queueing: Option<u8>,
     /// The drive of the last order.
     drive: Option<u8>,
+    /// The last four bytes that came: the string of a load, where it is answered.
+    heard: [u8; 4],
     /// The store that was handed over, and the queues that it came from.
     handed: Option<Store>,
     queues: [VecDeque<Store>; 4],
@@ -109,15 +175,42 @@ struct Story {
 
 impl Story {
     fn put(&mut self, lane: Lane, sort: Sort, words: String, more: String) {
-        self.entries.push(Entry { time: self.time, lane, sort, words, more });
+        let about = match lane {
+            Lane::Drive(drive) => Some(drive),
+            Lane::Host => self.about(),
+        };
+        self.entries.push(Entry { time: self.time, turn: self.turn, lane, about, sort, words, more });
+    }
+
+    /// The drive of what is on the link: a job has it until it has what it needs of the store that was handed over.
+    fn about(&self) -> Option<u8> {
+        self.handed.and_then(|store| store.drive())
+    }
+
+    /// A turn begins where a store is handed over, and where another job queues.
+    fn begin(&mut self, call: &Call) {
+        let queueing = match call {
+            Call::Queue { job, .. } => Some(*job),
+            _ => None,
+        };
+        if matches!(call, Call::Hand) || queueing.is_some() && queueing != self.queueing {
+            self.turn += 1;
+        }
+        if !matches!(call, Call::Tick) {
+            self.queueing = queueing;
+        }
     }
 
     fn call(&mut self, call: &Call, answered: &Answered, bytes: &[u8]) {
         self.time += 1;
+        self.begin(call);
         match call {
             Call::Queue { job, store } => {
                 let words = format!("job {job} queues {}", store_words(store));
-                self.put(Lane::Host, Sort::Link, words, format!("{:02X} {}", store.address, hex(&store.operand)));
+                let more = format!("store, address {:02X}, operand {}", store.address, hex(&store.operand));
+                let handed = self.handed.replace(*store);
+                self.put(Lane::Host, Sort::Link, words, more);
+                self.handed = handed;
                 self.queues[usize::from(*job) & 3].push_back(*store);
             }
             Call::Hand => {
@@ -142,13 +235,17 @@ impl Story {
             Call::Result { code, mark, late, image, marks, .. } => {
                 self.result(*code, *mark, *late, image, marks, bytes.len());
             }
-            Call::Byte(_) | Call::Taken | Call::Tick => {}
+            Call::Byte(byte) => {
+                self.heard.rotate_left(1);
+                self.heard[3] = *byte;
+            }
+            Call::Taken | Call::Tick => {}
         }
         match answered {
             Ok(answer) => self.answer(call, answer),
             Err(refusal) => {
-                let words = format!("refused with {}: {}", refusal.0, name(Kind::Refusal, refusal.0));
-                self.put(Lane::Host, Sort::Link, words, String::new());
+                let words = format!("with {}: {}", refusal.0, name(Kind::Refusal, refusal.0));
+                self.put(Lane::Host, Sort::Refused, words, String::new());
             }
         }
     }
@@ -191,13 +288,15 @@ impl Story {
                 }
                 _ => (Lane::Host, String::new()),
             };
-            let mut words = before
-                + &text(|out| {
-                    status::put_code(settled.code, out);
+            let mut words = before + &code_words(settled.code);
+            // a store that moves nothing has no motion and no count of its own
+            if self.drive.is_some() {
+                words += &text(|out| {
                     out.extend(b"; ");
                     status::put_motion(settled.motion, out);
                 });
-            words += &format!("; count {}", settled.count);
+                words += &format!("; count {}", settled.count);
+            }
             // a result that ends as it was reported is told by itself
             let again = matches!(call, Call::Result { code, .. } if *code == settled.code);
             if !again {
@@ -207,19 +306,23 @@ impl Story {
         match answer.action {
             Action::Order(six) => {
                 self.drive = Some(six[1]);
-                let density = name(Kind::Density, six[3]);
-                let words = format!("{}, track {}, {density}", name(Kind::Order, six[0]), six[2]);
+                let mut words = order_words(six);
+                if six[0] == READ_SUPPLIED {
+                    words += &format!(", count {}", u16::from_be_bytes([six[4], six[5]]));
+                }
                 self.put(Lane::Drive(six[1]), Sort::Order, words, format!("order {}", hex(&six)));
             }
             Action::Send(six) => {
                 let word = u32::from_be_bytes([six[1], six[2], six[3], six[4]]);
                 let (words, load) = match six[0] {
-                    0x69 => ("interrupt", 1),
-                    0x68 => ("count", 2),
-                    _ => ("reply to a load", 0),
+                    INTERRUPT => ("interrupt".to_string(), 1),
+                    SECONDARY_UPDATE => ("count".to_string(), 2),
+                    _ => {
+                        let load = self.heard[1] >> 4;
+                        (format!("load {}:", name(Kind::Load, load)), load)
+                    }
                 };
-                let more = if load == 0 { String::new() } else { status::words(load, word) };
-                self.put(Lane::Host, Sort::Link, format!("{words} {word:08X}"), more);
+                self.put(Lane::Host, Sort::Link, format!("{words} {word:08X}"), status::words(load, word));
             }
             Action::Offer(0x47) => self.put(Lane::Host, Sort::Link, "GO".to_string(), String::new()),
             Action::Offer(0x15) => self.put(Lane::Host, Sort::Link, "NACK".to_string(), String::new()),

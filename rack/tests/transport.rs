@@ -170,7 +170,7 @@ fn a_tape_is_written_read_and_wound() {
         assert_eq!(*answer.reports.last().unwrap(), transport.report());
         for count in [600, 0, 5] {
             let answer = transport.carry_out(order(0x40, density), &[]);
-            assert_eq!((answer.code, answer.image), (0, image(count, density, count as u8)));
+            assert_eq!((answer.code, answer.image.to_vec()), (0, image(count, density, count as u8)));
         }
         assert!(transport.carry_out(order(0x40, density), &[]).mark);
         // nothing more within 25 inches
@@ -179,7 +179,7 @@ fn a_tape_is_written_read_and_wound() {
         assert!(transport.carry_out(order(0x22, density), &[]).mark);
         assert!(transport.carry_out(order(0x21, density), &[]).mark);
         let answer = transport.carry_out(order(0x21, density), &[]);
-        assert_eq!(answer.image, if density == GCR { vec![0x80, 0x02] } else { vec![] });
+        assert_eq!(answer.image.to_vec(), if density == GCR { vec![0x80, 0x02] } else { vec![] });
         // with the other density selected a record is not recognized
         assert_eq!(transport.carry_out(order(0x40, 1 - density), &[]).code, 0xD);
         assert_eq!(transport.carry_out(order(0x11, density), &[]).code, 0);
@@ -238,7 +238,7 @@ fn a_supplied_count_reads_a_torn_record_and_the_end_of_one() {
     transport.carry_out(order(0x50, GCR), &written);
     transport.carry_out(order(0x21, GCR), &[]);
     assert_eq!(transport.carry_out(order(0x40, GCR), &[]).code, 0xE);
-    assert_eq!(transport.carry_out(order(0x21, GCR), &[]).image, [0x01, 0xF4]);
+    assert_eq!(transport.carry_out(order(0x21, GCR), &[]).image[..], [0x01, 0xF4]);
     for (count, first) in [(1000, 0), (1000 - 256, 1), (1000 - 768, 3)] {
         let answer = transport.carry_out(Order { operand: count, ..order(0x80, GCR) }, &[]);
         assert_eq!(answer.code, 0);
@@ -263,7 +263,7 @@ fn a_gap_in_a_record_is_passed_with_it() {
     for operation in [0x40, 0x20, 0x80] {
         let answer = transport.carry_out(Order { operand: 1000, ..order(operation, GCR) }, &[]);
         assert_eq!((answer.code, answer.image.len(), answer.marks.len()), (0xA, 0, 0), "{operation:02X}");
-        assert_eq!(transport.carry_out(order(0x21, GCR), &[]).image, [0x01, 0xF4]);
+        assert_eq!(transport.carry_out(order(0x21, GCR), &[]).image[..], [0x01, 0xF4]);
     }
     // a search stops at it too, and goes on from behind it; the fifth time it is not found any more
     assert_eq!(transport.carry_out(order(0x22, GCR), &[]).code, 0xA);

@@ -1,18 +1,15 @@
-//! The controller and the records, called through include/ctc_controller.h and include/ctc_records.h. What the proved
-//! functions promise of a state, an answer and a lent space is what makes the calls below safe.
+//! The controller, called through include/ctc_controller.h, and the records beside it. What the proved functions
+//! promise of a state, an answer and a lent space is what makes the calls below safe.
 
-use std::ptr;
+pub use crate::records::{
+    build, image_count, image_length, mark_count, merge, restore, verify, Refusal, Unfit,
+    COUNT_LIMIT, NO_PLACE,
+};
+use crate::records::{pointer, pointer_mut};
 
 pub const STATE_LENGTH: usize = 224;
 pub const ANSWER_LENGTH: usize = 16;
 pub const CHECK_LENGTH: usize = 512;
-/// The place that says that no byte came with bad parity.
-pub const NO_PLACE: u64 = 65_791;
-/// The most bytes of a record.
-pub const COUNT_LIMIT: usize = 65_535;
-/// What ctc_verify tells beside refusals.
-const UNFIT_EVEN: u32 = 32;
-const UNFIT_ODD: u32 = 64;
 
 mod c {
     #[link(name = "firmware", kind = "static")]
@@ -61,44 +58,6 @@ mod c {
             answer: *mut u8,
         ) -> u32;
         pub fn ctc_hand(state: *mut u8, answer: *mut u8) -> u32;
-    }
-
-    #[link(name = "records", kind = "static")]
-    extern "C" {
-        pub fn ctc_build(
-            bytes: *const u8,
-            bytes_len: u64,
-            density: u8,
-            place: u64,
-            image: *mut u8,
-            image_len: u64,
-        ) -> u32;
-        pub fn ctc_restore(
-            image: *const u8,
-            image_len: u64,
-            marks: *const u8,
-            marks_len: u64,
-            out: *mut u8,
-            out_len: u64,
-        ) -> u32;
-        pub fn ctc_merge(
-            first: *const u8,
-            first_len: u64,
-            first_marks: *const u8,
-            first_marks_len: u64,
-            second: *const u8,
-            second_len: u64,
-            second_marks: *const u8,
-            second_marks_len: u64,
-            image: *mut u8,
-            image_len: u64,
-            marks: *mut u8,
-            marks_len: u64,
-        ) -> u32;
-        pub fn ctc_verify(image: *const u8, image_len: u64) -> u32;
-        pub fn ctc_image_length(count: u64, density: u8) -> u64;
-        pub fn ctc_mark_count(count: u64, density: u8) -> u64;
-        pub fn ctc_image_count(image: *const u8, image_len: u64) -> u64;
     }
 }
 
@@ -181,10 +140,6 @@ impl Answer {
     }
 }
 
-/// The number of a refusal.
-#[derive(Clone, Copy, Debug, PartialEq, Eq)]
-pub struct Refusal(pub u8);
-
 pub type Answered = Result<Answer, Refusal>;
 
 /// What the controller waits for, with what is in hand, as the bytes of the state have it.
@@ -249,23 +204,6 @@ pub struct Controller {
 impl Default for Controller {
     fn default() -> Controller {
         Controller::fresh()
-    }
-}
-
-/// A pointer to what is handed over with its length.
-fn pointer(bytes: &[u8]) -> *const u8 {
-    if bytes.is_empty() {
-        ptr::null()
-    } else {
-        bytes.as_ptr()
-    }
-}
-
-fn pointer_mut(bytes: &mut [u8]) -> *mut u8 {
-    if bytes.is_empty() {
-        ptr::null_mut()
-    } else {
-        bytes.as_mut_ptr()
     }
 }
 
@@ -484,100 +422,4 @@ pub struct Outcome<'a> {
     pub late: u8,
     pub image: &'a [u8],
     pub marks: &'a [u8],
-}
-
-/// The image of a record, none where it is too long for one.
-pub fn build(bytes: &[u8], density: u8) -> Option<Vec<u8>> {
-    let mut image = vec![0; image_length(bytes.len(), density)?];
-    let refusal = unsafe {
-        c::ctc_build(
-            pointer(bytes),
-            bytes.len() as u64,
-            density,
-            NO_PLACE,
-            image.as_mut_ptr(),
-            image.len() as u64,
-        )
-    };
-    (refusal == 0).then_some(image)
-}
-
-/// The length of the image of so many bytes, none where there is no such record.
-pub fn image_length(count: usize, density: u8) -> Option<usize> {
-    let length = unsafe { c::ctc_image_length(count as u64, density) };
-    (length != 0).then_some(length as usize)
-}
-
-pub fn mark_count(count: usize, density: u8) -> usize {
-    (unsafe { c::ctc_mark_count(count as u64, density) }) as usize
-}
-
-/// The count that the first two bytes of an image say.
-pub fn image_count(image: &[u8]) -> Option<u16> {
-    let count = unsafe { c::ctc_image_count(pointer(image), image.len() as u64) };
-    u16::try_from(count).ok()
-}
-
-/// The bytes of a record, from its GCR image and marks.
-pub fn restore(image: &[u8], marks: &[u8]) -> Result<Vec<u8>, Refusal> {
-    let mut out = vec![0; usize::from(image_count(image).unwrap_or(0))];
-    let refusal = unsafe {
-        c::ctc_restore(
-            pointer(image),
-            image.len() as u64,
-            pointer(marks),
-            marks.len() as u64,
-            pointer_mut(&mut out),
-            out.len() as u64,
-        )
-    };
-    match refusal {
-        0 => Ok(out),
-        refusal => Err(Refusal(refusal as u8)),
-    }
-}
-
-/// Which check blockettes do not fit the data of their parity.
-#[derive(Clone, Copy, Debug, PartialEq, Eq)]
-pub struct Unfit {
-    pub even: bool,
-    pub odd: bool,
-}
-
-/// Holds the data of a GCR image to its check blockettes.
-pub fn verify(image: &[u8]) -> Result<Unfit, Refusal> {
-    let told = unsafe { c::ctc_verify(pointer(image), image.len() as u64) };
-    match told & !(UNFIT_EVEN | UNFIT_ODD) {
-        0 => Ok(Unfit {
-            even: told & UNFIT_EVEN != 0,
-            odd: told & UNFIT_ODD != 0,
-        }),
-        refusal => Err(Refusal(refusal as u8)),
-    }
-}
-
-/// One image with its marks, out of two passes over a record.
-pub fn merge(first: (&[u8], &[u8]), second: (&[u8], &[u8])) -> Result<(Vec<u8>, Vec<u8>), Refusal> {
-    let mut image = vec![0; first.0.len()];
-    let mut marks = vec![0; first.1.len()];
-    let refusal = unsafe {
-        c::ctc_merge(
-            pointer(first.0),
-            first.0.len() as u64,
-            pointer(first.1),
-            first.1.len() as u64,
-            pointer(second.0),
-            second.0.len() as u64,
-            pointer(second.1),
-            second.1.len() as u64,
-            pointer_mut(&mut image),
-            image.len() as u64,
-            pointer_mut(&mut marks),
-            marks.len() as u64,
-        )
-    };
-    match refusal {
-        0 => Ok((image, marks)),
-        refusal => Err(Refusal(refusal as u8)),
-    }
 }

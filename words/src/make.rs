@@ -7,7 +7,6 @@ use crate::line::{put_line, Buffers, Line, Player, Program, HOST_LIMIT, IMAGE_LI
 use crate::names::{name, Kind};
 use crate::statement::{read, Brings, ResultWords, Said, Source, Spoiled, Statement, Wrong};
 use crate::status::put_code;
-use std::fs;
 use std::path::{Path, PathBuf};
 
 const ACK: u8 = 0x06;
@@ -310,23 +309,15 @@ impl Made {
     /// The bytes of a source.
     fn bytes(&self, said: &Said, source: &Source, most: usize) -> Result<Vec<u8>, Wrong> {
         let column = said.source_column;
-        let (bytes, of) = match source {
-            Source::Bytes(bytes) => (bytes.clone(), "these are".to_string()),
-            Source::File(file) => match fs::read(self.folder.join(file)) {
-                Ok(bytes) => (bytes, format!("{file} has")),
-                Err(error) => {
-                    let path = self.folder.join(file);
-                    let what = match error.kind() {
-                        std::io::ErrorKind::NotFound => format!("{} is not there", path.display()),
-                        _ => format!("{} cannot be read: {error}", path.display()),
-                    };
-                    return Err(Wrong { column, what });
-                }
-            },
-        };
+        let wrong = |what| Wrong { column, what };
+        let bytes = source.bytes(&self.folder).map_err(wrong)?;
         if bytes.len() > most {
+            let of = match source {
+                Source::Bytes(_) => "these are".to_string(),
+                Source::File(file) => format!("{file} has"),
+            };
             let what = format!("{of} {} bytes, and a line holds {most}", bytes.len());
-            return Err(Wrong { column, what });
+            return Err(wrong(what));
         }
         Ok(bytes)
     }

@@ -3,6 +3,8 @@
 use crate::interface::Store;
 use crate::line::{hex, put_bytes, put_decimal, put_hex};
 use crate::names::{names, Kind, Name};
+use std::fs;
+use std::path::Path;
 
 /// Why a statement cannot be read or meant, and where.
 #[derive(Clone, Debug, PartialEq, Eq)]
@@ -17,6 +19,20 @@ pub struct Wrong {
 pub enum Source {
     Bytes(Vec<u8>),
     File(String),
+}
+
+impl Source {
+    /// Its bytes, or why it has none. A file is looked for in the folder.
+    pub fn bytes(&self, folder: &Path) -> Result<Vec<u8>, String> {
+        let file = match self {
+            Source::Bytes(bytes) => return Ok(bytes.clone()),
+            Source::File(file) => folder.join(file),
+        };
+        fs::read(&file).map_err(|error| match error.kind() {
+            std::io::ErrorKind::NotFound => format!("{} is not there", file.display()),
+            _ => format!("{} cannot be read: {error}", file.display()),
+        })
+    }
 }
 
 /// A bad blockette of a record: a data blockette or a check blockette, its number, its mark, and whether its bits are
@@ -83,6 +99,9 @@ pub struct Said {
     pub source_column: usize,
 }
 
+/// The words of the late flags 1, 2 and 3.
+pub const LATE: [&str; 3] = ["write", "read", "both"];
+
 /// The mark of a spoiled blockette for which none is named.
 const USUAL_MARK: u8 = 1;
 
@@ -92,10 +111,16 @@ struct Word<'a> {
     quoted: bool,
 }
 
-struct Words<'a> {
+/// The words of a line, taken one by one. Scenarios of the rack are read with them too.
+pub struct Words<'a> {
     list: Vec<Word<'a>>,
     at: usize,
     end: usize,
+}
+
+/// Whether a line is a comment.
+pub fn is_comment(line: &[u8]) -> bool {
+    line.first() == Some(&b'#')
 }
 
 fn split(line: &str) -> Result<Vec<Word<'_>>, Wrong> {
@@ -136,32 +161,80 @@ fn split(line: &str) -> Result<Vec<Word<'_>>, Wrong> {
 }
 
 impl<'a> Words<'a> {
-    fn peek(&self) -> Option<&'a str> {
+    /// The words of a line that is no comment, given without its #0A.
+    pub fn of(line: &'a [u8]) -> Result<Words<'a>, Wrong> {
+        let at = |column: usize, what: &str| Wrong {
+            column,
+            what: what.to_string(),
+        };
+        if line.ends_with(b"\r") {
+            return Err(at(
+                line.len(),
+                "the line ends with CR: save the file with LF ends",
+            ));
+        }
+        let text = std::str::from_utf8(line)
+            .map_err(|error| at(error.valid_up_to() + 1, "no text: it is not UTF-8"))?;
+        Ok(Words {
+            list: split(text)?,
+            at: 0,
+            end: text.len() + 1,
+        })
+    }
+
+    pub fn is_done(&self) -> bool {
+        self.at == self.list.len()
+    }
+
+    /// The next word; none where it is quoted.
+    pub fn peek(&self) -> Option<&'a str> {
         self.list
             .get(self.at)
             .filter(|word| !word.quoted)
             .map(|word| word.text)
     }
 
-    fn column(&self) -> usize {
+    pub fn column(&self) -> usize {
         self.list.get(self.at).map_or(self.end, |word| word.column)
     }
 
-    fn wrong<T>(&self, what: impl Into<String>) -> Result<T, Wrong> {
+    pub fn wrong<T>(&self, what: impl Into<String>) -> Result<T, Wrong> {
         Err(Wrong {
             column: self.column(),
             what: what.into(),
         })
     }
 
+    /// What stands here cannot be meant, and this may.
+    pub fn other<T>(&self, may: &str) -> Result<T, Wrong> {
+        match self.list.get(self.at) {
+            Some(word) => {
+                let text = shortened(word.text);
+                self.wrong(format!("'{text}' cannot stand here: {may}"))
+            }
+            None => self.wrong(format!("the line ends too soon: {may}")),
+        }
+    }
+
+    /// Nothing more stands in the line.
+    pub fn end(&self) -> Result<(), Wrong> {
+        match self.list.get(self.at) {
+            Some(word) if word.text.starts_with('#') && !word.quoted => {
+                self.wrong("a comment is a line of its own, with # at its start")
+            }
+            Some(word) => self.wrong(format!("'{}' says nothing here", shortened(word.text))),
+            None => Ok(()),
+        }
+    }
+
     /// Takes this word, if it comes next.
-    fn take(&mut self, word: &str) -> bool {
+    pub fn take(&mut self, word: &str) -> bool {
         let there = self.peek() == Some(word);
         self.at += usize::from(there);
         there
     }
 
-    fn need(&mut self, word: &str) -> Result<(), Wrong> {
+    pub fn need(&mut self, word: &str) -> Result<(), Wrong> {
         match self.take(word) {
             true => Ok(()),
             false => self.wrong(format!("the word '{word}' is missing here")),
@@ -169,7 +242,7 @@ impl<'a> Words<'a> {
     }
 
     /// The next word as it stands, or what is missing.
-    fn next(&mut self, what: &str) -> Result<&'a str, Wrong> {
+    pub fn next(&mut self, what: &str) -> Result<&'a str, Wrong> {
         match self.list.get(self.at) {
             Some(word) => {
                 self.at += 1;
@@ -179,19 +252,52 @@ impl<'a> Words<'a> {
         }
     }
 
-    fn number(&mut self, what: &str, most: usize) -> Result<usize, Wrong> {
+    pub fn number(&mut self, what: &str, most: usize) -> Result<usize, Wrong> {
+        self.number_in(what, 0, most)
+    }
+
+    pub fn number_in(&mut self, what: &str, least: usize, most: usize) -> Result<usize, Wrong> {
         let column = self.column();
         let text = self.next(what)?;
         match text.parse::<usize>() {
-            Ok(number) if number <= most && !text.starts_with('+') => Ok(number),
+            Ok(number) if (least..=most).contains(&number) && !text.starts_with('+') => Ok(number),
             _ => Err(Wrong {
                 column,
-                what: format!("{what} '{text}' is not 0 to {most}"),
+                what: format!("{what} '{text}' is not {least} to {most}"),
             }),
         }
     }
 
-    fn hex(&mut self, what: &str, length: Option<usize>) -> Result<Vec<u8>, Wrong> {
+    /// This word, and its number.
+    pub fn named(&mut self, word: &str, least: usize, most: usize) -> Result<usize, Wrong> {
+        self.need(word)?;
+        self.number_in(word, least, most)
+    }
+
+    /// `code HH`, or the name of a code; none where neither comes next.
+    pub fn code(&mut self) -> Result<Option<u8>, Wrong> {
+        if self.take("code") {
+            return Ok(Some(self.hex("code", Some(1))?[0]));
+        }
+        Ok(self.name(Kind::Code).map(|name| name.number as u8))
+    }
+
+    /// Late flags: `write`, `read`, `both`, or their number.
+    pub fn late(&mut self, most: usize) -> Result<u8, Wrong> {
+        for (flags, word) in (1..).zip(LATE) {
+            if self.take(word) {
+                return Ok(flags);
+            }
+        }
+        match self.peek() {
+            Some(word) if word.bytes().all(|byte| byte.is_ascii_digit()) => {
+                Ok(self.number("late", most)? as u8)
+            }
+            _ => self.other("the late flags are write, read or both"),
+        }
+    }
+
+    pub fn hex(&mut self, what: &str, length: Option<usize>) -> Result<Vec<u8>, Wrong> {
         let column = self.column();
         let text = self.next(what)?;
         let mut bytes = Vec::new();
@@ -214,14 +320,14 @@ impl<'a> Words<'a> {
     }
 
     /// The longest name of a kind that comes next.
-    fn name(&mut self, kind: Kind) -> Option<&'static Name> {
+    pub fn name(&mut self, kind: Kind) -> Option<&'static Name> {
         let texts: Vec<&str> = self.list[self.at..].iter().map(|word| word.text).collect();
         let name = names().leading(kind, &texts)?;
         self.at += name.words.split(' ').count();
         Some(name)
     }
 
-    fn source(&mut self, what: &str) -> Result<Source, Wrong> {
+    pub fn source(&mut self, what: &str) -> Result<Source, Wrong> {
         if self.take("bytes") {
             // no bytes at all have no digits
             if self
@@ -272,7 +378,7 @@ pub fn read(line: &[u8]) -> Result<Said, Wrong> {
         column: 1,
         source_column: 1,
     };
-    if line.first() == Some(&b'#') {
+    if is_comment(line) {
         return Ok(whole(Statement::Comment(line.to_vec())));
     }
     if let Some(rest) = line.strip_prefix(b"line") {
@@ -282,23 +388,7 @@ pub fn read(line: &[u8]) -> Result<Said, Wrong> {
             )));
         }
     }
-    let at = |column: usize, what: &str| Wrong {
-        column,
-        what: what.to_string(),
-    };
-    if line.ends_with(b"\r") {
-        return Err(at(
-            line.len(),
-            "the line ends with CR: save the file with LF ends",
-        ));
-    }
-    let text = std::str::from_utf8(line)
-        .map_err(|error| at(error.valid_up_to() + 1, "no text: it is not UTF-8"))?;
-    let mut words = Words {
-        list: split(text)?,
-        at: 0,
-        end: text.len() + 1,
-    };
+    let mut words = Words::of(line)?;
     if words.list.is_empty() {
         return Ok(whole(Statement::Nothing));
     }
@@ -311,10 +401,7 @@ pub fn read(line: &[u8]) -> Result<Said, Wrong> {
         source_column: column,
     };
     said.statement = statement(&mut words, &mut said.source_column)?;
-    if words.at < words.list.len() {
-        let text = shortened(words.list[words.at].text);
-        return words.wrong(format!("'{text}' says nothing here"));
-    }
+    words.end()?;
     let one_line = !matches!(
         said.statement,
         Statement::Store(..)
@@ -324,10 +411,11 @@ pub fn read(line: &[u8]) -> Result<Said, Wrong> {
             | Statement::Refuse
     );
     if refused && !one_line {
-        return Err(at(
+        return Err(Wrong {
             column,
-            "'refused' stands before a statement of one line, and this makes several",
-        ));
+            what: "'refused' stands before a statement of one line, and this makes several"
+                .to_string(),
+        });
     }
     Ok(said)
 }
@@ -388,8 +476,7 @@ fn statement(words: &mut Words, source_column: &mut usize) -> Result<Statement, 
         }
         "report" => {
             words.at += 1;
-            words.need("drive")?;
-            let drive = words.number("drive", 255)? as u8;
+            let drive = words.named("drive", 0, 255)? as u8;
             let mut report = 0;
             let mut any = words.take("nothing");
             while let Some(name) = words.name(Kind::Report) {
@@ -416,8 +503,7 @@ fn statement(words: &mut Words, source_column: &mut usize) -> Result<Statement, 
         }
         "queue" => {
             words.at += 1;
-            words.need("job")?;
-            let job = words.number("job", 255)? as u8;
+            let job = words.named("job", 0, 255)? as u8;
             match store(words, source_column)? {
                 (store, None) => Ok(Statement::Queue(job, store)),
                 _ => words.wrong(
@@ -511,10 +597,8 @@ fn store(words: &mut Words, source_column: &mut usize) -> Result<(Store, Option<
 fn result(words: &mut Words, source_column: &mut usize) -> Result<ResultWords, Wrong> {
     let code = if words.take("good") {
         0
-    } else if words.take("code") {
-        words.hex("code", Some(1))?[0]
-    } else if let Some(name) = words.name(Kind::Code) {
-        name.number as u8
+    } else if let Some(code) = words.code()? {
+        code
     } else {
         return words.wrong("behind 'result' stands good, code HH or the name of a code");
     };
@@ -530,17 +614,7 @@ fn result(words: &mut Words, source_column: &mut usize) -> Result<ResultWords, W
         words.at += 1;
         match word {
             "mark" => said.mark = true,
-            "late" => {
-                said.late = match words.peek() {
-                    Some("write") => 1,
-                    Some("read") => 2,
-                    Some("both") => 3,
-                    _ => words.number("late", 255)? as u8,
-                };
-                if matches!(words.peek(), Some("write" | "read" | "both")) {
-                    words.at += 1;
-                }
-            }
+            "late" => said.late = words.late(255)?,
             "record" => {
                 *source_column = words.column();
                 said.brings = Brings::Record(words.source("a file, bytes or text")?, Vec::new());
@@ -754,10 +828,10 @@ fn put_result(result: &ResultWords, out: &mut Vec<u8>) {
     }
     match result.late {
         0 => {}
-        1 => put(" late write", out),
-        2 => put(" late read", out),
-        3 => put(" late both", out),
-        late => put(&format!(" late {late}"), out),
+        late => match LATE.get(late as usize - 1) {
+            Some(word) => put(&format!(" late {word}"), out),
+            None => put(&format!(" late {late}"), out),
+        },
     }
     match &result.brings {
         Brings::Nothing => {}

@@ -5,7 +5,7 @@ use ctc_rack::cartridge::{Cartridge, GCR};
 use ctc_rack::driver::Command;
 use ctc_rack::faults::INCH;
 use ctc_rack::noise::LinkChances;
-use ctc_rack::run::{run, Job, Setup, Wrongs};
+use ctc_rack::run::{run, Job, Ran, Setup, Wrongs};
 use ctc_rack::scenario::made;
 use ctc_rack::transport::Transport;
 use std::hint::black_box;
@@ -14,16 +14,18 @@ use std::time::{Duration, Instant};
 
 const COUNT: usize = 65_535;
 const RECORDS: usize = 32;
+/// The records of a rack of which there are a thousand.
+const SMALL: usize = 2000;
 const IMAGE: usize = 66_050;
 /// Its check bytes are folded when it is written, and when the host holds what it read to them.
 const FOLDS: usize = 2;
 
-fn setup(records: usize, count: usize) -> Setup {
+/// Records of so many bytes are written, and read back.
+fn setup(bytes: &Rc<Vec<u8>>, count: usize) -> Setup {
     let mut transports = [0, 1, 2, 3].map(Transport::new);
     transports[0].insert(Cartridge { length: 30_000 * INCH, ..Cartridge::default() });
-    let bytes = Rc::new(made(records * count));
     let commands = vec![
-        Command::Write { name: String::new(), bytes, count },
+        Command::Write { name: String::new(), bytes: bytes.clone(), count },
         Command::WriteMarks(2),
         Command::Rewind,
         Command::Read { folder: String::new(), files: None },
@@ -52,7 +54,32 @@ fn fold(bytes: &[u8], folded: &mut [u64; 64]) {
     }
 }
 
+/// Runs the same thing again and again, for a profiler: one record alone, or small racks of which a thousand are kept.
+fn again(word: &str, times: usize) {
+    let (one, four) = (Rc::new(made(COUNT)), Rc::new(made(4 * SMALL)));
+    for _ in 0..times {
+        match word {
+            "alone" => drop(black_box(run(setup(&one, COUNT), &mut |_, _| {}))),
+            _ => drop(black_box((0..1000).map(|_| run(setup(&four, SMALL), &mut |_, _| {})).collect::<Vec<_>>())),
+        }
+    }
+}
+
 fn main() {
+    let words: Vec<String> = std::env::args().skip(1).collect();
+    match words.iter().map(String::as_str).collect::<Vec<_>>()[..] {
+        [] => compare(),
+        [word @ ("alone" | "racks"), times] if times.parse::<usize>().is_ok() => {
+            again(word, times.parse().unwrap_or(0));
+        }
+        _ => {
+            eprintln!("rack-speed: no word, or 'alone' or 'racks' and how often, for a profiler");
+            std::process::exit(2);
+        }
+    }
+}
+
+fn compare() {
     // each record once, as a run has them: not the same one from the cache again and again
     let records: Vec<Vec<u8>> = (0..RECORDS).map(|_| made(IMAGE)).collect();
     // into a space that is used again, onto the tape, out of it, and to the host, of which tape and host are kept
@@ -95,7 +122,7 @@ fn main() {
     });
     black_box(folded);
     let run_of = |records: usize| {
-        let setup = setup(records, COUNT);
+        let setup = setup(&Rc::new(made(records * COUNT)), COUNT);
         let mut kept = None;
         let time = timed(|| kept = Some(run(setup, &mut |_, _| {})));
         let ran = kept.expect("it ran");
@@ -115,25 +142,27 @@ fn main() {
     println!("one record alone in used memory: {alone:.1}, its 4 copies within the cache: {:.1}", each(cached));
     println!("it is {:.2} times these copies and folds", alone / (each(cached) + each(folds)));
 
-    let rack = || setup(4, 2000);
-    let one = best(50, || {
-        let setup = rack();
-        let mut kept = None;
-        let time = timed(|| kept = Some(run(setup, &mut |_, _| {})));
-        black_box(kept.map(|ran| ran.handed));
-        time
-    });
+    // the middle one of a thousand, so that what else the machine does is left out
+    let bytes = Rc::new(made(4 * SMALL));
+    let rack = |kept: &mut Vec<Ran>| {
+        let setup = setup(&bytes, SMALL);
+        timed(|| kept.push(run(setup, &mut |_, _| {})))
+    };
+    let middle = |mut times: Vec<Duration>| {
+        times.sort();
+        times[times.len() / 2]
+    };
+    let one = best(5, || middle((0..1000).map(|_| rack(&mut Vec::with_capacity(1))).collect()));
     let thousand = best(5, || {
-        let setups: Vec<Setup> = (0..1000).map(|_| rack()).collect();
         // all of them are there at once
-        let mut ran = Vec::with_capacity(1000);
-        let time = timed(|| ran.extend(setups.into_iter().map(|setup| run(setup, &mut |_, _| {}))));
-        black_box(ran.len());
-        time
+        let mut kept = Vec::with_capacity(1000);
+        let times = (0..1000).map(|_| rack(&mut kept)).collect();
+        assert!(kept.iter().all(|ran| ran.broken.is_none()));
+        middle(times)
     });
     println!(
-        "one rack: {:.1} microseconds; each of 1,000 racks: {:.1}",
+        "a rack of four records of 2,000 bytes: {:.1} microseconds; each of 1,000 that are there at once: {:.1}",
         one.as_secs_f64() * 1e6,
-        thousand.as_secs_f64() * 1e3
+        thousand.as_secs_f64() * 1e6
     );
 }

@@ -1,12 +1,14 @@
 //! The records of a folder, put together again. What is written is what was split, byte by byte, or nothing.
 
+use crate::density::Density;
 use crate::files::{self, Part, Progress};
-use crate::library::{self, Density, BLOCKETTE_LENGTH, IMAGE_MOST, MARKS_MOST};
-use crate::library::{MARK_ERROR_LEAST, MARK_ERROR_MOST, MARK_GOOD};
 use crate::marks::{blockette, number};
 use crate::split::{name_of, HEAD, INDEX};
 use crate::sum::{sum_of, Sum};
 use crate::{print, say, Failure, Words};
+use ctc_words::records::{image_length, mark_count, restore};
+use ctc_words::records::{BLOCKETTE_LENGTH, COUNT_LIMIT, IMAGE_MOST, MARKS_MOST};
+use ctc_words::records::{MARK_ERROR_LEAST, MARK_ERROR_MOST, MARK_GOOD};
 use std::env;
 use std::ffi::OsString;
 use std::fs::{self, File};
@@ -273,7 +275,7 @@ fn read_line(line: &str, record: u64) -> Option<Line> {
             sum: sum.to_string(),
         }),
         [name, count, sum] if name == name_of(record) && is_sum(sum) => {
-            let count = number(count).filter(|count| (1..=library::COUNT_LIMIT).contains(count))?;
+            let count = number(count).filter(|count| (1..=COUNT_LIMIT).contains(count))?;
             Some(Line::Record {
                 count,
                 sum: sum.to_string(),
@@ -314,7 +316,7 @@ fn record(
     let Some(mut image) = files::read_some(&path, IMAGE_MOST + 1)? else {
         return lost(format!("{shown} is missing"));
     };
-    let length = library::image_length(count, density);
+    let length = image_length(count, density as u8).unwrap_or(0);
     if image.len() != length {
         let has = if image.len() > IMAGE_MOST {
             "more".to_string()
@@ -342,8 +344,8 @@ fn record(
         return Ok(Ok(Good { bytes, notes }));
     }
 
-    let wanted = library::mark_count(count, density);
-    let restored = |marks: &[u8]| library::restore(&image, marks, count);
+    let wanted = mark_count(count, density as u8);
+    let restored = |marks: &[u8]| restore(&image, marks);
     // marks are asked for what is not as it was, and for nothing else
     if let Some(bytes) = restored(&vec![MARK_GOOD; wanted])
         .ok()
@@ -354,7 +356,7 @@ fn record(
     let marks_path = folder.join(format!("{name}.marks"));
     let marks_shown = marks_path.display();
     let Some(marks) = files::read_some(&marks_path, MARKS_MOST + 1)? else {
-        let Some(bad) = spoiled(&image, count, wanted, sum) else {
+        let Some(bad) = spoiled(&image, wanted, sum) else {
             return lost(format!(
                 "{shown} does not have the bytes that were split, and more is bad than can be restored"
             ));
@@ -424,7 +426,7 @@ fn record(
 }
 
 /// Which blockettes are bad, where marking at most one of each parity gives the bytes that were split.
-fn spoiled(image: &[u8], count: usize, blockettes: usize, sum: &str) -> Option<Vec<usize>> {
+fn spoiled(image: &[u8], blockettes: usize, sum: &str) -> Option<Vec<usize>> {
     let mut folds = [[0u8; BLOCKETTE_LENGTH]; 2];
     for (place, bytes) in image[2..].chunks_exact(BLOCKETTE_LENGTH).enumerate() {
         for (fold, byte) in folds[parity(place, blockettes)].iter_mut().zip(bytes) {
@@ -448,7 +450,7 @@ fn spoiled(image: &[u8], count: usize, blockettes: usize, sum: &str) -> Option<V
             let mut marks = vec![MARK_GOOD; blockettes];
             bad.iter()
                 .for_each(|place| marks[*place] = MARK_ERROR_LEAST);
-            if library::restore(image, &marks, count).is_ok_and(|bytes| sum_of(&bytes) == sum) {
+            if restore(image, &marks).is_ok_and(|bytes| sum_of(&bytes) == sum) {
                 return Some(bad);
             }
         }

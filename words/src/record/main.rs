@@ -1,8 +1,8 @@
 //! `ctc-record split`, `join` and `marks`: files of any length as records, over the proved records library.
 
+mod density;
 mod files;
 mod join;
-mod library;
 mod marks;
 mod split;
 mod sum;

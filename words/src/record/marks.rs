@@ -1,9 +1,9 @@
 //! A marks file, made from words.
 
-use crate::library::{
-    mark_count, Density, COUNT_LIMIT, MARK_ERROR_LEAST, MARK_ERROR_MOST, MARK_GOOD,
-};
+use crate::density::Density;
 use crate::{say, Failure};
+use ctc_words::records::{mark_count, COUNT_LIMIT};
+use ctc_words::records::{MARK_ERROR_LEAST, MARK_ERROR_MOST, MARK_GOOD};
 use std::ffi::OsString;
 use std::io::{self, IsTerminal, Write};
 use std::path::Path;
@@ -49,8 +49,8 @@ pub fn blockette(place: usize, count: usize) -> String {
 
 fn read(words: &[String]) -> Result<Vec<u8>, String> {
     let (least, most) = (
-        mark_count(1, Density::Gcr),
-        mark_count(COUNT_LIMIT, Density::Gcr),
+        mark_count(1, Density::Gcr as u8),
+        mark_count(COUNT_LIMIT, Density::Gcr as u8),
     );
     let (count, rest) = match words {
         [] => return Err("the number of marks is missing".to_string()),

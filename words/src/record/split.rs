@@ -1,10 +1,11 @@
 //! A file, cut into records and their images.
 
+use crate::density::Density;
 use crate::files::{self, Part, Progress};
-use crate::library::{build, Density, COUNT_LIMIT};
 use crate::marks::number;
 use crate::sum::{sum_of, Sum};
 use crate::{print, Failure, Words};
+use ctc_words::records::{build, COUNT_LIMIT};
 use std::ffi::OsString;
 use std::fs;
 use std::io::{BufWriter, Write};
@@ -85,10 +86,8 @@ fn split(
             break;
         }
         let bytes = &space[..read];
-        let image = build(bytes, density).map_err(|refusal| {
-            Failure::Failed(format!(
-                "record {records} was refused by the library: {refusal}"
-            ))
+        let image = build(bytes, density as u8).ok_or_else(|| {
+            Failure::Failed(format!("record {records} was refused by the library"))
         })?;
         let name = name_of(records);
         files::write_new(&part.path.join(format!("{name}.image")), &image)?;
