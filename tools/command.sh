@@ -24,13 +24,17 @@ needs() { # WORD PROGRAM
     fi
 }
 
-# What a command says of others, of pages and of stored files, as it is where the command is.
+# What a command says of others, of pages and of stored files, as it is where the command is: ctc for ./ctc, in the same
+# columns, and where the pages and the stored files are.
 as_installed() {
-    if [ "$installed" = no ]; then
-        cat
-    else
-        sed -E "s|\./ctc|ctc|g; s|docs/([A-Z]+\.md)|$pages/\1|g; s,(^| )(sessions|scenarios)/,\1$texts/\2/,g"
+    local text
+    text=$(cat)
+    if [ "$installed" = yes ]; then
+        text=$(sed -E 's|^  \./ctc ([^ ].*[^ ])(  +)([^ ])|  ctc \1\2  \3|; s|\./ctc|ctc|g' <<<"$text")
+        [[ $text != *docs/* ]] || text+=$'\n'"docs/ is $pages."
+        [[ $text != *sessions/* ]] || text+=$'\n'"sessions/ is $texts/sessions."
     fi
+    printf '%s\n' "$text"
 }
 
 # Answers --help with the comment at the head of the command's file, and --version; after either nothing else is done.
