@@ -1,4 +1,4 @@
-# shellcheck shell=bash disable=SC2154 # root and name are the command's
+# shellcheck shell=bash disable=SC2154,SC2034 # root and name are the command's, and others are for it
 # What the commands of this repository share. A command sets root, the top folder, and name, what it is called, and
 # sources this.
 
