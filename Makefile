@@ -1,13 +1,13 @@
-# Builds, installs, archives and tests Vernierorb. The work is done by tools/build, tools/install, tools/dist and .ci/run;
-# docs/INSTALL.md has the variables. For GNU make.
+# Builds, installs, archives and tests Vernierorb. The work is done by tools/build, tools/install, tools/dist and
+# .ci/run; docs/INSTALL.md has the variables. For GNU make.
 
 .PHONY: all install uninstall dist check help
 .DEFAULT_GOAL := all
 
 # those that are named on the command line, and DESTDIR of the environment too; tools/install has what they are else
-named = $(foreach name,DESTDIR prefix exec_prefix bindir libexecdir libdir includedir datarootdir datadir mandir docdir \
-	pkgconfigdir,$(if $(filter command line,$(origin $(name)))$(if $(filter DESTDIR,$(name)),$(filter environment,$(origin \
-	$(name)))),'$(name)=$(subst ','\'',$($(name)))'))
+names = DESTDIR prefix exec_prefix bindir libexecdir libdir includedir datarootdir datadir mandir docdir pkgconfigdir
+is_named = $(filter command line,$(origin $(1)))$(if $(filter DESTDIR,$(1)),$(filter environment,$(origin $(1))))
+named = $(foreach name,$(names),$(if $(call is_named,$(name)),'$(name)=$(subst ','\'',$($(name)))'))
 
 all:
 	@tools/build all

@@ -19,8 +19,14 @@ _ctc() {
         return
     fi
     case "$word $before" in
-    'explain --drive' | 'jobs --log' | 'rack --alone') mapfile -t COMPREPLY < <(compgen -W '0 1 2 3' -- "$current") && return ;;
-    'record --density') mapfile -t COMPREPLY < <(compgen -W 'gcr mfm' -- "$current") && return ;;
+    'explain --drive' | 'jobs --log' | 'rack --alone')
+        mapfile -t COMPREPLY < <(compgen -W '0 1 2 3' -- "$current")
+        return
+        ;;
+    'record --density')
+        mapfile -t COMPREPLY < <(compgen -W 'gcr mfm' -- "$current")
+        return
+        ;;
     esac
     case $current in
     -*) mapfile -t COMPREPLY < <(compgen -W "$(_ctc_options "$word")" -- "$current") ;;
@@ -28,7 +34,8 @@ _ctc() {
         # a word of the word's own, or a file, which bash itself completes where nothing is found here
         [ "$COMP_CWORD" -ne 2 ] ||
             mapfile -t COMPREPLY < <(compgen -W "$(_ctc_listed '[a-z]+' ctc "$word")" -- "$current")
-        [ -z "$current" ] || [ "${#COMPREPLY[@]}" -eq 0 ] || mapfile -t -O "${#COMPREPLY[@]}" COMPREPLY < <(compgen -f -- "$current")
+        [ -z "$current" ] || [ "${#COMPREPLY[@]}" -eq 0 ] ||
+            mapfile -t -O "${#COMPREPLY[@]}" COMPREPLY < <(compgen -f -- "$current")
         ;;
     esac
 }
