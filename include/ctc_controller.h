@@ -7,9 +7,10 @@
  * action that the answer names (offer a byte to the host, send it a string of six
  * bytes, order a motion), or none. examples/board.c is such a board, made to be copied
  * from. Link with libfirmware.a (x86-64), or with the libctc.a that tools/cross makes for
- * another processor:
+ * another processor; installed, pkg-config has it as ctc-controller:
  *
  *     cc -I include examples/board.c target/staticlib/libfirmware.a
+ *     cc board.c $(pkg-config --cflags --libs ctc-controller)
  *
  * A STORE'S WAY. Its eight bytes come by ctc_byte, the last of which offers ACK, and
  * ctc_taken carries it out; or ctc_queue queues it, and ctc_hand carries it out. What
@@ -133,7 +134,7 @@
 #include <stdint.h>
 
 /* The version of this header and of the library, as the file VERSION has it. */
-#define CTC_VERSION "2.0.0"
+#define CTC_VERSION "3.0.0"
 
 /* A length or a place. */
 typedef uint64_t ctc_size;

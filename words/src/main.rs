@@ -1,4 +1,4 @@
-//! `ctc-words explain | make | prompt | names`: the commands ./ctc explain and ./ctc make, and ./session and ./ctc
+//! `ctc-words explain | make | prompt | names`: the commands ./ctc explain and ./ctc make, and ./ctc session and ./ctc
 //! jobs at a terminal.
 
 use ctc_words::explain::{told_word, Explainer, Options};

@@ -566,7 +566,7 @@ fn unreadable_lines_have_a_reason() {
         );
     }
     let error = buffers.read(b"H", Program::Session).expect_err("H");
-    assert_eq!(error.why.to_string(), "only ./ctc jobs takes it");
+    assert_eq!(error.why.to_string(), "only ctc jobs takes it");
 }
 
 /// Status words, both ways: every bit of primary alone and with others, and random words.

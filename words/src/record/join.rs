@@ -367,7 +367,7 @@ fn record(
             .collect();
         let words = words.join(" ");
         let what = format!(
-            "{shown} is spoiled: after 'ctc-record marks {wanted} bad {words} >{marks_shown}' join restores it"
+            "{shown} is spoiled: after 'ctc record marks {wanted} bad {words} >{marks_shown}' join restores it"
         );
         return Ok(Err(Loss {
             what,

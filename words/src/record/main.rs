@@ -1,4 +1,4 @@
-//! `ctc-record split`, `join` and `marks`: files of any length as records, over the proved records library.
+//! `ctc record split`, `join` and `marks`: files of any length as records, over the proved records library.
 
 mod density;
 mod files;
@@ -37,7 +37,7 @@ impl Failure {
 
 /// Where standard error cannot be written there is nobody to tell.
 pub fn say(what: &str) {
-    let _ = writeln!(io::stderr(), "ctc-record: {what}");
+    let _ = writeln!(io::stderr(), "ctc record: {what}");
 }
 
 /// To standard output, and told where it did not arrive.
@@ -58,7 +58,7 @@ fn run(words: &[OsString]) -> Result<(), Failure> {
         return print(USAGE);
     }
     if words.iter().any(|word| word == "--version") {
-        return print(&format!("ctc-record {VERSION}"));
+        return print(&format!("ctc record {VERSION}"));
     }
     match verb {
         "split" => split::run(rest),
