@@ -2,8 +2,8 @@
 # What the commands of this repository share. A command sets root, the top folder, and name, what it is called, and
 # sources this.
 
-# Where a command's programs, texts and pages are. An installed ctc has its programs beside its words and builds nothing;
-# it reaches texts and pages by links, so that what tools/install laid out may be moved as a whole.
+# Where a command's programs, texts and pages are. An installed ctc has its programs beside its words and builds
+# nothing; it reaches texts and pages by links, so that what tools/install laid out may be moved as a whole.
 if [ -d "$root/programs" ]; then
     installed=yes programs=$root/programs
     texts=$(readlink -f "$root/texts") pages=$(readlink -f "$root/pages")
