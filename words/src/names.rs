@@ -146,6 +146,11 @@ impl Names {
         self.list.iter().filter(move |name| name.kind == kind)
     }
 
+    /// The words of all names of a kind, in the order of the table.
+    pub fn words(&self, kind: Kind) -> Vec<&'static str> {
+        self.all(kind).map(|name| name.words).collect()
+    }
+
     /// The whole table, in its order.
     pub fn list(&self) -> &[Name] {
         &self.list

@@ -1,7 +1,7 @@
 //! What explain says against what the proved programs answered, and what make makes against what explain reads back: on
 //! all stored sessions, on random ones, and for every statement.
 
-use ctc_words::explain::{Explainer, Options};
+use ctc_words::explain::{told_word, Explainer, Options};
 use ctc_words::interface::Store;
 use ctc_words::line::{hex, put_line, split, Buffers, Line, Program};
 use ctc_words::make::Made;
@@ -349,7 +349,16 @@ fn what_cannot_be_meant_is_said() {
         ("reed drive 1", "1:1", "'reed' begins no statement"),
         ("read drive 9", "1:12", "drive '9' is not 0 to 7"),
         ("read drive", "1:11", "drive is missing"),
-        ("read drive 1 twice", "1:14", "'twice' says nothing here"),
+        (
+            "read drive 1 twice",
+            "1:14",
+            "'twice' cannot stand here: behind read stand drive N or interrupt",
+        ),
+        (
+            "read drive 1 # once",
+            "1:14",
+            "a comment is a line of its own",
+        ),
         ("write drive 1", "1:14", "write needs a count"),
         ("load nothing", "1:6", "a load is identity"),
         (
@@ -427,6 +436,141 @@ fn what_cannot_be_meant_is_said() {
             error.starts_with(place) && error.contains(said),
             "{words}: {error}"
         );
+    }
+}
+
+/// A wrong second word is told at its place with what may stand there, whether something stands there or nothing.
+#[test]
+fn second_words_are_told() {
+    for (first, may) in [
+        ("density", "a density is MFM or GCR"),
+        ("skip", "skip forward or skip reverse"),
+        ("search", "search forward or search reverse"),
+        ("fast", "fast forward"),
+        ("check", "check bytes"),
+        ("track", "a track is 0 to 7"),
+        ("set", "set enable or set guard"),
+        ("clear", "clear enable or clear guard"),
+        (
+            "load",
+            "a load is identity, primary, secondary, tertiary, reports, quintary or address HH",
+        ),
+        (
+            "result",
+            "behind 'result' stands good, code HH or the name of a code",
+        ),
+        ("result good late", "the late flags are write, read or both"),
+        (
+            "report drive 0",
+            "a report is nothing, or some of EOT, EOT warning, installed, BOT warning, protected, \
+             position unknown, selectable, BOT",
+        ),
+        (
+            "queue job 0",
+            "a store begins with read, check bytes, read supplied, write, erase, rewind, fast forward, \
+             skip, search, write mark, track, density, set, clear, reset store or store",
+        ),
+        ("queue job 0 density", "a density is MFM or GCR"),
+        ("refused queue job 0 skip", "skip forward or skip reverse"),
+    ] {
+        for (words, what) in [
+            (first.to_string(), "the line ends too soon".to_string()),
+            (format!("{first} wrong"), "'wrong' cannot stand here".to_string()),
+            (format!("{first} \"quoted\""), "'quoted' cannot stand here".to_string()),
+        ] {
+            let column = first.len() + if words.len() > first.len() { 2 } else { 1 };
+            let error = made(words.as_bytes(), Path::new("")).expect_err(&words);
+            assert_eq!(error, format!("1:{column}: {what}: {may}"), "{words}");
+        }
+    }
+    // what may stand alone, with what may stand behind it
+    for (words, column, may) in [
+        (
+            "write marks drive 0",
+            7,
+            "write mark; or behind write stand drive N, interrupt, count N",
+        ),
+        (
+            "write drive 0 marks",
+            15,
+            "behind write stand drive N, interrupt, count N, discard N or from SOURCE",
+        ),
+        (
+            "read supply count 4",
+            6,
+            "read supplied; or behind read stand drive N or interrupt",
+        ),
+        (
+            "read supplied 4",
+            15,
+            "behind read supplied stand drive N, interrupt or count N",
+        ),
+        ("rewind all", 8, "behind rewind stand drive N or interrupt"),
+        ("accept two", 8, "accept, or accept one"),
+        ("reset stor", 7, "reset, or reset store"),
+        (
+            "report drive 0 installed bot",
+            26,
+            "a report is nothing, or some of EOT, EOT warning",
+        ),
+        (
+            "report drive 2 0x22",
+            16,
+            "a report is nothing, or some of EOT, EOT warning",
+        ),
+        (
+            "queue job 0 tick",
+            13,
+            "a store begins with read, check bytes",
+        ),
+        (
+            "result good lat write",
+            13,
+            "behind the code stand mark, late, record, spoiled, marked, count, image or space",
+        ),
+    ] {
+        let error = made(words.as_bytes(), Path::new("")).expect_err(words);
+        assert!(
+            error.starts_with(&format!("1:{column}: '"))
+                && error.contains(&format!("cannot stand here: {may}")),
+            "{words}: {error}"
+        );
+    }
+}
+
+/// A wrong byte of a store or of a string to the host is found, and the check byte that would be right is said.
+#[test]
+fn single_words_are_told() {
+    for (word, said) in [
+        (
+            "64B80000002100FD",
+            "store: skip reverse, drive 0, asks an interrupt",
+        ),
+        ("680000000068", "update of secondary: count 0"),
+    ] {
+        for given in [word.to_string(), format!("0x{word}")] {
+            assert_eq!(told_word(None, &given).as_deref(), Ok(said), "{given}");
+        }
+        let bytes: Vec<u8> = (0..word.len())
+            .step_by(2)
+            .map(|at| u8::from_str_radix(&word[at..at + 2], 16).unwrap())
+            .collect();
+        // the first byte says what it is
+        for turned in 1..bytes.len() {
+            let mut bytes = bytes.clone();
+            bytes[turned] ^= 0x5A;
+            let (_, rest) = bytes.split_last().unwrap();
+            let right = rest.iter().fold(0, |sum, byte| sum ^ byte);
+            let why = told_word(None, &hex(&bytes)).expect_err(word);
+            let wanted = format!("with a wrong check byte, {right:02X} would be right");
+            assert!(why.ends_with(&wanted), "{bytes:02X?}: {why}");
+        }
+    }
+    for load in names().words(Kind::Load) {
+        let told = told_word(Some(load), "0x00000001").expect(load);
+        assert!(told.starts_with(&format!("{load}: ")), "{told}");
+        let why = told_word(Some("none"), "00000001").expect_err("a load that is none");
+        assert!(why.contains(load), "{why}");
     }
 }
 
