@@ -666,7 +666,8 @@ fn store(
             _ => None,
         };
         let Some(count) = count.or(bytes).filter(|count| *count <= 65_535) else {
-            return words.wrong(format!("{} needs a count, 0 to 65535", name.words));
+            let file = if from.is_some() && bytes.is_none() { " from a file" } else { "" };
+            return words.wrong(format!("{}{file} needs a count, 0 to 65535", name.words));
         };
         operand[2..].copy_from_slice(&(count as u16).to_be_bytes());
     }
