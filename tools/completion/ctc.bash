@@ -7,8 +7,12 @@ _ctc_listed() { # PATTERN WORDS...: what the help has behind ctc and the words, 
     "${COMP_WORDS[0]}" "${@:2}" --help 2>/dev/null | sed -nE "s|^(usage:)? *(\./)?$* ($pattern).*|\3|p" | sort -u
 }
 
-_ctc_options() { # WORD
-    "${COMP_WORDS[0]}" "$1" --help 2>/dev/null | grep -oE -- '(^|[^a-z-])--[a-z-]+[a-z]' | sed 's/^[^-]*//' | sort -u
+_ctc_options() { # WORD NEXT: those of the word; behind a word of its own, those that its line has
+    local help own=
+    help=$("${COMP_WORDS[0]}" "$1" --help 2>/dev/null)
+    [[ ! $2 =~ ^[a-z]+$ ]] || own=$(grep -E "^(usage:)? *(\./)?ctc $1 $2 " <<<"$help")
+    [ -z "$own" ] || help="$own --help"
+    grep -oE -- '(^|[^a-z-])--[a-z-]+[a-z]' <<<"$help" | sed 's/^[^-]*//' | sort -u
 }
 
 _ctc() {
@@ -29,7 +33,7 @@ _ctc() {
         ;;
     esac
     case $current in
-    -*) mapfile -t COMPREPLY < <(compgen -W "$(_ctc_options "$word")" -- "$current") ;;
+    -*) mapfile -t COMPREPLY < <(compgen -W "$(_ctc_options "$word" "${COMP_WORDS[2]}")" -- "$current") ;;
     *)
         # a word of the word's own, or a file, which bash itself completes where nothing is found here
         [ "$COMP_CWORD" -ne 2 ] ||

@@ -49,6 +49,16 @@ pub fn print(text: &str) -> Result<(), Failure> {
         .map_err(|cause| Failure::file("write", Path::new(files::STANDARD_OUTPUT), cause))
 }
 
+/// How much was cut or put together.
+pub fn bytes_in_records(length: u64, records: u64) -> String {
+    let several = |count: u64| if count == 1 { "" } else { "s" };
+    format!(
+        "{length} byte{} in {records} record{}",
+        several(length),
+        several(records)
+    )
+}
+
 fn run(words: &[OsString]) -> Result<(), Failure> {
     let (verb, rest) = match words {
         [verb, rest @ ..] => (verb.to_str().unwrap_or_default(), rest),
