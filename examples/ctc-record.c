@@ -1,5 +1,5 @@
 /*
- * ctc-record: builds, merges, verifies and restores tape records, file to file.
+ * ctc record: builds, merges, verifies and restores tape records, file to file.
  *
  * An example of the library's use, to be copied from. The library decides what
  * is legal: the tool hands it whatever the files hold and puts its refusals into
@@ -22,15 +22,15 @@
 
 enum { STATUS_DONE = 0, STATUS_FAILED = 1, STATUS_USAGE = 2 };
 
-/* The root script takes both texts from here, to print them before the library is there. */
+/* tools/record takes both texts from here, to print them before the library is there. */
 static const char usage[] =
-    "usage: ctc-record build DENSITY BYTES-FILE IMAGE-FILE [PLACE]\n"
-    "       ctc-record bytes DENSITY IMAGE-FILE BYTES-FILE\n"
-    "       ctc-record restore IMAGE-FILE MARKS-FILE BYTES-FILE\n"
-    "       ctc-record merge FIRST FIRST-MARKS SECOND SECOND-MARKS IMAGE-FILE MARKS-FILE\n"
-    "       ctc-record verify IMAGE-FILE\n"
-    "       ctc-record show IMAGE-FILE DENSITY [MARKS-FILE]\n"
-    "       ctc-record --help | --version\n";
+    "usage: ctc record build DENSITY BYTES-FILE IMAGE-FILE [PLACE]\n"
+    "       ctc record bytes DENSITY IMAGE-FILE BYTES-FILE\n"
+    "       ctc record restore IMAGE-FILE MARKS-FILE BYTES-FILE\n"
+    "       ctc record merge FIRST FIRST-MARKS SECOND SECOND-MARKS IMAGE-FILE MARKS-FILE\n"
+    "       ctc record verify IMAGE-FILE\n"
+    "       ctc record show IMAGE-FILE DENSITY [MARKS-FILE]\n"
+    "       ctc record --help | --version\n";
 
 static const char help[] =
     "\n"
@@ -81,13 +81,13 @@ static bool is(const char *word, const char *other)
 
 static int wrong_usage(const char *message)
 {
-    fprintf(stderr, "ctc-record: %s\n%s", message, usage);
+    fprintf(stderr, "ctc record: %s\n%s", message, usage);
     return STATUS_USAGE;
 }
 
 static void file_failed(const char *action, const char *path, int cause)
 {
-    fprintf(stderr, "ctc-record: cannot %s %s: %s\n", action, path, strerror(cause));
+    fprintf(stderr, "ctc record: cannot %s %s: %s\n", action, path, strerror(cause));
 }
 
 static const char *refusal_in_words(uint32_t refusal)
@@ -115,7 +115,7 @@ static const char *refusal_in_words(uint32_t refusal)
 /* Starts the message of a refusal; the caller ends it with a detail or a newline. */
 static void say_refusal(const char *path, uint32_t refusal)
 {
-    fprintf(stderr, "ctc-record: %s: refusal %lu (%s)", path, (unsigned long)refusal,
+    fprintf(stderr, "ctc record: %s: refusal %lu (%s)", path, (unsigned long)refusal,
             refusal_in_words(refusal));
 }
 
@@ -153,7 +153,7 @@ static bool same_file(const struct stat *one, const struct stat *other)
 
 static void say_same(const char *one, const char *other)
 {
-    fprintf(stderr, "ctc-record: %s and %s are the same file: nothing was written\n", one, other);
+    fprintf(stderr, "ctc record: %s and %s are the same file: nothing was written\n", one, other);
 }
 
 /*
@@ -354,7 +354,7 @@ static bool write_outputs(struct output *outputs, int count, const struct input 
     }
     for (int i = 0; i < count && !done; i++) {
         if (outputs[i].written) {
-            fprintf(stderr, "ctc-record: %s is written already\n", outputs[i].path);
+            fprintf(stderr, "ctc record: %s is written already\n", outputs[i].path);
         } else {
             clear_output(outputs + i);
         }
@@ -434,8 +434,8 @@ static bool lengths_fit(const struct input *image, const struct input *marks, ui
                 image->length > CTC_IMAGE_MOST ? (size_t)CTC_IMAGE_MOST : image->length);
         uint8_t other = density == CTC_DENSITY_MFM ? CTC_DENSITY_GCR : CTC_DENSITY_MFM;
         if (image->length == ctc_image_length(count, other)) {
-            fprintf(stderr, "ctc-record: %s is a whole %s image%s\n", image->path, density_name(other),
-                    other == CTC_DENSITY_MFM ? ", whose bytes 'ctc-record bytes mfm' writes" : "");
+            fprintf(stderr, "ctc record: %s is a whole %s image%s\n", image->path, density_name(other),
+                    other == CTC_DENSITY_MFM ? ", whose bytes 'ctc record bytes mfm' writes" : "");
         }
         return false;
     }
@@ -492,7 +492,7 @@ static void warn_of_checks(const struct input *image, const struct input *marks)
     for (size_t parity = 2; parity-- > 0;) {
         if ((told & unfit_parity[parity]) != 0 && !any_bad(marks, parity)) {
             fprintf(stderr,
-                    "ctc-record: %s: warning: check blockette %zu does not fit the %s data "
+                    "ctc record: %s: warning: check blockette %zu does not fit the %s data "
                     "blockettes: one that is marked good is damaged\n",
                     image->path, parity, parity == 1 ? "odd" : "even");
         }
@@ -768,7 +768,7 @@ static int run(int count, char **words)
         return STATUS_DONE;
     }
     if (is(verb, "--version")) {
-        printf("ctc-record %s\n", CTC_VERSION);
+        printf("ctc record %s\n", CTC_VERSION);
         return STATUS_DONE;
     }
     if (is(verb, "build")) {

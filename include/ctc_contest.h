@@ -7,9 +7,10 @@
  * proper; a spoiled one costs its store, finishes nothing, and leaves the gap
  * improper. A skip reverse costs a store, always works, and makes the gap proper. The
  * driver forces all writes if he can finish them however the tape answers.
- * Link with libcontest.a (x86-64):
+ * Link with libcontest.a (x86-64); installed, pkg-config has it as ctc-contest:
  *
  *     cc -I include tool.c target/staticlib/libcontest.a
+ *     cc tool.c $(pkg-config --cflags --libs ctc-contest)
  *
  * Any value of any argument is taken: what is above its limit is refused. Nothing is
  * kept between calls, so several threads may call at once.
@@ -18,6 +19,9 @@
 #define CTC_CONTEST_H
 
 #include <stdint.h>
+
+/* The version of this header and of the library, as the file VERSION has it. */
+#define CTC_VERSION "3.0.0"
 
 /* The gap from which the contest begins. */
 #define CTC_GAP_PROPER 0u

@@ -7,9 +7,10 @@
  * action that the answer names (offer a byte to the host, send it a string of six
  * bytes, order a motion), or none. examples/board.c is such a board, made to be copied
  * from. Link with libfirmware.a (x86-64), or with the libctc.a that tools/cross makes for
- * another processor:
+ * another processor; installed, pkg-config has it as ctc-controller:
  *
  *     cc -I include examples/board.c target/staticlib/libfirmware.a
+ *     cc board.c $(pkg-config --cflags --libs ctc-controller)
  *
  * A STORE'S WAY. Its eight bytes come by ctc_byte, the last of which offers ACK, and
  * ctc_taken carries it out; or ctc_queue queues it, and ctc_hand carries it out. What
@@ -24,8 +25,9 @@
  *   - CTC_PHASE_COLLECTING: the store has ended, at once where its code was settled
  *     without a move.
  *
- * WHAT A RESULT MAY BE. Codes are hexadecimal; a whole image has in GCR one mark for each
- * blockette, in MFM none. What is against this table is refused with 7, 8 or 9.
+ * WHAT A RESULT MAY BE. Orders and codes are hexadecimal; a whole image has in GCR one
+ * mark for each blockette, in MFM none. What is against this table is refused with 7, 8
+ * or 9.
  *
  *   order  operation               codes                                mark   image
  *    40    read                    0 7 8 9 A C D E F 10 11 12 13 17     with 0 whole (*)
@@ -133,7 +135,7 @@
 #include <stdint.h>
 
 /* The version of this header and of the library, as the file VERSION has it. */
-#define CTC_VERSION "2.0.0"
+#define CTC_VERSION "3.0.0"
 
 /* A length or a place. */
 typedef uint64_t ctc_size;
@@ -164,7 +166,7 @@ typedef struct {
 #define CTC_REFUSED_LENGTH 9u       /* a wrong length of image or marks */
 #define CTC_REFUSED_MARK 10u        /* a mark that is neither 1-9 nor 15 */
 #define CTC_REFUSED_SPACE 11u       /* the space for the image is too short */
-#define CTC_REFUSED_PLACE 15u       /* a place with no byte that is not CTC_NO_PLACE */
+#define CTC_REFUSED_PLACE 15u       /* a place that has no byte and is not CTC_NO_PLACE */
 #define CTC_REFUSED_STORE 16u       /* a job above 3, a store naming no drive, or a reset store */
 #define CTC_REFUSED_QUEUE_FULL 17u  /* the queue of the job holds eight stores */
 
@@ -198,7 +200,8 @@ typedef struct {
 #define CTC_REPORT_EOT_WARNING 64u
 #define CTC_REPORT_EOT 128u
 
-/* Codes: of a result those of the table above; 1 to 5, 15 and 16 the controller gives itself. */
+/* Codes: of a result those of the table above; 0x01 to 0x05, 0x15 and 0x16 the controller gives
+ * itself, and 0x07 and 0x13 it may put in place of a result's. */
 #define CTC_CODE_NO_ERROR 0x00u
 #define CTC_CODE_ILLEGAL_DRIVE 0x01u
 #define CTC_CODE_ILLEGAL_STORE 0x02u
@@ -287,7 +290,7 @@ uint32_t ctc_report(ctc_state *state, uint8_t drive, uint8_t report, ctc_answer 
  *                      CTC_NO_PLACE
  *   space, space_len   the space for the image; CTC_IMAGE_LENGTH_MOST is always enough
  *   check, check_len   the check store, CTC_CHECK_LENGTH bytes, the same from call to
- *                      call
+ *                      call: check blockette 1 of the last GCR transfer, then 0
  *
  * Refused: 1, 3, 6, 11, 15.
  */

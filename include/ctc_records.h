@@ -6,9 +6,11 @@
  * record bytes. A merge makes one GCR image out of two passes over a record, in
  * which different blockettes were read badly. Whether the check blockettes of a GCR
  * image fit its data, ctc_verify tells. Link with librecords.a (x86-64), or with the
- * libctc.a that tools/cross makes for another processor:
+ * libctc.a that tools/cross makes for another processor; installed, pkg-config has it as
+ * ctc-records:
  *
  *     cc -I include tool.c target/staticlib/librecords.a
+ *     cc tool.c $(pkg-config --cflags --libs ctc-records)
  *
  * THE IMAGE of a record of c bytes, c from 0 to CTC_COUNT_LIMIT
  *
@@ -54,7 +56,7 @@
 #include <stdint.h>
 
 /* The version of this header and of the library, as the file VERSION has it. */
-#define CTC_VERSION "2.0.0"
+#define CTC_VERSION "3.0.0"
 
 /* A length or a place. */
 typedef uint64_t ctc_size;

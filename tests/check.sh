@@ -40,9 +40,9 @@ no() { # REASON
     return 1
 }
 
-# add_count NAME STATUS FILE: adds what the last line of FILE counts, 'N passed, M failed', and the line before it, where
-# that is 'K left out'. No such last line, no test at all, or a status of the command that does not fit the line is one
-# failure more.
+# add_count NAME STATUS FILE: adds what the last line of FILE counts, 'N passed, M failed', and the line before it,
+# where that is 'K left out'. No such last line, no test at all, or a status of the command that does not fit the line
+# is one failure more.
 add_count() {
     local name=$1 status=$2 last before
     last=$(tail -n 1 "$3")
@@ -61,7 +61,8 @@ add_count() {
     fi
 }
 
-# counted NAME COMMAND...: runs tests whose last line is their count, and adds it. The script names a file for it, `log`.
+# counted NAME COMMAND...: runs tests whose last line is their count, and adds it. The script names a file for it,
+# `log`.
 counted() {
     local name=$1
     shift
@@ -70,8 +71,8 @@ counted() {
     add_count "$name" "${PIPESTATUS[0]}" "$log"
 }
 
-# beside NAME COMMAND...: starts such tests beside what follows. joined NAME: waits for them, shows what they said and adds their count. The script
-# names a folder for it, `logs`.
+# beside NAME COMMAND...: starts such tests beside what follows. joined NAME: waits for them, shows what they said and
+# adds their count. The script names a folder for it, `logs`.
 declare -A started=()
 beside() {
     local name=$1

@@ -1,6 +1,7 @@
-# Makes the edits that must fail: those of a crate's must-fail/, in that crate, and the wrong machines of tests/wrong, in the whole repository.
-# Each 'old:' text must stand exactly once in the file that the 'file:' line before it names, the changes before it made. What does not fit is
-# told. With `into`, a folder, the changed files of the edit are written there; without, nothing is.
+# Makes the edits that must fail: those of a crate's must-fail/, in that crate, and the wrong machines of tests/wrong,
+# in the whole repository. Each 'old:' text must stand exactly once in the file that the 'file:' line before it names,
+# the changes before it made. What does not fit is told. With `into`, a folder, the changed files of the edit are
+# written there; without, nothing is.
 function fail(what) {
     failed++
     bad = 1

@@ -1,11 +1,16 @@
 # shellcheck shell=bash disable=SC2154 # root, name, lines, width, example, about and page are the command's
-# What ./session, tools/jobs, tools/wear, tools/contest and tools/table share. The program is `name`_main. A command
+# What tools/session, tools/jobs, tools/wear, tools/contest and tools/table share. The program is `name`_main. A command
 # that plays lines sets, besides what tools/command.sh asks for: lines, some lines that can be typed, and then, what
-# follows where that is not the line's answer; example, a file of lines; about, what the example is; width, the columns
-# of its lines; page, which says what they mean; options, its words beside --help; and called, where it is not called by
-# its own name.
+# follows where that is not the line's answer; example, a file of lines, which is installed as examples/`name`; about,
+# what the example is; width, the columns of its lines; page, which says what they mean; and options, its words beside
+# --help.
 
-program=$root/target/bin/${name}_main
+program=$programs/${name}_main
+# how the command is called, and its example
+called="$root/ctc $name" example_file=$root/${example:-} example_shown=${example:-}
+if [ "$installed" = yes ]; then
+    called="ctc $name" example_file=$texts/examples/$name example_shown=$example_file
+fi
 
 # The program's language has no exit status: it tells of a failed read or write by a message, which becomes a status
 # here.
@@ -47,11 +52,11 @@ play() {
 
 # Lines that begin with # are comments, whatever the program answers to them.
 play_example() {
-    echo "$about, $example, each line beside its answer:"
+    echo "$about, $example_shown, each line beside its answer:"
     # shellcheck disable=SC2094 # nothing here writes to it
-    play <"$root/$example" | paste "$root/$example" - |
+    play <"$example_file" | paste "$example_file" - |
         awk -F '\t' -v width="$width" '/^#/ { print "    " $1; next } { printf "    %-*s%s\n", width, $1, $2 }'
-    echo "$page says what lines and answers mean. To type lines of your own: ${called:-$0} -"
+    as_installed <<<"$page says what lines and answers mean. To type lines of your own: $called -"
 }
 
 # Tells whether a word is a file that can be read, or - for standard input.
@@ -67,11 +72,11 @@ is_input() { # FILE
 
 # Lines and words, each beside its meaning: the words program, Rust over the proved functions.
 tells_words() {
-    case $name in session | jobs) [ -f "$root/words/Cargo.toml" ] ;; *) return 1 ;; esac
+    case $name in session | jobs) [ "$installed" = yes ] || [ -f "$root/words/Cargo.toml" ] ;; *) return 1 ;; esac
 }
 play_told() { # FILE
-    "$root/tools/build" words </dev/null
-    exec "$root/target/bin/ctc-words" prompt "--$name" "$1"
+    needs words ctc-words
+    exec "$programs/ctc-words" prompt "--$name" "$1"
 }
 
 play_words() { # WORDS...
@@ -89,11 +94,10 @@ play_words() { # WORDS...
     [ "$told" = no ] || play_told "$file"
     # what is typed is told in words where the program for it is there or can be built
     if [ "$#$file" = 1- ] && [ -t 0 ] && [ -t 1 ] && tells_words &&
-        { [ -x "$root/target/bin/ctc-words" ] || command -v cargo >/dev/null; }; then
+        { [ -x "$programs/ctc-words" ] || command -v cargo >/dev/null; }; then
         play_told -
     fi
-    # proving takes nothing from standard input, which is the program's
-    "$root/tools/build" "$name" </dev/null
+    needs "$name" "${name}_main"
     if [ "$file" != - ]; then
         play <"$file"
     elif [ $# -eq 0 ] && { [ -t 0 ] || [ /dev/stdin -ef /dev/null ]; }; then

@@ -1,4 +1,5 @@
-//! The bars: what the ratio of a row must at least be. A row that is below its bar is told, and what has not been measured too.
+//! The bars: what the ratio of a row must at least be. A row that is below its bar is told, and what has not been
+//! measured too.
 
 /// The tables that can be asked for, in the order in which they are printed.
 #[derive(Clone, Copy, PartialEq, Eq)]

@@ -335,8 +335,7 @@ fn figure(value: Option<f64>) -> String {
 /// What a byte costs, over sizes of record, and ISA-L beside it.
 pub fn print_sizes() {
     println!(
-        "| bytes | builder, ns a byte | check fold, ns a byte | by iterator : library, fold \
-         | ISA-L : library, fold | by iterator, fold, ns a byte | ISA-L, ns a byte |"
+        "| bytes | builder | check fold | by iterator : library | ISA-L : library | by iterator | ISA-L |"
     );
     println!("|---:|---:|---:|---:|---:|---:|---:|");
     let mut installed = false;

@@ -102,7 +102,8 @@ fn rows() -> Vec<Row> {
     ]
 }
 
-/// The least processor time of each of two programs, which take turns. Where the first is below the bar, both are timed again.
+/// The least processor time of each of two programs, which take turns. Where the first is below the bar, both are timed
+/// again.
 fn least(programs: [&[&str]; 2], bar: f64, file: &Path) -> io::Result<[f64; 2]> {
     let mut least = [f64::INFINITY; 2];
     for _ in 0..AGAIN {

@@ -1,7 +1,7 @@
 //! What can be wrong with a tape and a drive: at a place that one names, or by chance with a seed.
 
 use ctc_words::names::{name, Kind};
-use ctc_words::statement::{Words, Wrong, LATE};
+use ctc_words::statement::{listed, Words, Wrong, LATE};
 use std::fmt;
 
 /// A place along the tape, in tenths of an inch from BOT.
@@ -164,11 +164,10 @@ fn code(words: &mut Words, codes: &[u8]) -> Result<u8, Wrong> {
     match words.code()? {
         Some(code) if codes.contains(&code) => Ok(code),
         found => {
-            let each: Vec<String> =
-                codes.iter().map(|code| format!("code {code:02X} {}", name(Kind::Code, *code))).collect();
-            let each = each.join(", ");
+            let each = codes.iter().map(|code| format!("'code {code:02X}' or '{}'", name(Kind::Code, *code)));
+            let each = each.collect::<Vec<_>>().join(", ");
             match found {
-                Some(code) => Err(Wrong { column, what: format!("code {code:02X} is none of {each}") }),
+                Some(code) => Err(Wrong { column, what: format!("code {code:02X} is none of these: {each}") }),
                 None => words.other(&format!("one of {each}")),
             }
         }
@@ -198,14 +197,6 @@ const KINDS: [&str; 12] = [
     "load-point-late",
     "end-late",
 ];
-
-/// Words with commas between them.
-pub fn listed(words: &[&str]) -> String {
-    match words {
-        [all @ .., last] if !all.is_empty() => format!("{} or {last}", all.join(", ")),
-        _ => words.concat(),
-    }
-}
 
 impl Fault {
     /// The fault of its words, which `Display` writes.
@@ -311,8 +302,9 @@ mod tests {
             ("stretched track 1 to 2", 19, "the word 'from' is missing here"),
             ("stretched track 1 from 9 to 2 chance 3", 26, "ends before 9 inches"),
             ("stretched track 1 from 9.25 to 10 chance 3", 24, "no number of inches"),
-            ("torn track 1 object 2 code 16", 23, "code 16 is none of code 0C identification zone late, code 0D"),
-            ("torn track 1 object 2", 22, "the line ends too soon: one of code 0C"),
+            ("torn track 1 object 2 code 16", 23, "code 16 is none of these: 'code 0C' or 'identification zone late'"),
+            ("torn track 1 object 2 0E", 23, "'0E' cannot stand here: one of 'code 0C' or 'identification zone late'"),
+            ("torn track 1 object 2", 22, "the line ends too soon: one of 'code 0C'"),
             ("late order 7", 6, "'order' cannot stand here: the late flags are write, read or both"),
             ("late 0 order 7", 6, "write, read or both"),
             ("late read order 7 more", 19, "'more' says nothing here"),
@@ -322,7 +314,28 @@ mod tests {
             let said = Fault::parse(&mut Words::of(text.as_bytes()).unwrap()).unwrap_err();
             assert!(said.what.contains(part) && said.column == column, "{text}: {said:?}");
         }
-        let named = Fault::parse(&mut Words::of(b"torn track 1 object 2 byte count check bad").unwrap()).unwrap();
-        assert_eq!(named, Fault::Torn { track: 1, object: 2, code: 0x0E });
+    }
+
+    /// All that a list of codes has in quotation marks can be typed.
+    #[test]
+    fn what_a_list_of_codes_says_can_be_typed() {
+        for (fault, codes) in [("torn", [0x0C, 0x0D, 0x0E]), ("trailing", [0x10, 0x11, 0x12])] {
+            let read = |code: &str| {
+                let text = format!("{fault} track 1 object 2 {code}");
+                Fault::parse(&mut Words::of(text.as_bytes()).unwrap())
+            };
+            let said = read("0E").unwrap_err().what;
+            let list = said.split_once("here: ").unwrap().1;
+            let typed: Vec<u8> = list
+                .split('\'')
+                .skip(1)
+                .step_by(2)
+                .map(|code| match read(code) {
+                    Ok(Fault::Torn { code, .. } | Fault::Trailing { code, .. }) => code,
+                    other => panic!("{code}: {other:?}"),
+                })
+                .collect();
+            assert_eq!(typed, codes.map(|code| [code, code]).concat(), "{said}");
+        }
     }
 }

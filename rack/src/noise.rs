@@ -1,10 +1,10 @@
 //! A link with faults: it stands between a host and a board, breaks, changes bytes on their way, and loses data.
 
 use crate::board::{Heard, Hearing, Link, Trouble, IMAGE_MOST};
-use crate::faults::{listed, Chance};
+use crate::faults::Chance;
 use crate::host::ACK;
 use ctc_words::interface::Store;
-use ctc_words::statement::{Words, Wrong};
+use ctc_words::statement::{listed, Words, Wrong};
 use std::fmt;
 
 /// The operation of a store that reads.

@@ -4,13 +4,13 @@
 use crate::board::{Damage, DRIVES};
 use crate::cartridge::{density, length, Cartridge, GCR};
 use crate::driver::Command;
-use crate::faults::{listed, Chance, Chances, Fault};
+use crate::faults::{Chance, Chances, Fault};
 use crate::noise::{LinkChances, LinkFault};
 use crate::run::{Job, Setup, Wrongs};
 use crate::transport::Transport;
 use ctc_words::line::split;
 use ctc_words::names::Kind;
-use ctc_words::statement::{is_comment, Source, Words, Wrong};
+use ctc_words::statement::{is_comment, listed, Source, Words, Wrong};
 use std::path::{Path, PathBuf};
 use std::rc::Rc;
 
@@ -82,6 +82,8 @@ struct Reader<'a> {
     named: [bool; DRIVES],
     chosen: [bool; DRIVES],
     links: Vec<Link>,
+    /// Where each job says its drive: the line, and the column.
+    drives: Vec<(usize, usize)>,
     line: usize,
 }
 
@@ -96,7 +98,8 @@ impl Scenario {
             jobs: Vec::new(),
         };
         let none = [false; DRIVES];
-        let mut reader = Reader { scenario, folder, named: none, chosen: none, links: Vec::new(), line: 0 };
+        let (links, drives) = (Vec::new(), Vec::new());
+        let mut reader = Reader { scenario, folder, named: none, chosen: none, links, drives, line: 0 };
         for line in split(text) {
             reader.line += 1;
             if !is_comment(line) {
@@ -149,6 +152,17 @@ impl Reader<'_> {
         if self.scenario.jobs.is_empty() {
             let what = "the scenario ends without a job: a line such as 'job 0 drive 0', and its commands".to_string();
             return Err(Problem { line: self.line.max(1), wrong: Wrong { column: 1, what } });
+        }
+        // a forgotten cartridge would be a tape that is gone
+        for (job, (line, column)) in self.scenario.jobs.iter().zip(self.drives) {
+            let drive = job.drive;
+            if !self.named[usize::from(drive)] {
+                let what = format!(
+                    "no line names drive {drive}: a job needs 'drive {drive} cartridge ..', or 'drive {drive} empty' \
+                     where that is meant"
+                );
+                return Err(Problem { line, wrong: Wrong { column, what } });
+            }
         }
         Ok(self.scenario)
     }
@@ -258,6 +272,7 @@ impl Reader<'_> {
         let density = if words.is_done() { GCR } else { density(words)? };
         let (commands, faults, chances) = (Vec::new(), Vec::new(), LinkChances::default());
         jobs.push(Job { number, drive, density, commands, faults, chances });
+        self.drives.push((self.line, column));
         Ok(())
     }
 }
@@ -340,6 +355,9 @@ fn command(words: &mut Words, folder: &Path) -> Result<Vec<Command>, Wrong> {
     }
     let word = words.peek().unwrap_or("");
     let known = COMMANDS.iter().any(|command| *command == word);
+    if let Some(wrong) = words.second(&COMMANDS) {
+        return wrong;
+    }
     if !known {
         return words.other(&format!(
             "a command is {}; another job or fault begins with {}",
@@ -446,6 +464,8 @@ mod tests {
             ("chance drive 0 torn 3 torn", 1, 27, "torn is missing"),
             ("chance drive 0 torn 3\nchance drive 0 bad 3", 2, 14, "the chances of drive 0 are there already"),
             ("chance job 1 breaks 1001", 1, 21, "breaks '1001' is not 0 to 1000"),
+            ("job 0 drive 0\n  rewind", 1, 13, "no line names drive 0: a job needs 'drive 0 cartridge ..'"),
+            ("drive 0 empty\njob 1 drive 2\njob 0 drive 0", 2, 13, "or 'drive 2 empty' where that is meant"),
         ] {
             let Problem { line: number, wrong } = Scenario::parse(text.as_bytes(), Path::new(".")).unwrap_err();
             assert!(wrong.what.contains(part), "{text}: {wrong:?}");
@@ -455,9 +475,10 @@ mod tests {
             ("jump", 1, "'jump' cannot stand here: a command is status, rewind, fsf"),
             ("skip forward", 1, "'skip forward' is a store, and no command"),
             ("track 4", 1, "'track 4' is a store, and no command"),
-            ("track", 1, "'track' cannot stand here: a command is"),
+            ("track", 6, "the line ends too soon: track N"),
             ("guard on", 1, "set guard, clear guard"),
-            ("density mfm", 1, "density MFM, density GCR"),
+            ("set gard", 5, "'gard' cannot stand here: set guard"),
+            ("density mfm", 9, "'mfm' cannot stand here: a density is MFM or GCR"),
             ("fsf 0", 5, "how many '0' is not 1 to 1000000"),
             ("fsr two", 5, "how many 'two' is not"),
             ("erase 32768", 7, "inches '32768' is not 1 to 32767"),
@@ -477,6 +498,9 @@ mod tests {
         }
         let latin = Scenario::parse(b"job 0 drive 0\n  write \xE4", Path::new(".")).unwrap_err();
         assert_eq!((latin.line, latin.wrong.column), (2, 9));
+        // a drive without a cartridge may be meant, and may be said behind the job
+        Scenario::parse(b"job 0 drive 0\n  rewind\ndrive 0 empty\n", Path::new(".")).unwrap();
+        Scenario::parse(b"drive 0 missing\njob 0 drive 0\n  rewind\n", Path::new(".")).unwrap();
     }
 
     #[test]

@@ -8,7 +8,8 @@ const words = node => node.textContent.replace(/\s+/g, ' ').trim();
 const lane = node => node.closest('td').dataset.lane;
 const choose = value => all('input[type=radio]').find(one => one.value === value).click();
 const box = value => all('input[type=checkbox]').find(one => one.value === value);
-const heads = () => all('thead th').filter(seen).map(head => words(head).replace(/ (job|no job|the same).*/, '')).join(', ');
+const heads = () =>
+  all('thead th').filter(seen).map(head => words(head).replace(/ (job|no job|the same).*/, '')).join(', ');
 const entries = () => all('.entry').filter(seen);
 const per = () => {
   const count = {};
@@ -16,8 +17,10 @@ const per = () => {
   return Object.keys(count).sort().map(key => key + '=' + count[key]).join(' ');
 };
 // the jobs whose stores are seen being queued
-const queuing = () => [...new Set(entries().map(words).map(text => /job (\d) queues/.exec(text)?.[1]).filter(job => job))]
-  .sort().join(',');
+const queuing = () => {
+  const jobs = entries().map(words).map(text => /job (\d) queues/.exec(text)?.[1]).filter(job => job);
+  return [...new Set(jobs)].sort().join(',');
+};
 
 // what went wrong with other drives than this one, as far as it is listed
 const elsewhere = drive => all('li').filter(seen).filter(one => !words(one).includes('drive ' + drive)).length;

@@ -2,13 +2,15 @@
 
 use crate::interface::{image_count, Action, Answer, Answered, Outcome, Phase, Refusal, Store};
 use crate::line::{put_answer, put_decimal, put_hex, Buffers, Line, Player, Program, Unreadable};
-use crate::names::{name, Kind};
+use crate::names::{name, names, Kind};
+use crate::statement::listed;
 use crate::status::{put_code, put_motion, put_report, put_secondary, put_word};
 
 const ACK: u8 = 0x06;
 const NACK: u8 = 0x15;
 const LOAD_LEAD: u8 = 0x62;
 const STORE_LEAD: u8 = 0x64;
+const REPLY_LEAD: u8 = 0x66;
 const UPDATE_LEAD: u8 = 0x68;
 const INTERRUPT_LEAD: u8 = 0x69;
 const PRIMARY: u8 = 1;
@@ -795,41 +797,65 @@ impl Teller {
     }
 }
 
-/// A single word: 8 digits of the word of a load, primary where none is named; 12 of a string to the host or of an
-/// order; 8 or 16 of a string from the host behind `load` or `store`.
-pub fn told_word(load: Option<&str>, digits: &str) -> Option<String> {
+/// What a single word may be.
+const WORDS: &str =
+    "a status word has 8 hexadecimal digits, a string to the host or an order 12, a store 16, letters capital";
+
+/// A single word, which may have 0x before it: 8 digits of the word of a load, primary where none is named; 12 of a
+/// string to the host or of an order; 16 of a store. Else what is wrong with it.
+pub fn told_word(load: Option<&str>, word: &str) -> Result<String, String> {
+    let of = load.unwrap_or(name(Kind::Load, PRIMARY));
+    let Some(number) = names().number(Kind::Load, of) else {
+        let loads = listed(&names().words(Kind::Load));
+        return Err(format!("the load is {loads}, and not '{of}'"));
+    };
+    let digits = word.strip_prefix("0x").unwrap_or(word);
     let mut bytes = Vec::new();
     if digits.len() % 2 != 0 || !crate::line::put_bytes(digits.as_bytes(), &mut bytes) {
-        return None;
+        return Err(WORDS.to_string());
     }
     let mut out = Vec::new();
     let sum = bytes.iter().fold(0, |sum, byte| sum ^ byte);
+    let checked = |what: &str, check: u8| match sum {
+        0 => Ok(()),
+        _ => Err(format!(
+            "{what} with a wrong check byte, {:02X} would be right",
+            check ^ sum
+        )),
+    };
     match (load, &bytes[..]) {
-        (None, &[a, b, c, d]) => {
-            put("primary: ", &mut out);
-            put_word(PRIMARY, u32::from_be_bytes([a, b, c, d]), &mut out);
-        }
-        (Some(load), &[a, b, c, d]) => {
-            let number = crate::names::names().number(Kind::Load, load)? as u8;
-            put(load, &mut out);
+        (_, &[a, b, c, d]) => {
+            put(of, &mut out);
             put(": ", &mut out);
-            put_word(number, u32::from_be_bytes([a, b, c, d]), &mut out);
+            put_word(number as u8, u32::from_be_bytes([a, b, c, d]), &mut out);
         }
-        (None, &[lead, b, c, d, e, f])
-            if (0x66..=INTERRUPT_LEAD).contains(&lead) && lead != 0x67 && sum == 0 =>
+        (Some(_), _) => return Err(WORDS.to_string()),
+        (None, &[lead, b, c, d, e, check])
+            if matches!(lead, REPLY_LEAD | UPDATE_LEAD | INTERRUPT_LEAD) =>
         {
-            put_sent(&[lead, b, c, d, e, f], PRIMARY, &mut out);
+            checked("a string to the host", check)?;
+            put_sent(&[lead, b, c, d, e, check], PRIMARY, &mut out);
         }
         (None, &[a, b, c, d, e, f]) if !name(Kind::Order, a).is_empty() => {
             put_order(&[a, b, c, d, e, f], &mut out);
         }
-        (None, string) if string.len() == 8 && string[0] == STORE_LEAD && sum == 0 => {
+        (None, &[STORE_LEAD, .., check]) if bytes.len() == 8 => {
+            checked("a store", check)?;
             put("store: ", &mut out);
-            put_store(&store_of(string), &mut out);
+            put_store(&store_of(&bytes), &mut out);
         }
-        _ => return None,
+        (None, &[lead, ..]) if bytes.len() == 8 => {
+            return Err(format!("16 digits are a store, which begins with {STORE_LEAD:02X}, and not with {lead:02X}"));
+        }
+        (None, &[lead, ..]) if bytes.len() == 6 => {
+            return Err(format!(
+                "12 digits are a string to the host, which begins with {REPLY_LEAD:02X}, {UPDATE_LEAD:02X} or \
+                 {INTERRUPT_LEAD:02X}, or an order, and none begins with {lead:02X}"
+            ));
+        }
+        _ => return Err(WORDS.to_string()),
     }
-    String::from_utf8(out).ok()
+    Ok(String::from_utf8(out).expect("the table of names is text"))
 }
 
 /// The store of a whole string.

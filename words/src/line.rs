@@ -93,7 +93,7 @@ impl fmt::Display for Why {
                 "letters are capital: {}",
                 letter.to_ascii_uppercase() as char
             ),
-            Why::JobsAlone => write!(f, "only ./ctc jobs takes it"),
+            Why::JobsAlone => write!(f, "only ctc jobs takes it"),
             Why::FieldsMissing(form) => write!(f, "fields are missing: the form is {form}"),
             Why::StandsAlone(letter) => write!(f, "{} stands alone on its line", *letter as char),
             Why::Missing(field, form) => write!(f, "{field} is missing: the form is {form}"),

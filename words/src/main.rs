@@ -1,4 +1,4 @@
-//! `ctc-words explain | make | prompt | names`: the commands ./ctc explain and ./ctc make, and ./session and ./ctc
+//! `ctc-words explain | make | prompt | names`: the commands ./ctc explain and ./ctc make, and ./ctc session and ./ctc
 //! jobs at a terminal.
 
 use ctc_words::explain::{told_word, Explainer, Options};
@@ -180,7 +180,11 @@ fn explain(words: &[String]) -> Done {
     }
     let file = match files[..] {
         [file] => file,
-        [load, word] => return single(Some(load), word),
+        [load, word] => {
+            let told = told_word(Some(load), word);
+            let wrong = |why| Failure::usage(format!("'{load} {word}' is no status word: {why}"));
+            return write(format!("{}\n", told.map_err(wrong)?).as_bytes());
+        }
         [] => return Err(Failure::usage("a file, - or a status word is missing")),
         _ => {
             return Err(Failure::usage(format!(
@@ -189,13 +193,11 @@ fn explain(words: &[String]) -> Done {
             )))
         }
     };
-    if file != "-" && !Path::new(file).exists() && told_word(None, file).is_some() {
-        return single(None, file);
-    }
-    if file != "-" && !Path::new(file).exists() && file.bytes().all(|byte| byte.is_ascii_hexdigit())
-    {
-        let what = format!("{file} is no file, and no word: a status word has 8 hexadecimal digits, letters capital");
-        return Err(Failure::failed(what));
+    let is_word = file.starts_with("0x") || file.bytes().all(|byte| byte.is_ascii_hexdigit());
+    if is_word && !Path::new(file).exists() {
+        let told = told_word(None, file);
+        let wrong = |why| Failure::failed(format!("{file} is no file, and no word: {why}"));
+        return write(format!("{}\n", told.map_err(wrong)?).as_bytes());
     }
     if statements {
         let mut told = Statements::default();
@@ -213,17 +215,6 @@ fn explain(words: &[String]) -> Done {
         ))),
         Some((count, first)) => Err(Failure::failed(format!(
             "{file}:{first}: the first of {count} unreadable lines"
-        ))),
-    }
-}
-
-/// One word, with the load that brings it.
-fn single(load: Option<&str>, word: &str) -> Done {
-    match told_word(load, word) {
-        Some(told) => write(format!("{told}\n").as_bytes()),
-        None => Err(Failure::usage(format!(
-            "'{} {word}' is no status word: primary, secondary, tertiary, reports or quintary, and 8 hexadecimal digits",
-            load.unwrap_or("")
         ))),
     }
 }

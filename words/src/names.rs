@@ -82,12 +82,20 @@ pub fn read(table: &'static str) -> Result<Names, String> {
         list: Vec::new(),
         words: [[""; 256]; KINDS.len()],
     };
-    for (at, line) in table.lines().enumerate() {
+    let mut lines = table.lines().enumerate().peekable();
+    while let Some((at, line)) = lines.next() {
         if line.starts_with('#') || line.is_empty() {
             continue;
         }
         let wrong = |what: &str| format!("names.txt:{}: {what}", at + 1);
-        let fields: Vec<&'static str> = line.split('|').collect();
+        let mut fields: Vec<&'static str> = line.split('|').collect();
+        // a line that begins with blanks has the fields that are left
+        while let Some((_, more)) = lines.next_if(|(_, more)| more.starts_with(' ')) {
+            match more.trim_start().strip_prefix('|') {
+                Some(more) => fields.extend(more.split('|')),
+                None => return Err(wrong("a line goes on from a | on")),
+            }
+        }
         let [kind, number, words, c, rattle, definition] = fields[..] else {
             return Err(wrong("a line has six fields"));
         };
@@ -136,6 +144,11 @@ impl Names {
     /// All names of a kind, in the order of the table.
     pub fn all(&self, kind: Kind) -> impl Iterator<Item = &Name> {
         self.list.iter().filter(move |name| name.kind == kind)
+    }
+
+    /// The words of all names of a kind, in the order of the table.
+    pub fn words(&self, kind: Kind) -> Vec<&'static str> {
+        self.all(kind).map(|name| name.words).collect()
     }
 
     /// The whole table, in its order.

@@ -32,7 +32,9 @@ impl Prompt {
     /// What stands there before anything is typed.
     pub fn start(&self, out: &mut Vec<u8>) {
         if self.terminal {
-            out.extend_from_slice(b"Type a line, such as B,62, or words, such as load primary; help says more, Ctrl-D ends.\n");
+            out.extend_from_slice(
+                b"Type a line, such as B,62, or words, such as load primary; help says more, Ctrl-D ends.\n",
+            );
             self.put_awaited(out);
         }
     }

@@ -227,6 +227,21 @@ impl<'a> Words<'a> {
         }
     }
 
+    /// The same, where this might stand.
+    pub fn end_or(&self, may: &str) -> Result<(), Wrong> {
+        match self.list.get(self.at) {
+            Some(word) if word.quoted || !word.text.starts_with('#') => self.other(may),
+            _ => self.end(),
+        }
+    }
+
+    /// Where the first word of some of these names comes next, what may stand behind it, said at its place.
+    pub fn second<T>(&mut self, names: &[&str]) -> Option<Result<T, Wrong>> {
+        let may = behind(self.peek()?, names)?;
+        self.at += 1;
+        Some(self.other(&may))
+    }
+
     /// Takes this word, if it comes next.
     pub fn take(&mut self, word: &str) -> bool {
         let there = self.peek() == Some(word);
@@ -358,6 +373,29 @@ fn is_hex(text: &str) -> bool {
         && text.len() >= 2
 }
 
+/// Words with commas between them.
+pub fn listed(words: &[&str]) -> String {
+    match words {
+        [all @ .., last] if !all.is_empty() => format!("{} or {last}", all.join(", ")),
+        _ => words.concat(),
+    }
+}
+
+/// What stands behind the first word of names; none where no name of several words begins with it.
+fn behind(first: &str, names: &[&str]) -> Option<String> {
+    let longer: Vec<(&str, &str)> = names
+        .iter()
+        .filter_map(|name| Some((*name, name.strip_prefix(first)?.strip_prefix(' ')?)))
+        .collect();
+    let (wholes, seconds): (Vec<&str>, Vec<&str>) = longer.into_iter().unzip();
+    match (first, &seconds[..]) {
+        (_, []) => None,
+        ("density", _) => Some(format!("a density is {}", listed(&seconds))),
+        ("track", [least, .., most]) => Some(format!("a track is {least} to {most}")),
+        _ => Some(listed(&wholes)),
+    }
+}
+
 fn shortened(text: &str) -> String {
     match text.char_indices().nth(16) {
         Some((at, _)) => format!("{}..", &text[..at]),
@@ -365,10 +403,23 @@ fn shortened(text: &str) -> String {
     }
 }
 
+/// What a store begins with that is said in words, but for `reset store`.
+macro_rules! stores {
+    () => {
+        "read, check bytes, read supplied, write, erase, rewind, fast forward, skip, search, write mark, track, \
+         density, set, clear"
+    };
+}
+
 /// What may begin a statement, for a message and for help.
-pub const BEGINNINGS: &str = "read, check bytes, read supplied, write, erase, rewind, fast forward, skip, search, write mark, \
-track, density, set, clear, reset, load, report, result, data, accept, refuse, tick, queue, hand, taken, broken, byte, \
-store, line or refused";
+pub const BEGINNINGS: &str = concat!(
+    stores!(),
+    ", reset, load, report, result, data, accept, refuse, tick, queue, hand, taken, broken, byte, store, line or \
+     refused"
+);
+
+/// What may begin a store that is queued.
+const STORES: &str = concat!(stores!(), ", reset store or store");
 
 /// Reads a line of words, given without its #0A.
 pub fn read(line: &[u8]) -> Result<Said, Wrong> {
@@ -439,11 +490,11 @@ fn statement(words: &mut Words, source_column: &mut usize) -> Result<Statement, 
     match first {
         "accept" => {
             words.at += 1;
-            Ok(if words.take("one") {
-                Statement::AcceptOne
-            } else {
-                Statement::Accept
-            })
+            if words.take("one") {
+                return Ok(Statement::AcceptOne);
+            }
+            words.end_or("accept, or accept one")?;
+            Ok(Statement::Accept)
         }
         "reset"
             if words
@@ -452,6 +503,7 @@ fn statement(words: &mut Words, source_column: &mut usize) -> Result<Statement, 
                 .is_none_or(|word| word.text != "store") =>
         {
             words.at += 1;
+            words.end_or("reset, or reset store")?;
             Ok(Statement::Reset)
         }
         "load" => {
@@ -461,7 +513,11 @@ fn statement(words: &mut Words, source_column: &mut usize) -> Result<Statement, 
             }
             match words.name(Kind::Load) {
                 Some(name) => Ok(Statement::Load((name.number as u8) << 4)),
-                None => words.wrong("a load is identity, primary, secondary, tertiary, reports, quintary or address HH"),
+                None => {
+                    let mut loads = names().words(Kind::Load);
+                    loads.push("address HH");
+                    words.other(&format!("a load is {}", listed(&loads)))
+                }
             }
         }
         "byte" => {
@@ -481,14 +537,15 @@ fn statement(words: &mut Words, source_column: &mut usize) -> Result<Statement, 
                 report |= name.number as u8;
                 any = true;
             }
-            if !any {
-                let bits: Vec<&str> = names().all(Kind::Report).map(|name| name.words).collect();
-                return words.wrong(format!(
-                    "a report is nothing, or some of {}",
-                    bits.join(", ")
-                ));
+            if any && words.is_done() {
+                return Ok(Statement::Report(drive, report));
             }
-            Ok(Statement::Report(drive, report))
+            let bits = names().words(Kind::Report).join(", ");
+            let may = format!("a report is nothing, or some of {bits}");
+            if any {
+                words.end_or(&may)?;
+            }
+            words.other(&may)
         }
         "data" => {
             words.at += 1;
@@ -502,19 +559,23 @@ fn statement(words: &mut Words, source_column: &mut usize) -> Result<Statement, 
         "queue" => {
             words.at += 1;
             let job = words.named("job", 0, 255)? as u8;
-            match store(words, source_column)? {
+            match store(words, source_column, true)? {
                 (store, None) => Ok(Statement::Queue(job, store)),
                 _ => words.wrong(
                     "a store that is queued has its bytes when it is handed over: say data then",
                 ),
             }
         }
-        _ => store(words, source_column).map(|(store, from)| Statement::Store(store, from)),
+        _ => store(words, source_column, false).map(|(store, from)| Statement::Store(store, from)),
     }
 }
 
 /// What a store asks for, with its drive and the other words that it takes.
-fn store(words: &mut Words, source_column: &mut usize) -> Result<(Store, Option<Source>), Wrong> {
+fn store(
+    words: &mut Words,
+    source_column: &mut usize,
+    queued: bool,
+) -> Result<(Store, Option<Source>), Wrong> {
     if words.take("store") {
         words.need("address")?;
         let address = words.hex("address", Some(1))?[0];
@@ -525,7 +586,8 @@ fn store(words: &mut Words, source_column: &mut usize) -> Result<(Store, Option<
     }
     let start = words.at;
     let mut longest: Option<(Kind, &Name)> = None;
-    for kind in [Kind::Control, Kind::Reading, Kind::Store] {
+    let kinds = [Kind::Control, Kind::Reading, Kind::Store];
+    for kind in kinds {
         words.at = start;
         if let Some(name) = words.name(kind) {
             let none = name.kind == Kind::Store && matches!(name.number, 3 | 4);
@@ -535,7 +597,14 @@ fn store(words: &mut Words, source_column: &mut usize) -> Result<(Store, Option<
         }
     }
     words.at = start;
+    let stores = || kinds.map(|kind| names().words(kind)).concat();
     let Some((kind, name)) = longest else {
+        if let Some(wrong) = words.second(&stores()) {
+            return wrong;
+        }
+        if queued {
+            return words.other(&format!("a store begins with {STORES}"));
+        }
         let text = shortened(words.list[start].text);
         return words.wrong(format!(
             "'{text}' begins no statement: it begins with {BEGINNINGS}"
@@ -579,13 +648,26 @@ fn store(words: &mut Words, source_column: &mut usize) -> Result<(Store, Option<
             _ => break,
         }
     }
+    if !words.is_done() {
+        let mut may = vec!["drive N", "interrupt"];
+        may.extend(counts.then_some("count N"));
+        may.extend(writes.then_some("discard N"));
+        may.extend(writes.then_some("from SOURCE"));
+        let may = format!("behind {} stand {}", name.words, listed(&may));
+        // read and write begin longer names too
+        words.end_or(&match behind(name.words, &stores()) {
+            Some(longer) if words.at == start + 1 => format!("{longer}; or {may}"),
+            _ => may,
+        })?;
+    }
     if counts {
         let bytes = match &from {
             Some(Source::Bytes(bytes)) => Some(bytes.len().saturating_sub(operand[1] as usize)),
             _ => None,
         };
         let Some(count) = count.or(bytes).filter(|count| *count <= 65_535) else {
-            return words.wrong(format!("{} needs a count, 0 to 65535", name.words));
+            let file = if from.is_some() && bytes.is_none() { " from a file" } else { "" };
+            return words.wrong(format!("{}{file} needs a count, 0 to 65535", name.words));
         };
         operand[2..].copy_from_slice(&(count as u16).to_be_bytes());
     }
@@ -598,7 +680,7 @@ fn result(words: &mut Words, source_column: &mut usize) -> Result<ResultWords, W
     } else if let Some(code) = words.code()? {
         code
     } else {
-        return words.wrong("behind 'result' stands good, code HH or the name of a code");
+        return words.other("behind 'result' stands good, code HH or the name of a code");
     };
     let mut said = ResultWords {
         code,
@@ -642,6 +724,9 @@ fn result(words: &mut Words, source_column: &mut usize) -> Result<ResultWords, W
             }
         }
     }
+    words.end_or(
+        "behind the code stand mark, late, record, spoiled, marked, count, image or space",
+    )?;
     Ok(said)
 }
 

@@ -1,7 +1,7 @@
 //! What explain says against what the proved programs answered, and what make makes against what explain reads back: on
 //! all stored sessions, on random ones, and for every statement.
 
-use ctc_words::explain::{Explainer, Options};
+use ctc_words::explain::{told_word, Explainer, Options};
 use ctc_words::interface::Store;
 use ctc_words::line::{hex, put_line, split, Buffers, Line, Program};
 use ctc_words::make::Made;
@@ -17,21 +17,27 @@ fn root() -> PathBuf {
     Path::new(env!("CARGO_MANIFEST_DIR")).join("..")
 }
 
+/// The sessions in a folder and those below it.
+fn sessions_in(folder: &Path, program: Program, found: &mut Vec<(PathBuf, Program)>) {
+    for entry in fs::read_dir(folder).expect("a folder of sessions") {
+        let path = entry.expect("an entry").path();
+        if path.is_dir() {
+            sessions_in(&path, program, found);
+        } else if path.extension().is_some_and(|end| end == "session") {
+            found.push((path, program));
+        }
+    }
+}
+
 /// The stored sessions, with the program that plays them.
 fn stored() -> Vec<(PathBuf, Program)> {
     let mut found = Vec::new();
     for (folder, program) in [
-        ("sessions", Program::Session),
+        ("sessions/session", Program::Session),
         ("sessions/jobs", Program::Jobs),
         ("sessions/words", Program::Jobs),
     ] {
-        let entries = fs::read_dir(root().join(folder)).expect("a folder of sessions");
-        for entry in entries {
-            let path = entry.expect("an entry").path();
-            if path.extension().is_some_and(|end| end == "session") {
-                found.push((path, program));
-            }
-        }
+        sessions_in(&root().join(folder), program, &mut found);
     }
     assert!(found.len() > 200, "{} stored sessions", found.len());
     found
@@ -247,7 +253,8 @@ fn every_operation_comes_back() {
                 for interrupt in ["", " interrupt"] {
                     let store = format!("{name}{drive}{interrupt}{count}");
                     let bench = format!(
-                        "report drive 0 installed selectable\nreport drive 3 installed selectable\ndensity {density} drive 3\n"
+                        "report drive 0 installed selectable\nreport drive 3 installed selectable\n\
+                         density {density} drive 3\n"
                     );
                     comes_back(&format!("{bench}{store}\n"));
                     // what follows is told too: the calls that are due, whichever they are
@@ -277,15 +284,18 @@ fn courses_come_back() {
     let bench = "report drive 1 installed selectable\ndensity GCR drive 1\n";
     for course in [
         "read drive 1 interrupt\nresult good record bytes 48454C4C4F\naccept\n",
-        "read drive 1 interrupt\nresult good record bytes 48\naccept one\nreport drive 0 nothing\naccept one\nrefuse\naccept\n",
+        "read drive 1 interrupt\nresult good record bytes 48\naccept one\nreport drive 0 nothing\n\
+         accept one\nrefuse\naccept\n",
         "read drive 1\nresult good record bytes 48454C4C4F spoiled 0 check 1 mark 9\naccept\n",
         "read drive 1\nresult good record bytes 48454C4C4F marked 0 mark 4 check 0\naccept\nload primary\naccept\n",
         "read drive 1\nresult good record bytes 48454C4C4F space 3\nrefuse\n",
         "read drive 1\nresult good mark\naccept\n",
         "read drive 1\nresult code 0C late both\naccept\n",
         "read drive 1\nresult good record bytes\naccept\n",
-        "read drive 1\nrefused result code 0B\nrefused result good late 7\nrefused result good image bytes 800200 marks bytes 0F0F\n",
-        "read drive 1\nrefused result good record bytes 48454C4C4F marked 0 mark 12\nrefused data bytes 48\nrefused tick\n",
+        "read drive 1\nrefused result code 0B\nrefused result good late 7\n\
+         refused result good image bytes 800200 marks bytes 0F0F\n",
+        "read drive 1\nrefused result good record bytes 48454C4C4F marked 0 mark 12\n\
+         refused data bytes 48\nrefused tick\n",
         "read supplied drive 1 count 5\nresult good record bytes 0102030405\naccept\n",
         "refused result good\nrefused data bytes\nrefused taken\n",
         "skip reverse drive 1 interrupt\nresult good late write count 600\naccept\n",
@@ -314,7 +324,8 @@ fn short_words_make_the_same() {
     for (short, whole) in [
         (
             "report drive 1 installed, selectable, BOT\nwrite drive 1 from text \"HELLO\"\nresult good\nload primary\n",
-            "report drive 1 installed selectable BOT\nwrite drive 1 count 5\naccept\ndata bytes 48454C4C4F\nresult good\naccept\nload primary\n",
+            "report drive 1 installed selectable BOT\nwrite drive 1 count 5\naccept\n\
+             data bytes 48454C4C4F\nresult good\naccept\nload primary\n",
         ),
         ("load primary\nload secondary\ntick\n", "load primary\naccept\nload secondary\naccept\ntick\n"),
         (
@@ -338,7 +349,16 @@ fn what_cannot_be_meant_is_said() {
         ("reed drive 1", "1:1", "'reed' begins no statement"),
         ("read drive 9", "1:12", "drive '9' is not 0 to 7"),
         ("read drive", "1:11", "drive is missing"),
-        ("read drive 1 twice", "1:14", "'twice' says nothing here"),
+        (
+            "read drive 1 twice",
+            "1:14",
+            "'twice' cannot stand here: behind read stand drive N or interrupt",
+        ),
+        (
+            "read drive 1 # once",
+            "1:14",
+            "a comment is a line of its own",
+        ),
         ("write drive 1", "1:14", "write needs a count"),
         ("load nothing", "1:6", "a load is identity"),
         (
@@ -416,6 +436,141 @@ fn what_cannot_be_meant_is_said() {
             error.starts_with(place) && error.contains(said),
             "{words}: {error}"
         );
+    }
+}
+
+/// A wrong second word is told at its place with what may stand there, whether something stands there or nothing.
+#[test]
+fn second_words_are_told() {
+    for (first, may) in [
+        ("density", "a density is MFM or GCR"),
+        ("skip", "skip forward or skip reverse"),
+        ("search", "search forward or search reverse"),
+        ("fast", "fast forward"),
+        ("check", "check bytes"),
+        ("track", "a track is 0 to 7"),
+        ("set", "set enable or set guard"),
+        ("clear", "clear enable or clear guard"),
+        (
+            "load",
+            "a load is identity, primary, secondary, tertiary, reports, quintary or address HH",
+        ),
+        (
+            "result",
+            "behind 'result' stands good, code HH or the name of a code",
+        ),
+        ("result good late", "the late flags are write, read or both"),
+        (
+            "report drive 0",
+            "a report is nothing, or some of EOT, EOT warning, installed, BOT warning, protected, \
+             position unknown, selectable, BOT",
+        ),
+        (
+            "queue job 0",
+            "a store begins with read, check bytes, read supplied, write, erase, rewind, fast forward, \
+             skip, search, write mark, track, density, set, clear, reset store or store",
+        ),
+        ("queue job 0 density", "a density is MFM or GCR"),
+        ("refused queue job 0 skip", "skip forward or skip reverse"),
+    ] {
+        for (words, what) in [
+            (first.to_string(), "the line ends too soon".to_string()),
+            (format!("{first} wrong"), "'wrong' cannot stand here".to_string()),
+            (format!("{first} \"quoted\""), "'quoted' cannot stand here".to_string()),
+        ] {
+            let column = first.len() + if words.len() > first.len() { 2 } else { 1 };
+            let error = made(words.as_bytes(), Path::new("")).expect_err(&words);
+            assert_eq!(error, format!("1:{column}: {what}: {may}"), "{words}");
+        }
+    }
+    // what may stand alone, with what may stand behind it
+    for (words, column, may) in [
+        (
+            "write marks drive 0",
+            7,
+            "write mark; or behind write stand drive N, interrupt, count N",
+        ),
+        (
+            "write drive 0 marks",
+            15,
+            "behind write stand drive N, interrupt, count N, discard N or from SOURCE",
+        ),
+        (
+            "read supply count 4",
+            6,
+            "read supplied; or behind read stand drive N or interrupt",
+        ),
+        (
+            "read supplied 4",
+            15,
+            "behind read supplied stand drive N, interrupt or count N",
+        ),
+        ("rewind all", 8, "behind rewind stand drive N or interrupt"),
+        ("accept two", 8, "accept, or accept one"),
+        ("reset stor", 7, "reset, or reset store"),
+        (
+            "report drive 0 installed bot",
+            26,
+            "a report is nothing, or some of EOT, EOT warning",
+        ),
+        (
+            "report drive 2 0x22",
+            16,
+            "a report is nothing, or some of EOT, EOT warning",
+        ),
+        (
+            "queue job 0 tick",
+            13,
+            "a store begins with read, check bytes",
+        ),
+        (
+            "result good lat write",
+            13,
+            "behind the code stand mark, late, record, spoiled, marked, count, image or space",
+        ),
+    ] {
+        let error = made(words.as_bytes(), Path::new("")).expect_err(words);
+        assert!(
+            error.starts_with(&format!("1:{column}: '"))
+                && error.contains(&format!("cannot stand here: {may}")),
+            "{words}: {error}"
+        );
+    }
+}
+
+/// A wrong byte of a store or of a string to the host is found, and the check byte that would be right is said.
+#[test]
+fn single_words_are_told() {
+    for (word, said) in [
+        (
+            "64B80000002100FD",
+            "store: skip reverse, drive 0, asks an interrupt",
+        ),
+        ("680000000068", "update of secondary: count 0"),
+    ] {
+        for given in [word.to_string(), format!("0x{word}")] {
+            assert_eq!(told_word(None, &given).as_deref(), Ok(said), "{given}");
+        }
+        let bytes: Vec<u8> = (0..word.len())
+            .step_by(2)
+            .map(|at| u8::from_str_radix(&word[at..at + 2], 16).unwrap())
+            .collect();
+        // the first byte says what it is
+        for turned in 1..bytes.len() {
+            let mut bytes = bytes.clone();
+            bytes[turned] ^= 0x5A;
+            let (_, rest) = bytes.split_last().unwrap();
+            let right = rest.iter().fold(0, |sum, byte| sum ^ byte);
+            let why = told_word(None, &hex(&bytes)).expect_err(word);
+            let wanted = format!("with a wrong check byte, {right:02X} would be right");
+            assert!(why.ends_with(&wanted), "{bytes:02X?}: {why}");
+        }
+    }
+    for load in names().words(Kind::Load) {
+        let told = told_word(Some(load), "0x00000001").expect(load);
+        assert!(told.starts_with(&format!("{load}: ")), "{told}");
+        let why = told_word(Some("none"), "00000001").expect_err("a load that is none");
+        assert!(why.contains(load), "{why}");
     }
 }
 
@@ -555,7 +710,7 @@ fn unreadable_lines_have_a_reason() {
         );
     }
     let error = buffers.read(b"H", Program::Session).expect_err("H");
-    assert_eq!(error.why.to_string(), "only ./ctc jobs takes it");
+    assert_eq!(error.why.to_string(), "only ctc jobs takes it");
 }
 
 /// Status words, both ways: every bit of primary alone and with others, and random words.
@@ -581,7 +736,11 @@ fn status_words_come_back() {
         assert_eq!(word_of(3, &words(3, tertiary)), Some(tertiary));
         assert_eq!(word_of(5, &words(5, error(word))), Some(error(word)));
     }
-    assert_eq!(words(1, 0x8120_0222), "changed; drive 1, track 0; code 00 no error; moved forward; count valid, MFM; installed, selectable");
+    assert_eq!(
+        words(1, 0x8120_0222),
+        "changed; drive 1, track 0; code 00 no error; moved forward; count valid, MFM; installed, \
+         selectable"
+    );
     assert_eq!(
         words(3, 0x9101_3200),
         "odd: data blockette 1, mark 9; even: check blockette 0, mark 3"
@@ -614,8 +773,8 @@ fn lines_are_told() {
         "store: read, drive 1, asks an interrupt -> ACK offered",
         "ACK taken -> order: read drive 1, track 0, MFM",
         "tick refused, 4: a tick or a hand when not idle; now: the result of read is awaited",
-        "byte refused, 2: byte, taken or broken while data or a result is awaited, or taken with no ACK offered; now: the \
-         result of read is awaited",
+        "byte refused, 2: byte, taken or broken while data or a result is awaited, or taken with no ACK offered; \
+         now: the result of read is awaited",
         "job 0 queues: read, drive 1",
     ];
     assert_eq!(words_of(text, Program::Jobs), wanted);

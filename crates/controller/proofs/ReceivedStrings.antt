@@ -1,4 +1,5 @@
--- What is carried out as a store or a load is what came over the link (`carried-out-as-received`, over the definitions).
+-- What is carried out as a store or a load is what came over the link: `carried-out-as-received`, over the
+-- definitions.
 -- Assumes nothing.
 use mathlib.Core.Path.{_≡_, refl, sym, ap, subst, _∙_}
 use Prim.Native.Nat.{ℕ, zero, suc, _≤_, _+_, _/_, _%_}

@@ -162,7 +162,8 @@ pub calls-restore-what-was-built :
     → (out : List ℕ) (refusal : ℕ) (after : List ℕ) → length bytes ≤ length out
     → RestoreAllows image marks out refusal after
     → (refusal ≡ 0) × (after ≡ overwrite (builtBytes bytes place) out)
-calls-restore-what-was-built bytes density place space built gcr builds image marks spoiled out refusal after room restores =
+calls-restore-what-was-built bytes density place space built gcr builds image marks spoiled out refusal after
+    room restores =
     let written = builtBytes bytes place in
     let promised = restores-are-defined image marks out refusal after restores in
     let same = subst (λ (l : List ℕ). Spoiled l image marks) (built-image bytes density place space built gcr builds)
@@ -194,7 +195,8 @@ pub every-record-can-be-spoiled-and-restored :
     → isPlace (length bytes) place ≡ true → imageLength (length bytes) density ≤ length space
     → length bytes ≤ length out → IsBad mark₁ → IsBad mark₂
     → BuiltSpoiledRestored bytes density place space (twoBad (builtBytes bytes place) mark₁ mark₂) out
-every-record-can-be-spoiled-and-restored bytes density place space out mark₁ mark₂ gcr some within is-place fits room bad₁ bad₂ =
+every-record-can-be-spoiled-and-restored bytes density place space out mark₁ mark₂ gcr some within is-place
+    fits room bad₁ bad₂ =
     let written = builtBytes bytes place in
     let long = written-length bytes place 0 (length bytes) in
     let some′ : 0 < length written = rw long some in
@@ -239,7 +241,8 @@ pub calls-restore-what-two-passes-show :
     → RestoreAllows (take (length (first .image)) imageAfter) (take (length (first .marks)) marksAfter) out answer after
     → (answer ≡ 0) × (after ≡ overwrite (builtBytes bytes place) out))
 calls-restore-what-two-passes-show
-    bytes density place space built gcr builds first second one two image marks refusal imageAfter marksAfter image-room marks-room merges =
+    bytes density place space built gcr builds first second one two image marks refusal imageAfter marksAfter
+    image-room marks-room merges =
     let written = builtBytes bytes place in
     let within = built-within bytes density place space built gcr builds in
     let is-image = built-image bytes density place space built gcr builds in
@@ -334,7 +337,8 @@ pub two-passes-are-restored-where-neither-is :
     → isPlace (length bytes) place ≡ true → imageLength (length bytes) density ≤ length space
     → imageLength (length bytes) 1 ≤ length image
     → 5 ≤ length marks → length bytes ≤ length out → TwoPassesRestored bytes density place space image marks out
-two-passes-are-restored-where-neither-is bytes density place space image marks out gcr five within is-place fits image-room marks-room room =
+two-passes-are-restored-where-neither-is bytes density place space image marks out gcr five within is-place
+    fits image-room marks-room room =
     let written = builtBytes bytes place in
     let long = written-length bytes place 0 (length bytes) in
     let five′ : markCount (length written) 1 ≡ 5 = rw long five in

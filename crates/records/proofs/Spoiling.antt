@@ -101,7 +101,8 @@ module _ (image new : List ℕ) (place : ℕ) (full : length new ≡ 256) (room 
     -- the spoiled blockette holds the bytes, and the others stand as they were
     pub spoiled-here : blocketteAt (drop 2 (spoiledAt image place new)) place ≡ new
     spoiled-here =
-        ap (λ (l : List ℕ). blocketteAt l place) spoiled-body ∙ blockette-written (drop 2 image) new place full body-room
+        ap (λ (l : List ℕ). blocketteAt l place) spoiled-body
+        ∙ blockette-written (drop 2 image) new place full body-room
 
     pub spoiled-elsewhere : (other : ℕ) → (other ≡ place → ⊥) → 2 + (256 * other + 256) ≤ length image
         → blocketteAt (drop 2 (spoiledAt image place new)) other ≡ blocketteAt (drop 2 image) other

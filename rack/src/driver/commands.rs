@@ -8,6 +8,11 @@ use super::{SEARCH_FORWARD, SEARCH_REVERSE, SKIP_FORWARD, SKIP_REVERSE};
 use crate::host::{load, Wrong};
 use crate::transport::code;
 
+/// So many records, in words.
+fn counted(records: usize) -> String {
+    format!("{records} record{}", if records == 1 { "" } else { "s" })
+}
+
 impl Driver {
     pub(super) async fn carry_out(&mut self, command: &Command) -> Result<Outcome, Stop> {
         match command {
@@ -109,7 +114,7 @@ impl Driver {
                     records += 1;
                     from = to;
                 }
-                Ok(Outcome::Done(format!("{} bytes in {records} records", bytes.len())))
+                Ok(Outcome::Done(format!("{} bytes in {}", bytes.len(), counted(records))))
             }
             Command::Read { folder, files } => self.read_files(folder, *files).await,
         }
@@ -208,7 +213,7 @@ impl Driver {
             }
         }
         Ok(match lost.is_empty() {
-            true => Outcome::Done(format!("{records} records")),
+            true => Outcome::Done(counted(records)),
             false => Outcome::Lost(format!("{records} records, and {} lost: {}", lost.len(), lost.join("; "))),
         })
     }

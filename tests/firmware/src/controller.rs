@@ -9,6 +9,8 @@ extern "C" {
     fn ctc_fresh(state: *mut u8) -> u32;
     fn ctc_byte(state: *mut u8, byte: u8, answer: *mut u8) -> u32;
     fn ctc_taken(state: *mut u8, answer: *mut u8) -> u32;
+    fn ctc_broken(state: *mut u8, answer: *mut u8) -> u32;
+    fn ctc_reset(state: *mut u8, answer: *mut u8) -> u32;
     fn ctc_tick(state: *mut u8, answer: *mut u8) -> u32;
     fn ctc_report(state: *mut u8, drive: u8, report: u8, answer: *mut u8) -> u32;
     fn ctc_data(
@@ -110,6 +112,14 @@ impl Controller {
         self.call(|state, answer| unsafe { ctc_taken(state, answer) })
     }
 
+    pub fn broken(&mut self) -> u32 {
+        self.call(|state, answer| unsafe { ctc_broken(state, answer) })
+    }
+
+    pub fn reset(&mut self) -> u32 {
+        self.call(|state, answer| unsafe { ctc_reset(state, answer) })
+    }
+
     pub fn tick(&mut self) -> u32 {
         self.call(|state, answer| unsafe { ctc_tick(state, answer) })
     }
@@ -118,16 +128,24 @@ impl Controller {
         self.call(|state, answer| unsafe { ctc_report(state, drive, report, answer) })
     }
 
+    /// By job 0.
+    pub fn queue(&mut self, address: u8, operand: [u8; 4]) -> u32 {
+        let [first, second, third, fourth] = operand;
+        self.call(|state, answer| unsafe {
+            ctc_queue(state, 0, address, first, second, third, fourth, answer)
+        })
+    }
+
+    pub fn hand(&mut self) -> u32 {
+        self.call(|state, answer| unsafe { ctc_hand(state, answer) })
+    }
+
     /// Queued by job 0 and handed over.
     pub fn store(&mut self, address: u8, operand: [u8; 4]) -> u32 {
-        let [first, second, third, fourth] = operand;
-        let queued = self.call(|state, answer| unsafe {
-            ctc_queue(state, 0, address, first, second, third, fourth, answer)
-        });
-        if queued != 0 {
-            return queued;
+        match self.queue(address, operand) {
+            0 => self.hand(),
+            queued => queued,
         }
-        self.call(|state, answer| unsafe { ctc_hand(state, answer) })
     }
 
     pub fn data(

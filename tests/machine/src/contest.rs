@@ -637,8 +637,8 @@ fn put(question: Position, text: &mut Vec<u8>) {
     text.extend_from_slice(format!("{letter},{writes},{stores},{spoilings}").as_bytes());
 }
 
-/// Questions as lines: with seed 1 the whole range, with 2 those about the limits, with 3 lines that cannot be read; else
-/// random ones.
+/// Questions as lines: with seed 1 the whole range, with 2 those about the limits, with 3 lines that cannot be read;
+/// else random ones.
 pub fn questions(seed: u64, count: usize) -> Vec<u8> {
     let mut text = Vec::new();
     match seed {

@@ -3,8 +3,8 @@
 //! Nothing here is taken from the machine, which has its own lists; a test compares the two.
 
 /// The operations by the papers' names, in the order of document 02's ninth wish: "Operations run: read, check bytes,
-/// supplied count, write, erase, rewind, fast forward, skip forward, skip reverse, search forward, search reverse, write
-/// mark."
+/// supplied count, write, erase, rewind, fast forward, skip forward, skip reverse, search forward, search reverse,
+/// write mark."
 pub const ROWS: [&str; 12] = [
     "read",
     "check bytes",

@@ -780,8 +780,8 @@ struct Plan {
     end: &'static str,
 }
 
-/// Runs that come in every comparison, among the random ones: no line at all, the edges, each line that is unreadable or
-/// refused, and each width.
+/// Runs that come in every comparison, among the random ones: no line at all, the edges, each line that is unreadable
+/// or refused, and each width.
 pub const FIXED: std::ops::RangeInclusive<u64> = 101..=277;
 
 fn fixed(index: usize, random: &mut Random) -> Option<Plan> {
@@ -857,7 +857,8 @@ fn planned(seed: u64, longest: usize, random: &mut Random) -> Plan {
     }
 }
 
-/// A random run, and the same for the same seed. The longer ones have up to `longest` records, but for a few above the limit.
+/// A random run, and the same for the same seed. The longer ones have up to `longest` records, but for a few above the
+/// limit.
 pub fn run(seed: u64, longest: usize) -> Vec<u8> {
     let mut random = Random::new(seed);
     let plan = match seed.checked_sub(*FIXED.start()) {

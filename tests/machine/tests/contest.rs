@@ -62,8 +62,8 @@ fn outcomes(position: Position, store: Store) -> Vec<Position> {
     }
 }
 
-/// A yes with its first store leads to a yes, whatever the tape does, until all is written; after a no the tape can hold
-/// against any store of the driver's. So the answers are right, however they were found.
+/// A yes with its first store leads to a yes, whatever the tape does, until all is written; after a no the tape can
+/// hold against any store of the driver's. So the answers are right, however they were found.
 #[test]
 fn the_answers_played_out() {
     let mut search = Search::new(None);
@@ -175,36 +175,41 @@ fn lines_of_questions() {
 /// What each stored session shows. All are answered as they are stored.
 const STORED: [(&str, &str); 14] = [
     (
-        "each-spoiling-takes-two",
+        "forced/each-spoiling-takes-two",
         "a spoiled write takes its store and a skip",
     ),
-    ("empty", "no question has no answer"),
+    ("lines/empty", "no question has no answer"),
     (
-        "first-store",
+        "forced/first-store",
         "a write where both stores win, a skip where it must be, none with no",
     ),
-    ("greatest-numbers", "the limits, and what they need"),
+    ("forced/greatest-numbers", "the limits, and what they need"),
     (
-        "last-line-without-end",
+        "lines/last-line-without-end",
         "the last line counts without its end",
     ),
     (
-        "no-spoiling",
+        "forced/no-spoiling",
         "one store for each write, and one for the gap",
     ),
-    ("nothing-to-write", "yes, and no first store"),
-    ("refused", "each number above its limit"),
-    ("refused-before-all", "with nothing to write too"),
-    ("story-pulled-cartridge", "one contest, store by store"),
-    ("unreadable-fields", "fields, blanks and ends"),
-    ("unreadable-letters", "the gap is P or I"),
-    ("unreadable-numbers", "decimal, 0 to 255"),
-    ("zeros-before-numbers", "readable, and the value counts"),
+    ("forced/nothing-to-write", "yes, and no first store"),
+    ("refusals/each-number", "each number above its limit"),
+    ("refusals/before-all", "with nothing to write too"),
+    ("stories/pulled-cartridge", "one contest, store by store"),
+    ("lines/unreadable-fields", "fields, blanks and ends"),
+    ("lines/unreadable-letters", "the gap is P or I"),
+    ("lines/unreadable-numbers", "decimal, 0 to 255"),
+    (
+        "lines/zeros-before-numbers",
+        "readable, and the value counts",
+    ),
 ];
 
 #[test]
 fn the_stored_questions() {
-    hold_to_stored("contest", &STORED, |questions| answers(questions, None));
+    hold_to_stored("contest", "questions", &STORED, |questions| {
+        answers(questions, None)
+    });
 }
 
 #[test]
@@ -238,7 +243,8 @@ fn each_wrong_rule_is_found() {
     assert_eq!(left, []);
 }
 
-/// A rule of the contest, of its answer or of its limits needs no random question: the whole range, and the limits, tell it.
+/// A rule of the contest, of its answer or of its limits needs no random question: the whole range, and the limits,
+/// tell it.
 #[test]
 fn each_wrong_rule_of_the_contest_is_found_in_the_whole_range() {
     let text = [contest::questions(1, 0), contest::questions(2, 0)].concat();

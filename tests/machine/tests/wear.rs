@@ -40,8 +40,8 @@ fn three_bytes_for_each_full_stretch() {
     assert_eq!(view.first, Some(1));
 }
 
-/// Every run of up to five codes out of four, with widths 1 to 6, by another way of counting: each record is added to the
-/// stretches that it is in.
+/// Every run of up to five codes out of four, with widths 1 to 6, by another way of counting: each record is added to
+/// the stretches that it is in.
 #[test]
 fn every_short_run() {
     const CODES: [u8; 4] = [0, 0x15, 0x16, 0x20];
@@ -236,71 +236,80 @@ fn lines_of_a_run() {
 /// What each stored run shows. All are answered as they are stored.
 const STORED: [(&str, &str); 28] = [
     (
-        "codes-above-1F",
+        "counts/codes-above-1F",
         "a code above 1F counts among the others, 35 and 36 too",
     ),
     (
-        "codes-are-hexadecimal",
+        "counts/codes-are-hexadecimal",
         "0F and 10, decimal 15 and 16, are others",
     ),
-    ("empty", "without a line there is no width"),
+    ("lines/empty", "without a line there is no width"),
     (
-        "first-of-several",
+        "counts/first-of-several",
         "of two stretches with as many codes 16, the first",
     ),
     (
-        "last-line-without-end",
+        "lines/last-line-without-end",
         "the last line counts without its end",
     ),
     (
-        "most-at-the-end",
+        "counts/most-at-the-end",
         "the last stretch has most, and 15 and others do not count there",
     ),
-    ("motion-and-count-not-looked-at", "any motion, any count"),
-    ("no-code-16", "the first stretch with most is 0"),
-    ("no-error", "code 0 is counted nowhere"),
-    ("run-of-the-width", "one stretch"),
     (
-        "run-shorter-than-width",
+        "counts/motion-and-count-not-looked-at",
+        "any motion, any count",
+    ),
+    ("counts/no-code-16", "the first stretch with most is 0"),
+    ("counts/no-error", "code 0 is counted nowhere"),
+    ("widths/run-of-the-width", "one stretch"),
+    (
+        "widths/run-shorter-than-width",
         "no stretches, and none as the first",
     ),
     (
-        "story-worn-cartridge",
+        "stories/worn-cartridge",
         "errors that gather in the middle of a run",
     ),
     (
-        "stretches-overlap",
+        "counts/stretches-overlap",
         "one for each place from 0 to length less width",
     ),
     (
-        "unreadable-before-refused",
+        "lines/unreadable-before-refused",
         "an unreadable line comes before the refusal of the width",
     ),
-    ("unreadable-comment", "a comment is no width"),
-    ("unreadable-count", "a count of 32 bits at most"),
+    ("lines/unreadable-comment", "a comment is no width"),
+    ("lines/unreadable-count", "a count of 32 bits at most"),
     (
-        "unreadable-empty-line",
+        "lines/unreadable-empty-line",
         "an empty line is no record, at the end too",
     ),
-    ("unreadable-motion", "a motion of 255 at most"),
+    ("lines/unreadable-motion", "a motion of 255 at most"),
     (
-        "unreadable-record",
+        "lines/unreadable-record",
         "the number of the first line that is no record, with the width's as 1",
     ),
-    ("unreadable-width", "a blank behind the number"),
-    ("width-0", "refused"),
-    ("width-1", "a stretch for each record"),
-    ("width-64", "the widest"),
-    ("width-64-all-16", "64 is the greatest count"),
-    ("width-65", "refused, with a run shorter than that"),
-    ("width-alone", "a run of no records"),
-    ("width-of-many-digits", "refused, though it is 1 in 64 bits"),
-    ("zeros-before-numbers", "readable, and the value counts"),
+    ("lines/unreadable-width", "a blank behind the number"),
+    ("widths/0", "refused"),
+    ("widths/1", "a stretch for each record"),
+    ("widths/64", "the widest"),
+    ("widths/64-all-16", "64 is the greatest count"),
+    ("widths/65", "refused, with a run shorter than that"),
+    ("widths/alone", "a run of no records"),
+    (
+        "widths/of-many-digits",
+        "refused, though it is 1 in 64 bits",
+    ),
+    (
+        "lines/zeros-before-numbers",
+        "readable, and the value counts",
+    ),
 ];
 
 #[test]
 fn the_stored_runs() {
-    hold_to_stored("wear", &STORED, |run| answers(run, None));
+    hold_to_stored("wear", "log", &STORED, |run| answers(run, None));
 }
 
 /// All widths, all answers and long runs come up in the runs that are compared.

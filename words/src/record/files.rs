@@ -200,7 +200,7 @@ impl Progress {
             .total
             .map(|total| format!(" of {total}"))
             .unwrap_or_default();
-        let _ = write!(io::stderr(), "\rctc-record: record {record}{of}");
+        let _ = write!(io::stderr(), "\rctc record: record {record}{of}");
         self.last = Instant::now();
         self.shown = true;
     }

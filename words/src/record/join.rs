@@ -5,7 +5,7 @@ use crate::files::{self, Part, Progress};
 use crate::marks::{blockette, number};
 use crate::split::{name_of, HEAD, INDEX};
 use crate::sum::{sum_of, Sum};
-use crate::{print, say, Failure, Words};
+use crate::{bytes_in_records, print, say, Failure, Words};
 use ctc_words::records::{image_length, mark_count, restore};
 use ctc_words::records::{BLOCKETTE_LENGTH, COUNT_LIMIT, IMAGE_MOST, MARKS_MOST};
 use ctc_words::records::{MARK_ERROR_LEAST, MARK_ERROR_MOST, MARK_GOOD};
@@ -36,10 +36,9 @@ pub fn run(words: &[OsString]) -> Result<(), Failure> {
         return Ok(());
     }
     print(&format!(
-        "{}: {} bytes of {} records, {} restored\n",
+        "{}: {}, {} restored\n",
         file.display(),
-        joined.length,
-        joined.records,
+        bytes_in_records(joined.length, joined.records),
         joined.restored
     ))
 }
@@ -367,7 +366,7 @@ fn record(
             .collect();
         let words = words.join(" ");
         let what = format!(
-            "{shown} is spoiled: after 'ctc-record marks {wanted} bad {words} >{marks_shown}' join restores it"
+            "{shown} is spoiled: after 'ctc record marks {wanted} bad {words} >{marks_shown}' join restores it"
         );
         return Ok(Err(Loss {
             what,

@@ -1,4 +1,4 @@
-//! `ctc-record split`, `join` and `marks`: files of any length as records, over the proved records library.
+//! `ctc record split`, `join` and `marks`: files of any length as records, over the proved records library.
 
 mod density;
 mod files;
@@ -37,7 +37,7 @@ impl Failure {
 
 /// Where standard error cannot be written there is nobody to tell.
 pub fn say(what: &str) {
-    let _ = writeln!(io::stderr(), "ctc-record: {what}");
+    let _ = writeln!(io::stderr(), "ctc record: {what}");
 }
 
 /// To standard output, and told where it did not arrive.
@@ -49,6 +49,16 @@ pub fn print(text: &str) -> Result<(), Failure> {
         .map_err(|cause| Failure::file("write", Path::new(files::STANDARD_OUTPUT), cause))
 }
 
+/// How much was cut or put together.
+pub fn bytes_in_records(length: u64, records: u64) -> String {
+    let several = |count: u64| if count == 1 { "" } else { "s" };
+    format!(
+        "{length} byte{} in {records} record{}",
+        several(length),
+        several(records)
+    )
+}
+
 fn run(words: &[OsString]) -> Result<(), Failure> {
     let (verb, rest) = match words {
         [verb, rest @ ..] => (verb.to_str().unwrap_or_default(), rest),
@@ -58,7 +68,7 @@ fn run(words: &[OsString]) -> Result<(), Failure> {
         return print(USAGE);
     }
     if words.iter().any(|word| word == "--version") {
-        return print(&format!("ctc-record {VERSION}"));
+        return print(&format!("ctc record {VERSION}"));
     }
     match verb {
         "split" => split::run(rest),

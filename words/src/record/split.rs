@@ -4,7 +4,7 @@ use crate::density::Density;
 use crate::files::{self, Part, Progress};
 use crate::marks::number;
 use crate::sum::{sum_of, Sum};
-use crate::{print, Failure, Words};
+use crate::{bytes_in_records, print, Failure, Words};
 use ctc_words::records::{build, COUNT_LIMIT};
 use std::ffi::OsString;
 use std::fs;
@@ -51,8 +51,9 @@ pub fn run(words: &[OsString]) -> Result<(), Failure> {
     let folder: PathBuf = Path::new(folder).components().collect();
     let (records, length) = split(Path::new(file), &folder, count, density)?;
     print(&format!(
-        "{}: {records} records of {length} bytes\n",
-        folder.display()
+        "{}: {}\n",
+        folder.display(),
+        bytes_in_records(length, records)
     ))
 }
 

@@ -1,9 +1,9 @@
-//! `compare [--jobs | --table | --wear | --contest] PROGRAM [--seed S] [--sessions N] [--lines L] [--supplied 0] [-- ARGUMENTS of PROGRAM]`
+//! `compare [--jobs | --table | --wear | --contest] PROGRAM [--seed S] [--sessions N] [--lines L] [--supplied 0]
+//! [-- ARGUMENTS of PROGRAM]`
 //!
-//! `--jobs` makes sessions of jobs; `--table` has the table printed; `--wear` makes runs of records, of which the longer ones
-//! have up to L; `--contest` makes questions, first the whole range.
-//! `--shrink SECONDS` bounds the time for shrinking a difference.
-//! `--supplied 0` makes no stores that supply a count, for a program that does not know them.
+//! `--jobs` makes sessions of jobs; `--table` has the table printed; `--wear` makes runs of records, of which the
+//! longer ones have up to L; `--contest` makes questions, first the whole range. `--shrink SECONDS` bounds the time for
+//! shrinking a difference. `--supplied 0` makes no stores that supply a count, for a program that does not know them.
 //! Exit 0: no difference; 1: a difference, shrunk and printed; 2: the comparison itself failed.
 
 use machine::comparison::{join, shown, Program, SHRINK_LIMIT, TIME_LIMIT};

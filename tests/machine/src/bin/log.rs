@@ -1,5 +1,6 @@
-//! `log DRIVE WIDTH`: reads a session of jobs to the end of standard input and prints the wear log of a drive. What moved
-//! the tape is asked of the machine's state before each call, and not of the orders and resets that it answers with.
+//! `log DRIVE WIDTH`: reads a session of jobs to the end of standard input and prints the wear log of a drive. What
+//! moved the tape is asked of the machine's state before each call, and not of the orders and resets that it answers
+//! with.
 
 use machine::lines::{self, Session};
 use machine::machine::Phase;

@@ -1,6 +1,6 @@
-//! `machine [--jobs | --table | --wear | --contest] [--mutant N]`: reads session lines to the end of standard input, prints the answers.
-//! With `--jobs` they are those of jobs; with `--table` it prints the table, whatever it reads; with `--wear` it
-//! reads a run of records and prints its view; with `--contest` it answers questions.
+//! `machine [--jobs | --table | --wear | --contest] [--mutant N]`: reads session lines to the end of standard input,
+//! prints the answers. With `--jobs` they are those of jobs; with `--table` it prints the table, whatever it reads;
+//! with `--wear` it reads a run of records and prints its view; with `--contest` it answers questions.
 
 use machine::kinds::Kind;
 use machine::lines::Session;

@@ -1,4 +1,5 @@
-//! What is asked of every kind of line: its stored texts are answered as stored, and the comparison finds each wrong program.
+//! What is asked of every kind of line: its stored texts are answered as stored, and the comparison finds each wrong
+//! program.
 
 use std::collections::BTreeSet;
 use std::fmt::Debug;
@@ -7,23 +8,41 @@ use std::process::Command;
 
 use machine::kinds::Kind;
 
-/// All that is stored in a folder is listed, with why, and is answered as stored.
-#[track_caller]
-pub fn hold_to_stored(folder: &str, listed: &[(&str, &str)], answers: impl Fn(&[u8]) -> Vec<u8>) {
-    let folder = Path::new(env!("CARGO_MANIFEST_DIR"))
-        .join("../../sessions")
-        .join(folder);
-    let there: BTreeSet<String> = std::fs::read_dir(&folder)
+/// The names of what a folder holds.
+fn entries(folder: &Path) -> Vec<String> {
+    std::fs::read_dir(folder)
         .unwrap()
         .map(|file| file.unwrap().file_name().into_string().unwrap())
+        .collect()
+}
+
+/// All that is stored for a program, with this ending and in a folder for each subject, is listed, with why, and is
+/// answered as stored.
+#[track_caller]
+pub fn hold_to_stored(
+    program: &str,
+    ending: &str,
+    listed: &[(&str, &str)],
+    answers: impl Fn(&[u8]) -> Vec<u8>,
+) {
+    let folder = Path::new(env!("CARGO_MANIFEST_DIR"))
+        .join("../../sessions")
+        .join(program);
+    let there: BTreeSet<String> = entries(&folder)
+        .iter()
+        .flat_map(|subject| {
+            entries(&folder.join(subject))
+                .into_iter()
+                .map(move |file| format!("{subject}/{file}"))
+        })
         .collect();
     let names: BTreeSet<String> = listed
         .iter()
-        .flat_map(|(name, _)| [format!("{name}.session"), format!("{name}.answers")])
+        .flat_map(|(name, _)| [format!("{name}.{ending}"), format!("{name}.answers")])
         .collect();
     assert_eq!(there, names);
     for (name, why) in listed {
-        let lines = std::fs::read(folder.join(format!("{name}.session"))).unwrap();
+        let lines = std::fs::read(folder.join(format!("{name}.{ending}"))).unwrap();
         let stored = std::fs::read(folder.join(format!("{name}.answers"))).unwrap();
         assert_eq!(
             String::from_utf8_lossy(&answers(&lines)),

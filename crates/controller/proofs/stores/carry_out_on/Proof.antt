@@ -20,7 +20,12 @@ follow-requires c κs = search needs
 returns : tie.Need-returns
 unfolding carryOutOn
 returns c =
-    simp (c .follow .ensures, c .before .course-of .ensures, c .before .before .asked-in .ensures, c .before .before .before .drive-of .ensures)
+    simp (
+      c .follow .ensures,
+      c .before .course-of .ensures,
+      c .before .before .asked-in .ensures,
+      c .before .before .before .drive-of .ensures,
+    )
 
 pub carry-out-on-spec : {M : Type 1} → statement M
 carry-out-on-spec = tie.close (tie.spec drive-of-requires asked-in-requires course-of-requires follow-requires returns)

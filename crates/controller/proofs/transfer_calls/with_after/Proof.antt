@@ -18,7 +18,12 @@ with-current-drive-requires c κs = search needs
 
 returns : tie.Need-returns
 returns c =
-    simp (c .with-current-drive .ensures, c .before .with-status .ensures, c .before .before .before .with-gap .ensures, c .before .before .before .before .drive-of .ensures)
+    simp (
+      c .with-current-drive .ensures,
+      c .before .with-status .ensures,
+      c .before .before .before .with-gap .ensures,
+      c .before .before .before .before .drive-of .ensures,
+    )
 
 pub with-after-spec : {M : Type 1} → statement M
 with-after-spec =

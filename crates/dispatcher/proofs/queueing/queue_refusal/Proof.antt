@@ -68,4 +68,5 @@ returns-4 c =
 pub queue-refusal-spec : {M : Type 1} → statement M
 queue-refusal-spec =
     tie.close
-    (tie.spec is-whole-requires returns names-drive-requires is-reset-store-requires returns-2 queue-of-requires returns-3 returns-4)
+    (tie.spec is-whole-requires returns names-drive-requires is-reset-store-requires returns-2
+    queue-of-requires returns-3 returns-4)

@@ -59,7 +59,12 @@ returns-2 c =
     let call = made .before .before in (
       omega (arith, t .ensures .0),
       t .ensures .1 _ _
-          ∙ simp (made .plain-dispatched .ensures, plain-left, call .before .before .before .reading .given .1, call .call .given .1),
+          ∙ simp (
+            made .plain-dispatched .ensures,
+            plain-left,
+            call .before .before .before .reading .given .1,
+            call .call .given .1,
+          ),
     )
 
 same-length-3 : tie.Need-same-length-3

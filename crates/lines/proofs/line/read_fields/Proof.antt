@@ -16,7 +16,8 @@ use Rattle.lines.proofs.line.read_fields.Tie as tie
 
 -- each field is as its test says
 readable : (i : tie.Then1)
-    → let a = i .before .before .before .before .before .before .before .before .before .before .before .before .before .args in
+    → let a = i .before .before .before .before .before .before .before .before .before .before .before .before
+    .before .args in
     (isByte (a .code .now) ≡ true)
     × (isDecimal flagLimit (a .mark .now) ≡ true)
     × (isDecimal byteLimit (a .late .now) ≡ true)
@@ -62,13 +63,15 @@ is-decimal-requires-3 c κs = search needs
 put-bytes-of-requires : tie.Need-put-bytes-of-requires
 put-bytes-of-requires c κs =
     let i = c .before in
-    let a = i .before .before .before .before .before .before .before .before .before .before .before .before .before .args in
+    let a = i .before .before .before .before .before .before .before .before .before .before .before .before
+    .before .args in
     omega (arith, is-bytes-length imageLimit (a .image .now) (readable i .3))
 
 put-bytes-of-requires-2 : tie.Need-put-bytes-of-requires-2
 put-bytes-of-requires-2 c κs =
     let i = c .before .before .before in
-    let a = i .before .before .before .before .before .before .before .before .before .before .before .before .before .args in
+    let a = i .before .before .before .before .before .before .before .before .before .before .before .before
+    .before .args in
     omega (arith, is-bytes-length marksLimit (a .errors .now) (readable i .4))
 
 decimal-of-requires : tie.Need-decimal-of-requires
@@ -90,7 +93,8 @@ returns : tie.Need-returns
 unfolding fieldsLine lineRead callRead pick
 returns c =
     let i = c .before .before .before .before .before .before .before .before in
-    let a = i .before .before .before .before .before .before .before .before .before .before .before .before .before .args in
+    let a = i .before .before .before .before .before .before .before .before .before .before .before .before
+    .before .args in
     let h = readable i in
     simp (
       c .byte-of .ensures,

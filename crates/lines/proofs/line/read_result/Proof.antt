@@ -44,8 +44,10 @@ returns : tie.Need-returns
 returns c =
     c .read-fields .ensures
     ∙ result-cut
-    (c .before .before .before .before .before .before .before .before .before .before .before .before .before .before .args .s .now)
-    (c .before .before .before .before .before .before .before .before .before .before .before .before .field-of .result .now)
+    (c .before .before .before .before .before .before .before .before .before .before .before .before .before
+    .before .args .s .now)
+    (c .before .before .before .before .before .before .before .before .before .before .before .before
+    .field-of .result .now)
     (c .before .before .before .before .before .before .before .before .before .before .before .after .result .now)
     (c .before .before .before .before .before .before .before .before .before .before .field-of2 .result .now)
     (c .before .before .before .before .before .before .before .before .before .after2 .result .now)
@@ -55,7 +57,8 @@ returns c =
     (c .before .before .before .before .before .after4 .result .now)
     (c .before .before .before .before .field-of5 .result .now)
     (c .before .before .before .after5 .result .now)
-    (c .before .before .before .before .before .before .before .before .before .before .before .before .field-of .ensures)
+    (c .before .before .before .before .before .before .before .before .before .before .before .before
+    .field-of .ensures)
     (c .before .before .before .before .before .before .before .before .before .before .before .after .ensures)
     (c .before .before .before .before .before .before .before .before .before .before .field-of2 .ensures)
     (c .before .before .before .before .before .before .before .before .before .after2 .ensures)

@@ -39,7 +39,14 @@ unfolding turnOf pick
 returns-3 c =
     let b = c .before .before in
     let a = b .before .before in
-    simp (a .if1 .left, ← a .before .waits .ensures, b .if2 .left, ← b .before .waits2 .ensures, c .if3 .taken, ← c .before .waits3 .ensures)
+    simp (
+      a .if1 .left,
+      ← a .before .waits .ensures,
+      b .if2 .left,
+      ← b .before .waits2 .ensures,
+      c .if3 .taken,
+      ← c .before .waits3 .ensures,
+    )
 
 waits-requires-4 : tie.Need-waits-requires-4
 waits-requires-4 c κs = search needs
@@ -81,4 +88,5 @@ returns-5 c =
 pub turn-of-spec : {M : Type 1} → statement M
 turn-of-spec =
     tie.close
-    (tie.spec add-first add-second add-third waits-requires returns waits-requires-2 returns-2 waits-requires-3 returns-3 waits-requires-4 returns-4 returns-5)
+    (tie.spec add-first add-second add-third waits-requires returns waits-requires-2 returns-2 waits-requires-3
+    returns-3 waits-requires-4 returns-4 returns-5)

@@ -23,7 +23,12 @@ returns c = simp (← c .before .before .whole-refusal .ensures, ← c .before .
 returns-2 : tie.Need-returns-2
 unfolding mergeRefusal eitherRefused pick
 returns-2 c =
-    simp (← c .before .before .before .whole-refusal .ensures, ← c .before .before .whole-refusal2 .ensures, c .before .if1 .left, c .if2 .taken)
+    simp (
+      ← c .before .before .before .whole-refusal .ensures,
+      ← c .before .before .whole-refusal2 .ensures,
+      c .before .if1 .left,
+      c .if2 .taken,
+    )
 
 pair-refusal-requires : tie.Need-pair-refusal-requires
 pair-refusal-requires c κs =
@@ -43,14 +48,29 @@ unfolding mergeRefusal eitherRefused pick
 returns-3 c =
     let p = c .before .before in
     let t = p .before in
-    simp (← t .before .before .before .whole-refusal .ensures, ← t .before .before .whole-refusal2 .ensures, t .before .if1 .left, t .if2 .left, ← p .pair-refusal .ensures, ne-eqb _ _ (c .if3 .taken))
+    simp (
+      ← t .before .before .before .whole-refusal .ensures,
+      ← t .before .before .whole-refusal2 .ensures,
+      t .before .if1 .left,
+      t .if2 .left,
+      ← p .pair-refusal .ensures,
+      ne-eqb _ _ (c .if3 .taken),
+    )
 
 returns-4 : tie.Need-returns-4
 unfolding mergeRefusal eitherRefused pick
 returns-4 c =
     let p = c .before .before in
     let t = p .before in
-    simp (← t .before .before .before .whole-refusal .ensures, ← t .before .before .whole-refusal2 .ensures, t .before .if1 .left, t .if2 .left, ← p .pair-refusal .ensures, ← c .before .room-refusal .ensures, eq-eqb _ _ (c .if3 .left))
+    simp (
+      ← t .before .before .before .whole-refusal .ensures,
+      ← t .before .before .whole-refusal2 .ensures,
+      t .before .if1 .left,
+      t .if2 .left,
+      ← p .pair-refusal .ensures,
+      ← c .before .room-refusal .ensures,
+      eq-eqb _ _ (c .if3 .left),
+    )
 
 pub merge-refusal-spec : {M : Type 1} → statement M
 merge-refusal-spec =

@@ -69,7 +69,9 @@ clashes-requires c κs =
 
 -- what is asked of the two
 asked : (c : tie.After-clashes)
-    → let a = c .before .before .before .before .before .before .before .before .before .before .args in c .clashes .result ≡ clashes (drop 2 (a .first .now)) (a .first-marks .now) (drop 2 (a .second .now)) (a .second-marks .now)
+    → let a = c .before .before .before .before .before .before .before .before .before .before .args in
+    c .clashes .result
+    ≡ clashes (drop 2 (a .first .now)) (a .first-marks .now) (drop 2 (a .second .now)) (a .second-marks .now)
 asked c =
     let a = c .before .before .before .before .before .before .before .before .before .before .args in
     c .clashes .ensures

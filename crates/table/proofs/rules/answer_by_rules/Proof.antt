@@ -19,12 +19,22 @@ is-listed-requires c κs = search needs
 returns-2 : tie.Need-returns-2
 unfolding answerOf pick
 returns-2 c =
-    simp (← c .before .before .before .is-clear .ensures, c .before .before .if1 .left, ← c .before .is-listed .ensures, c .if2 .taken)
+    simp (
+      ← c .before .before .before .is-clear .ensures,
+      c .before .before .if1 .left,
+      ← c .before .is-listed .ensures,
+      c .if2 .taken,
+    )
 
 returns-3 : tie.Need-returns-3
 unfolding answerOf pick
 returns-3 c =
-    simp (← c .before .before .before .is-clear .ensures, c .before .before .if1 .left, ← c .before .is-listed .ensures, c .if2 .left)
+    simp (
+      ← c .before .before .before .is-clear .ensures,
+      c .before .before .if1 .left,
+      ← c .before .is-listed .ensures,
+      c .if2 .left,
+    )
 
 pub answer-by-rules-spec : {M : Type 1} → statement M
 answer-by-rules-spec =

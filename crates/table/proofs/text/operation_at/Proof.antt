@@ -68,8 +68,15 @@ unfolding operationAt lineOrder
 returns-12 c =
     let none = c .match .rest in
     let line = c .before .args .line in
-    let half : 6 ≤ line = omega
-    (arith, none .0 .0 .0 .0 .0 .0 .0 .0 .0 .0 .1, none .0 .0 .0 .0 .0 .0 .0 .0 .0 .1, none .0 .0 .0 .0 .0 .0 .0 .0 .1, none .0 .0 .0 .0 .0 .0 .0 .1, none .0 .0 .0 .0 .0 .0 .1, none .0 .0 .0 .0 .0 .1) in
+    let half : 6 ≤ line = omega (
+      arith,
+      none .0 .0 .0 .0 .0 .0 .0 .0 .0 .0 .1,
+      none .0 .0 .0 .0 .0 .0 .0 .0 .0 .1,
+      none .0 .0 .0 .0 .0 .0 .0 .0 .1,
+      none .0 .0 .0 .0 .0 .0 .0 .1,
+      none .0 .0 .0 .0 .0 .0 .1,
+      none .0 .0 .0 .0 .0 .1,
+    ) in
     let late : 11 ≤ line = omega
     (arith, half, none .0 .0 .0 .0 .1, none .0 .0 .0 .1, none .0 .0 .1, none .0 .1, none .1) in
     sym (last (take 11 lineOrder) WriteMark line late)

@@ -35,7 +35,13 @@ returns c =
     let l = c .before in
     let b = l .before in
     let t = b .before in (
-      simp (c .min2 .ensures, l .min .ensures, b .blockette-count .ensures, ← t .before .is-found .ensures, t .if1 .taken),
+      simp (
+        c .min2 .ensures,
+        l .min .ensures,
+        b .blockette-count .ensures,
+        ← t .before .is-found .ensures,
+        t .if1 .taken,
+      ),
       omega arith,
     )
 

@@ -21,7 +21,12 @@ returns : tie.Need-returns
 unfolding resultBits
 returns c =
     let n = c .before .before .before .before .before .before .before .before .before .before .before .before in
-    simp (n .result-count .ensures, n .before .motion-of .ensures, n .before .before .move-of .ensures, n .before .before .before .wrote-well .ensures)
+    simp (
+      n .result-count .ensures,
+      n .before .motion-of .ensures,
+      n .before .before .move-of .ensures,
+      n .before .before .before .wrote-well .ensures,
+    )
 
 pub result-bits-spec : {M : Type 1} → statement M
 result-bits-spec =

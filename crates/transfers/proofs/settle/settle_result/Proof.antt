@@ -58,7 +58,14 @@ returns c =
     let d = m .before in
     let r = d .before .before in
     let v = r .before in (
-      simp (m .result-words .ensures, r .result-gap .ensures, g .put-bytes-read .ensures .0, d .delivered-bytes .ensures, v .verdict-of .ensures, read-length),
+      simp (
+        m .result-words .ensures,
+        r .result-gap .ensures,
+        g .put-bytes-read .ensures .0,
+        d .delivered-bytes .ensures,
+        v .verdict-of .ensures,
+        read-length,
+      ),
       (
         simp (g .put-bytes-read .ensures .1, d .delivered-bytes .ensures, v .verdict-of .ensures),
         simp

@@ -26,7 +26,12 @@ returns c width codes space u =
     (c .before .before .before .before .shifted .result) (c .before .before .before .before .shifted .ensures) _ _
     (λ h. rw (c .before .before .before .before .shifted .ensures .stretches)
     (c .before .before .before .before .before .before .pre .3
-    (omega (arith, h, c .before .before .before .before .shifted .ensures .width, c .before .before .before .before .shifted .ensures .taken))))
+    (omega (
+      arith,
+      h,
+      c .before .before .before .before .shifted .ensures .width,
+      c .before .before .before .before .shifted .ensures .taken,
+    ))))
     (c .before .before .placed .ensures .0) (c .before .before .placed .ensures .1)
 
 pub step-spec : {M : Type 1} → statement M

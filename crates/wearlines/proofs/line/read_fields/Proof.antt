@@ -62,7 +62,12 @@ returns c =
 returns-2 : tie.Need-returns-2
 unfolding fieldsLine pick
 returns-2 c =
-    simp (← c .before .before .before .is-byte .ensures, ← c .before .before .is-decimal .ensures, ← c .before .is-decimal2 .ensures, c .if1 .left)
+    simp (
+      ← c .before .before .before .is-byte .ensures,
+      ← c .before .before .is-decimal .ensures,
+      ← c .before .is-decimal2 .ensures,
+      c .if1 .left,
+    )
 
 pub read-fields-spec : {M : Type 1} → statement M
 read-fields-spec =

@@ -20,7 +20,13 @@ decimal-of-requires c κs = (omega arith, sym (c .before .is-decimal .ensures) �
 returns : tie.Need-returns
 unfolding widthLine pick
 returns c =
-    simp (c .decimal-of .ensures .0, ← c .before .before .is-decimal .ensures, c .before .if2 .taken, ← c .before .before .before .before .all-digits .ensures, c .before .before .before .if1 .taken)
+    simp (
+      c .decimal-of .ensures .0,
+      ← c .before .before .is-decimal .ensures,
+      c .before .if2 .taken,
+      ← c .before .before .before .before .all-digits .ensures,
+      c .before .before .before .if1 .taken,
+    )
 
 add-t9 : tie.Need-add-t9
 add-t9 c = search needs
@@ -28,7 +34,12 @@ add-t9 c = search needs
 returns-2 : tie.Need-returns-2
 unfolding widthLine pick
 returns-2 c =
-    simp (← c .before .is-decimal .ensures, c .if2 .left, ← c .before .before .before .all-digits .ensures, c .before .before .if1 .taken)
+    simp (
+      ← c .before .is-decimal .ensures,
+      c .if2 .left,
+      ← c .before .before .before .all-digits .ensures,
+      c .before .before .if1 .taken,
+    )
 
 returns-3 : tie.Need-returns-3
 unfolding widthLine pick

@@ -40,7 +40,15 @@ returns c =
     let first = number .before .before .before .before in
     let sign = first .before .before .before .before in
     let a = sign .before .before .before .args in (
-      omega (arith, last .put5 .ensures .0, third .put4 .ensures .0, second .put3 .ensures .0, number .put-decimal .ensures .0, first .put2 .ensures .0, sign .put .ensures .0),
+      omega (
+        arith,
+        last .put5 .ensures .0,
+        third .put4 .ensures .0,
+        second .put3 .ensures .0,
+        number .put-decimal .ensures .0,
+        first .put2 .ensures .0,
+        sign .put .ensures .0,
+      ),
       bad-line-text (decimalText decimalMost (a .line))
           (sign .put .ensures .1)
           (first .put2 .ensures .1)

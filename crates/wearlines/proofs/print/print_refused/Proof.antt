@@ -40,7 +40,15 @@ returns c =
     let first = second .before .before .before .before in
     let number = first .before .before .before .before in
     let a = number .before .before .before .args in (
-      omega (arith, last .put5 .ensures .0, fourth .put4 .ensures .0, third .put3 .ensures .0, second .put2 .ensures .0, first .put .ensures .0, number .put-decimal .ensures .0),
+      omega (
+        arith,
+        last .put5 .ensures .0,
+        fourth .put4 .ensures .0,
+        third .put3 .ensures .0,
+        second .put2 .ensures .0,
+        first .put .ensures .0,
+        number .put-decimal .ensures .0,
+      ),
       refused-text (decimalText decimalMost (a .refusal))
           (number .put-decimal .ensures .1)
           (first .put .ensures .1)

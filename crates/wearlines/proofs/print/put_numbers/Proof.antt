@@ -41,7 +41,15 @@ returns c =
     let comma1 = second .before .before .before .before in
     let first = comma1 .before .before .before .before in
     let a = first .before .before .before .args in (
-      omega (arith, last .put3 .ensures .0, third .put-decimal3 .ensures .0, comma2 .put2 .ensures .0, second .put-decimal2 .ensures .0, comma1 .put .ensures .0, first .put-decimal .ensures .0),
+      omega (
+        arith,
+        last .put3 .ensures .0,
+        third .put-decimal3 .ensures .0,
+        comma2 .put2 .ensures .0,
+        second .put-decimal2 .ensures .0,
+        comma1 .put .ensures .0,
+        first .put-decimal .ensures .0,
+      ),
       numbers-text (take (a .at) (a .out .now)) (decimalText decimalMost (a .a)) (decimalText decimalMost (a .b))
           (decimalText decimalMost (a .c))
           (first .put-decimal .ensures .1)

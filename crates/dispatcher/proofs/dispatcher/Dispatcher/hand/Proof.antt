@@ -83,4 +83,5 @@ returns-4 c =
 pub hand-spec : {M : Type 1} → statement M
 hand-spec =
     tie.close
-    (tie.spec is-whole-requires unchanged-requires returns is-idle-requires unchanged-requires-2 returns-2 turn-of-requires enum-told unchanged-requires-3 enum-known-turn hand-over-requires returns-3 returns-4)
+    (tie.spec is-whole-requires unchanged-requires returns is-idle-requires unchanged-requires-2 returns-2
+    turn-of-requires enum-told unchanged-requires-3 enum-known-turn hand-over-requires returns-3 returns-4)
