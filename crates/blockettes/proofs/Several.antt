@@ -54,7 +54,8 @@ upward_more start bytes first before count =
 -- one blockette more, at turn t of those from turn `done` on
 pub upward_turn : (start bytes into next : List ℕ) (first done t : ℕ) → done ≤ t
     → into ≡ fold_upward start bytes (first + 2 * done) (t - done)
-    → next ≡ into ⊕ blockette_at bytes (first + 2 * t) → next ≡ fold_upward start bytes (first + 2 * done) (t + 1 - done)
+    → next ≡ into ⊕ blockette_at bytes (first + 2 * t)
+    → next ≡ fold_upward start bytes (first + 2 * done) (t + 1 - done)
 unfolding fold_upward xor_all
 upward_turn start bytes into next first done t h was now =
     let at : first + 2 * t ≡ first + 2 * done + 2 * (t - done) = omega arith in

@@ -74,7 +74,8 @@ zeros-⊕ (y ∷ b) zero e = absurd (omega arith)
 zeros-⊕ (y ∷ b) (suc n) e = ap₂ {C = List ℕ} ◌∷◌ (xor_zero_l y) (zeros-⊕ b n (omega arith))
 
 -- each byte
-pub ⊕-at : (a b : List ℕ) (i : ℕ) → i < length a → i < length b → get_or (a ⊕ b) i 0 ≡ bit_xor (get_or a i 0) (get_or b i 0)
+pub ⊕-at : (a b : List ℕ) (i : ℕ) → i < length a → i < length b
+    → get_or (a ⊕ b) i 0 ≡ bit_xor (get_or a i 0) (get_or b i 0)
 unfolding ◌⊕◌
 ⊕-at [] b i ha hb = absurd (not-suc-le-zero ha)
 ⊕-at (x ∷ a) [] i ha hb = absurd (not-suc-le-zero hb)

@@ -1,4 +1,6 @@
 // Blockettes, put together by XOR. What the builder and the restorer of records have in common.
+#![tactic(auto)]
+
 ghost use Rattle.std.specs.Prelude.{◌≡◌, ◌+◌, ◌*◌, ◌≤◌, ◌<◌, length, take};
 ghost use Rattle.blockettes.specs.Xor.{◌⊕◌};
 ghost use Rattle.blockettes.specs.Blockettes.{blockette_length, parity_stride, half_length, places_limit};
@@ -30,6 +32,7 @@ fn xor(into: &mut [u8], from: &[u8])
 }
 
 // The XOR of a string and the blockette at a place, or what there is of it.
+#[tactic(auto, unfolding(crate::specs::Blockettes::blockette_at))]
 fn xor_at(into: &mut [u8], bytes: &[u8], place: usize)
     requires { place ≤ places_limit }
     ensures { into.new ≡ into.old ⊕ blockette_at bytes.now place }
@@ -41,9 +44,11 @@ fn xor_at(into: &mut [u8], bytes: &[u8], place: usize)
 
 // The XOR of half a blockette and those of some others, every second from a place upward. What follows the half is not
 // looked at. Downward, the compiler does not take several bytes at once.
+#[tactic(auto, unfolding(crate::specs::Blockettes::fold_upward, crate::specs::Xor::xor_all))]
 fn fold_upward(into: &mut [u8], bytes: &[u8], first: usize, count: usize)
     requires into_len { length into.old ≡ half_length }
-    requires half_length_in_bounds { blockette_length * first + parity_stride * count + half_length ≤ length bytes.now + parity_stride }
+    requires half_length_in_bounds { blockette_length * first + parity_stride * count + half_length
+        ≤ length bytes.now + parity_stride }
     ensures { into.new ≡ fold_upward into.old bytes.now first count }
 {
     for t in 0..count {
@@ -56,7 +61,8 @@ fn fold_upward(into: &mut [u8], bytes: &[u8], first: usize, count: usize)
 // not lie in the bytes, and keeps it in registers.
 fn put_half(space: &mut [u8], bytes: &[u8], first: usize, count: usize)
     requires space_len { length space.old ≡ half_length }
-    requires half_length_in_bounds { blockette_length * first + parity_stride * count + half_length ≤ length bytes.now + parity_stride }
+    requires half_length_in_bounds { blockette_length * first + parity_stride * count + half_length
+        ≤ length bytes.now + parity_stride }
     ensures { space.new ≡ half_of bytes.now first count }
 {
     let mut half = [0u8; HALF_LENGTH];

@@ -1,4 +1,6 @@
 // What the other crates have in common: the lesser of two numbers, the plain work on lent space, and the refusals.
+#![tactic(auto)]
+
 pub mod refusals;
 
 ghost use Rattle.std.specs.Prelude.{◌≡◌, ◌≤◌, min, length, replicate};
@@ -22,6 +24,7 @@ pub fn clear(space: &mut [u8])
 }
 
 // Gives bytes at the start of a space.
+#[tactic(auto, unfolding(crate::specs::Space::overwrite))]
 pub fn overwrite(bytes: &[u8], space: &mut [u8])
     requires { length bytes.now ≤ length space.old }
     ensures { space.new ≡ overwrite bytes.now space.old }

@@ -3,3 +3,4 @@ pub mod ScanLaws
 pub mod FindingLaws
 pub mod TornLaws
 pub mod StopLaws
+pub mod ScanTurns

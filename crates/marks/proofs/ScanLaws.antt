@@ -102,7 +102,8 @@ module _ (marks : List ℕ) (parity : ℕ) where
     -- at the end
     found_end : length marks ≤ at → Found marks parity (length marks) place
     found_end end =
-        record { before = λ h. h; error = f.error; of_parity_lem = f.of_parity_lem; only = λ j h. f.only j (omega arith) }
+        record
+        { before = λ h. h; error = f.error; of_parity_lem = f.of_parity_lem; only = λ j h. f.only j (omega arith) }
 
 -- at the end of the scan
 abbrev Done : List ℕ → Scan → Type 0
@@ -233,7 +234,8 @@ beside_good marks parity place found some j below same other =
     good_mark (get_or marks j 0) (λ error. other (sym (found.only j below error (same ∙ found.of_parity_lem some))))
 
 -- and one that the scan has not found
-pub not_found_good : (marks : List ℕ) → ScannedOnce marks → (j : ℕ) → j < length marks → (j ≡ (scan_marks marks).odd → ⊥)
+pub not_found_good : (marks : List ℕ) → ScannedOnce marks → (j : ℕ)
+    → j < length marks → (j ≡ (scan_marks marks).odd → ⊥)
     → (j ≡ (scan_marks marks).even → ⊥)
     → get_or marks j 0 ≡ 15
 not_found_good marks once j below not_odd not_even =

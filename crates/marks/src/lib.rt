@@ -1,4 +1,6 @@
 // The marks of a GCR record: their test, the scan for errors, and what is told of an error.
+#![tactic(auto)]
+
 ghost use Rattle.std.specs.Prelude.{◌≡◌, ◌≤◌, length};
 ghost use Rattle.marks.specs.Marks.{legal_mark, legal_marks, is_error, torn_marks, most_marks};
 ghost use Rattle.marks.specs.Scan.{scan_marks, defect_at, is_found, findings_of, findings_torn, checks_alone};
@@ -21,7 +23,7 @@ const MOST_MARKS: usize = 258;
 
 // The places of the first odd error, of the first even one, and where the scan stopped; the number of marks where there
 // is none.
-#[derive(Drop)]
+#[derive(Clone, Copy)]
 pub struct Scan {
     pub odd: usize,
     pub even: usize,
@@ -30,7 +32,7 @@ pub struct Scan {
 
 // What is told of an error: its mark, its kind (1 data, 2 check) and its blockette's number. All are 0 where there is
 // none.
-#[derive(Drop)]
+#[derive(Clone, Copy)]
 pub struct Defect {
     pub mark: u8,
     pub kind: u8,
@@ -39,7 +41,7 @@ pub struct Defect {
 
 // What the scan finds: what is told of the first odd error, of the first even one and of the one where it stopped; and
 // the place where it stopped, the number of marks where it did not.
-#[derive(Drop)]
+#[derive(Clone, Copy)]
 pub struct Findings {
     pub odd: Defect,
     pub even: Defect,
@@ -48,6 +50,7 @@ pub struct Findings {
 }
 
 // Whether a mark is one of 1-9 or 15.
+#[tactic(auto, unfolding(crate::specs::Marks::legal_mark))]
 fn legal_mark(mark: u8) -> bool
     ensures { result ≡ legal_mark mark }
 {
@@ -55,6 +58,7 @@ fn legal_mark(mark: u8) -> bool
 }
 
 // Whether a mark is that of a bad blockette.
+#[tactic(auto, unfolding(crate::specs::Marks::is_error))]
 pub fn is_error(mark: u8) -> bool
     ensures { result ≡ is_error mark }
 {
@@ -62,6 +66,7 @@ pub fn is_error(mark: u8) -> bool
 }
 
 // Whether every mark is. All are looked at, since a loop without a way out takes many in a step.
+#[tactic(auto, unfolding(crate::specs::Marks::legal_marks))]
 pub fn legal_marks(marks: &[u8]) -> bool
     ensures { result ≡ legal_marks marks.now }
 {
@@ -76,6 +81,7 @@ pub fn legal_marks(marks: &[u8]) -> bool
 }
 
 // Goes over the marks in tape order, to the second error of one parity or to the end.
+#[tactic(auto, using(crate::proofs::ScanTurns::turns), unfolding(crate::specs::Scan::scan_marks))]
 pub fn scan_marks(marks: &[u8]) -> Scan
     ensures { result ≡ scan_marks marks.now }
 {
@@ -107,6 +113,7 @@ pub fn scan_marks(marks: &[u8]) -> Scan
 }
 
 // What is told of the blockette at a place.
+#[tactic(auto, unfolding(crate::specs::Scan::defect_at, common::specs::Pick::pick, crate::specs::Scan::kind_of, crate::specs::Scan::number_of))]
 fn defect_at(marks: &[u8], place: usize) -> Defect
     ensures { result ≡ defect_at marks.now place }
 {
@@ -137,6 +144,7 @@ fn defect_at(marks: &[u8], place: usize) -> Defect
 }
 
 // Whether there is an error of which this is told.
+#[tactic(auto, unfolding(crate::specs::Scan::is_found))]
 pub fn is_found(defect: Defect) -> bool
     ensures { result ≡ is_found defect }
 {
@@ -144,6 +152,7 @@ pub fn is_found(defect: Defect) -> bool
 }
 
 // Everything that is told of marks, from one scan.
+#[tactic(auto, unfolding(crate::specs::Scan::findings_of))]
 pub fn findings_of(marks: &[u8]) -> Findings
     ensures { result ≡ findings_of marks.now }
 {
@@ -160,6 +169,7 @@ pub fn findings_of(marks: &[u8]) -> Findings
 }
 
 // Marks where the first blockette is torn: it has the mark of a torn one, whichever mark came for it.
+#[tactic(auto, using(crate::proofs::TornLaws::torn_first, crate::proofs::TornLaws::torn_none, common::proofs::SpaceLaws::overwritten_all))]
 fn put_torn_marks(marks: &[u8], space: &mut [u8])
     requires { length space.old ≡ length marks.now }
     ensures { space.new ≡ torn_marks marks.now }
@@ -171,6 +181,7 @@ fn put_torn_marks(marks: &[u8], space: &mut [u8])
 }
 
 // Everything that is told of marks where the first blockette is torn.
+#[tactic(auto, using(crate::proofs::TornLaws::torn_length))]
 pub fn findings_torn(marks: &[u8]) -> Findings
     requires { length marks.now ≤ most_marks }
     ensures { result ≡ findings_torn marks.now }
@@ -182,6 +193,7 @@ pub fn findings_torn(marks: &[u8]) -> Findings
 }
 
 // Whether no error that the scan found is a data blockette's.
+#[tactic(auto, unfolding(crate::specs::Scan::checks_alone))]
 pub fn checks_alone(found: Findings) -> bool
     ensures { result ≡ checks_alone found }
 {

@@ -37,7 +37,8 @@ module _ (first first_marks second second_marks : List ℕ) where
   -- a blockette that is good in both and unlike
   abbrev pub Clash : Type 0
   Clash =
-      (place : ℕ) × (place < length first_marks) × (get_or first_marks place 0 ≡ 15) × (get_or second_marks place 0 ≡ 15)
+      (place : ℕ) × (place < length first_marks) × (get_or first_marks place 0 ≡ 15)
+      × (get_or second_marks place 0 ≡ 15)
       × (blockette_at first place ≡ blockette_at second place → ⊥)
 
   pub clash_found : clashes first first_marks second second_marks ≡ true → Clash

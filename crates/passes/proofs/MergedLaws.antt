@@ -64,7 +64,8 @@ joined_element element n place below =
 
 -- ---- the merged marks
 
-pub marks_length : (first_marks second_marks : List ℕ) → length (merged_marks first_marks second_marks) ≡ length first_marks
+pub marks_length : (first_marks second_marks : List ℕ)
+    → length (merged_marks first_marks second_marks) ≡ length first_marks
 unfolding merged_marks
 marks_length first_marks second_marks =
     joined_length _ 1 (length first_marks) (λ place below. refl) ∙ one-mul (length first_marks)
@@ -74,7 +75,8 @@ module _ (first_marks second_marks : List ℕ) (place : ℕ) (below : place < le
       ≡ merged_mark (get_or first_marks place 0) (get_or second_marks place 0)
   unfolding merged_marks
   mark_at =
-      joined_element (λ p. merged_mark (get_or first_marks p 0) (get_or second_marks p 0)) (length first_marks) place below
+      joined_element (λ p. merged_mark (get_or first_marks p 0) (get_or second_marks p 0))
+      (length first_marks) place below
 
 -- "A merged blockette is bad only if both passes had it bad", and good exactly if one had it good
 pub mark_bad : (first_mark second_mark : ℕ)
@@ -109,7 +111,8 @@ merged_legal first_marks second_marks as_many one two =
 -- ---- the merged blockettes
 
 -- one that is marked good is what the pass holds that it comes from
-pub merged_good : (first second built : List ℕ) (first_mark second_mark place : ℕ) → merged_mark first_mark second_mark ≡ 15
+pub merged_good : (first second built : List ℕ) (first_mark second_mark place : ℕ)
+    → merged_mark first_mark second_mark ≡ 15
     → (first_mark ≡ 15 → blockette_at first place ≡ built) → (second_mark ≡ 15 → blockette_at second place ≡ built)
     → merged_at first first_mark second second_mark place ≡ built
 unfolding merged_mark merged_at

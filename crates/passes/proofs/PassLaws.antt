@@ -1,7 +1,7 @@
 -- Laws of two passes: of tests at any place, of parts one behind the other, and of the choice between the two.
 -- Assumes nothing.
 use mathlib.Core.Path.{◌≡◌, refl, sym, ap, ap₂, ◌∙◌}
-use Prim.Native.Nat.{ℕ, zero, suc, ◌+◌, ◌-◌, ◌*◌, ◌≤◌, ◌<◌}
+use Prim.Native.Nat.{ℕ, zero, suc, ◌+◌, ◌*◌, ◌≤◌, ◌<◌}
 use native.Mathlib.Nat.{lt_of_not-le, mul-suc, le_of_suc-le-suc, not-suc-le-zero}
 use native.Mathlib.Decide.{dec_le}
 use native.Mathlib.Numerals.{add-one}
@@ -51,7 +51,8 @@ none_found test (suc n) fails = rw (none_found test n (λ at below. fails at (om
 -- ---- strings compared in two parts
 
 -- a front and the rest
-in_two : (k : ℕ) (a b : List ℕ) → same_bytes a b ≡ (same_bytes (take k a) (take k b) && same_bytes (drop k a) (drop k b))
+in_two : (k : ℕ) (a b : List ℕ)
+    → same_bytes a b ≡ (same_bytes (take k a) (take k b) && same_bytes (drop k a) (drop k b))
 unfolding same_bytes
 in_two zero a b = refl
 in_two (suc k) [] [] = refl

@@ -2,7 +2,8 @@
 -- different blockettes fail." A place counts from 0 in tape order, check blockettes included; a pass is the bytes of
 -- its blockettes and their marks.
 -- Assumes nothing.
-use Rattle.std.specs.Prelude.{ℕ, zero, suc, Bool, true, false, not, ◌&&◌, ◌||◌, List, [], ◌∷◌, ◌++◌, eqb, length, get_or}
+use Rattle.std.specs.Prelude.{ℕ, zero, suc, Bool, true, false, not, ◌&&◌, ◌||◌, List, [], ◌∷◌, ◌++◌, eqb, length}
+use Rattle.std.specs.Prelude.{get_or}
 use Rattle.common.specs.Pick.{pick}
 use Rattle.blockettes.specs.Blockettes.{blockette_at}
 use Rattle.marks.specs.Marks.{is_error}
@@ -32,7 +33,8 @@ clash_at first first_marks second second_marks place =
 
 -- at any
 unfoldable pub clashes : List ℕ → List ℕ → List ℕ → List ℕ → Bool
-clashes first first_marks second second_marks = any_place (clash_at first first_marks second second_marks) (length first_marks)
+clashes first first_marks second second_marks =
+    any_place (clash_at first first_marks second second_marks) (length first_marks)
 
 -- "A blockette comes from the first pass if that marks it good, else from the second if that does, else from the first
 -- with its mark.": by the two marks, whether it comes from the second

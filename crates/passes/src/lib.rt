@@ -1,5 +1,7 @@
 // One record out of two passes, blockette by blockette: which of them are unlike, and the merged blockettes with their
 // marks.
+#![tactic(auto)]
+
 ghost use Rattle.std.specs.Prelude.{◌≡◌, ◌+◌, ◌*◌, ◌≤◌, ◌<◌, length};
 ghost use Rattle.blockettes.specs.Blockettes.{blockette_length, blockette_at};
 ghost use Rattle.passes.specs.Passes.{same_bytes, same_blockettes, clash_at, clashes, takes_second};
@@ -18,6 +20,7 @@ const ALIGNED: usize = 14;
 
 // Whether two strings of one length have the same bytes. All are looked at, since a loop without a way out takes many
 // in a step.
+#[tactic(auto, unfolding(crate::specs::Passes::same_bytes))]
 fn same_bytes(a: &[u8], b: &[u8]) -> bool
     requires { length b.now ≡ length a.now }
     ensures { result ≡ same_bytes a.now b.now }
@@ -44,6 +47,7 @@ pub fn same_blockettes(a: &[u8], b: &[u8]) -> bool
 }
 
 // Whether a blockette comes from the second pass: it is bad in the first and good in the second.
+#[tactic(auto, unfolding(crate::specs::Passes::takes_second))]
 fn takes_second(first_mark: u8, second_mark: u8) -> bool
     ensures { result ≡ takes_second first_mark second_mark }
 {
@@ -51,6 +55,7 @@ fn takes_second(first_mark: u8, second_mark: u8) -> bool
 }
 
 // Its mark.
+#[tactic(auto, unfolding(crate::specs::Passes::merged_mark))]
 fn merged_mark(first_mark: u8, second_mark: u8) -> u8
     ensures { result ≡ merged_mark first_mark second_mark }
 {
@@ -61,6 +66,7 @@ fn merged_mark(first_mark: u8, second_mark: u8) -> u8
 }
 
 // Whether the blockette at a place is good in both passes and unlike.
+#[tactic(auto, unfolding(crate::specs::Passes::clash_at))]
 fn clash_at(
     first: &[u8],
     first_marks: &[u8],
@@ -85,6 +91,7 @@ fn clash_at(
 
 // Whether any is. From the last to the first: those compared last are in the processor's nearest cache when the merged
 // ones are put, from the first on.
+#[tactic(auto, unfolding(crate::specs::Passes::clashes))]
 pub fn clashes(first: &[u8], first_marks: &[u8], second: &[u8], second_marks: &[u8]) -> bool
     requires second_marks_len { length second_marks.now ≡ length first_marks.now }
     requires first_len { length first.now ≡ blockette_length * length first_marks.now }
@@ -104,6 +111,7 @@ pub fn clashes(first: &[u8], first_marks: &[u8], second: &[u8], second_marks: &[
 
 // The merged blockette at a place. Its part of the image has that of the first pass, which stays where it is not the
 // second's.
+#[tactic(auto, unfolding(blockettes::specs::Blockettes::blockette_at, common::specs::Pick::pick))]
 fn put_merged_blockette(
     first_mark: u8,
     second: &[u8],
@@ -124,6 +132,7 @@ fn put_merged_blockette(
 }
 
 // The merged blockettes. The image has those of the first pass.
+#[tactic(auto, unfolding(crate::specs::Passes::merged_blockettes))]
 pub fn put_merged_blockettes(
     first_marks: &[u8],
     second: &[u8],
@@ -149,6 +158,7 @@ pub fn put_merged_blockettes(
 }
 
 // Their marks, which fill their space.
+#[tactic(auto, unfolding(crate::specs::Passes::merged_marks))]
 pub fn put_merged_marks(first_marks: &[u8], second_marks: &[u8], marks: &mut [u8])
     requires second_marks_len { length second_marks.now ≡ length first_marks.now }
     requires marks_len { length marks.old ≡ length first_marks.now }

@@ -79,7 +79,8 @@ module _ (blockettes : List ℕ) (n : ℕ) (full : length blockettes ≡ 256 * (
 
   -- all of a parity and one of them once more are its others
   all_and_one : (place : ℕ) → place < n + 2
-      → fold_parity (replicate 256 0) blockettes (n + 2) (parity_at n place) ⊕ blockette_at blockettes place ≡ others place
+      → fold_parity (replicate 256 0) blockettes (n + 2) (parity_at n place) ⊕ blockette_at blockettes place
+      ≡ others place
   all_and_one place below =
       others_by_all blockettes (n + 2) place 256 below (le_refl 256)
       ∙ take_all 256 (others place) (le_of_eq (others_length blockettes (n + 2) place))
@@ -143,7 +144,8 @@ module _ (bytes : List ℕ) (within : length bytes ≤ limit) (some : 0 < length
     answer : verify image ≡ unfit_checks (drop 2 image) n
     unfolding image_of count_bytes
     answer =
-        let said : count_of image ≡ length bytes = count_said_lem image (length bytes) (omega (arith, limit_16)) count in
+        let said : count_of image ≡ length bytes =
+        count_said_lem image (length bytes) (omega (arith, limit_16)) count in
         verified image (long ∙ image_length_lem bytes 1 ∙ ap (λ (k : ℕ). image_length k 1) (sym said))
         (λ none. omega (arith, some, said))
         ∙ ap (λ (k : ℕ). unfit_checks (drop 2 image) (blockette_count k)) said

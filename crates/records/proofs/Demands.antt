@@ -294,7 +294,8 @@ unfolding overwrite
 calls_merge_bad_only_where_both_are first second image marks image_after marks_after merges place below =
     let merged = merged_marks first.marks second.marks in
     let within : place < length merged = omega (arith, marks_length first.marks second.marks) in
-    ap (λ (l : List ℕ). is_error (get_or l place 0)) (marks_left first second image marks image_after marks_after merges)
+    ap (λ (l : List ℕ). is_error (get_or l place 0))
+    (marks_left first second image marks image_after marks_after merges)
     ∙ ap is_error (get_or-append merged _ 0 place within ∙ mark_at first.marks second.marks place below)
     ∙ mark_bad (get_or first.marks place 0) (get_or second.marks place 0)
 
@@ -477,7 +478,8 @@ pub record EarlierTapesReadTheSame : Type 0 where
       × (after ≡ earlier_build_into bytes density space)
   pub restore : (image marks space : List ℕ) (refusal : ℕ) (after : List ℕ)
       → RestoreAllows image marks space refusal after → count_of image ≤ earlier_limit
-      → (refusal ≡ earlier_restore_refusal image marks (length space)) × (after ≡ earlier_restore_into image marks space)
+      → (refusal ≡ earlier_restore_refusal image marks (length space))
+      × (after ≡ earlier_restore_into image marks space)
 
 pub earlier_tapes_read_the_same : EarlierTapesReadTheSame
 unfolding build_refusal build_into restore_refusal restore_into

@@ -94,7 +94,8 @@ pub body_plain : (bytes : List ℕ) (density : ℕ) → has_blockettes (length b
 unfolding body_of pick
 body_plain bytes density h = simp h
 
-pub image_length_lem : (bytes : List ℕ) (density : ℕ) → length (image_of bytes density) ≡ image_length (length bytes) density
+pub image_length_lem : (bytes : List ℕ) (density : ℕ)
+    → length (image_of bytes density) ≡ image_length (length bytes) density
 unfolding image_of count_bytes
 image_length_lem bytes density = go (has_blockettes (length bytes) density) refl
   where
@@ -144,7 +145,8 @@ marks_of c h = pick_yes (blockette_count c + 2) 0 (has_some c h)
 pub marks_most : (c density : ℕ) → mark_count c density ≤ blockette_count c + 2
 unfolding mark_count
 marks_most c density =
-    pick_by (λ (n : ℕ). n ≤ blockette_count c + 2) (has_blockettes c density) (λ some. omega arith) (λ none. omega arith)
+    pick_by (λ (n : ℕ). n ≤ blockette_count c + 2) (has_blockettes c density) (λ some. omega arith)
+    (λ none. omega arith)
 
 -- a GCR image is its count and a blockette for each mark
 pub marks_fill : (c : ℕ) → image_length c 1 ≡ 2 + 256 * mark_count c 1
@@ -163,7 +165,8 @@ module _ (density : ℕ) (gcr : density ≡ 0 → ⊥) where
   pub image_alike : (bytes : List ℕ) → image_of bytes density ≡ image_of bytes 1
   unfolding image_of body_of
   image_alike bytes =
-      ap (λ (b : Bool). count_bytes (length bytes) ++ pick b (blockettes_of bytes (blockette_count (length bytes))) bytes)
+      ap (λ (b : Bool). count_bytes (length bytes)
+      ++ pick b (blockettes_of bytes (blockette_count (length bytes))) bytes)
       (has_alike (length bytes))
 
 module _ (bytes : List ℕ) (some : 0 < length bytes) where

@@ -8,7 +8,6 @@ use mathlib.Core.List.{List}
 use lib.Dec.{ltb, eqb}
 use lib.ListN.{length, take, drop, length-drop}
 use lib.Seq.{take_all}
-use Rattle.common.specs.Pick.{pick}
 use borrow.Author.Tests.{ltb-false, eqb-true, eqb-false, not-false}
 use Rattle.common.proofs.PickLaws.{by_test, pick_yes, pick_no, pick_by, not_refused_lem}
 use Rattle.marks.specs.Marks.{legal_marks}

@@ -1,9 +1,9 @@
 -- A GCR record that was built and read in two passes, of which each shows what was built, is merged and restored to the
 -- bytes that it was built from.
 -- Assumes nothing.
-use mathlib.Core.Path.{◌≡◌, refl, sym, ap, ap₂, ◌∙◌}
-use mathlib.Core.Bool.{Bool, false, not, ◌||◌}
-use mathlib.Core.List.{List, ◌++◌}
+use mathlib.Core.Path.{◌≡◌, sym, ap, ap₂, ◌∙◌}
+use mathlib.Core.Bool.{false, not, ◌||◌}
+use mathlib.Core.List.{List}
 use Prim.Native.Nat.{ℕ, ◌+◌, ◌*◌, ◌≤◌, ◌<◌}
 use native.Mathlib.Omega.{arith}
 use lib.Dec.{eqb}
@@ -11,7 +11,7 @@ use lib.ListN.{length, take, drop, get_or, length-append, length-drop}
 use lib.Seq.{take_at, drop_at, length-take-le}
 use borrow.Author.Tests.{eq-eqb, le-ltb}
 use Rattle.common.specs.Space.{overwrite}
-use Rattle.common.proofs.PickLaws.{pick_yes, pick_no}
+use Rattle.common.proofs.PickLaws.{pick_no}
 use Rattle.blockettes.specs.Blockettes.{blockette_at}
 use Rattle.passes.specs.Passes.{clashes, merged_marks, merged_blockettes}
 use Rattle.passes.proofs.MergedLaws.{marks_length, mark_at, merged_legal, merged_good, blockettes_length, merged_at_lem}
@@ -21,7 +21,7 @@ use Rattle.records.specs.Count.{limit, count_of}
 use Rattle.records.specs.Image.{image_of}
 use Rattle.records.specs.Restore.{restore_refusal, restore_into}
 use Rattle.records.specs.Merge.{Pass, pass_refusal, either_refused, pair_refusal, merge_refusal, merged_image}
-use Rattle.records.specs.Spoiled.{Shown, Spoiled}
+use Rattle.records.specs.Spoiled.{Shown}
 use Rattle.records.proofs.BuiltRecordsAreRestored.{said, shown_accepted, built_records_are_restored}
 
 -- a pass that shows what was built

@@ -7,7 +7,6 @@ use native.Mathlib.Omega.{arith}
 use lib.Dec.{ltb}
 use lib.ListN.{length, take, drop, length-take}
 use lib.Seq.{take_all}
-use borrow.Author.Tests.{ltb-true}
 use Rattle.common.specs.Space.{filled}
 use Rattle.common.proofs.SpaceLaws.{filled_self, filled_length}
 use Rattle.common.proofs.Parts.{part_of_front}

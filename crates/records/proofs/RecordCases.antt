@@ -72,10 +72,9 @@ pub record RecordCases : Type 0 where
   pub last_place_lem : build_refusal 4 0 3 6 ≡ 0
 
 pub record_cases : RecordCases
-unfolding pick filled ◌⊕◌ xor_all blockette_at numbered of_parity fold_parity check_of is_error scan_from scan_marks kind_of
-    number_of defect_at
-    limit rotated count_bytes blockette_count has_blockettes blockettes_of body_of image_of image_length mark_count is_place
-    as_came written_bytes build_refusal
+unfolding pick filled ◌⊕◌ xor_all blockette_at numbered of_parity fold_parity check_of is_error scan_from scan_marks
+    kind_of number_of defect_at limit rotated count_bytes blockette_count has_blockettes blockettes_of body_of image_of
+    image_length mark_count is_place as_came written_bytes build_refusal
 record_cases =
     record {
       count_5 = refl;

@@ -131,7 +131,8 @@ module _ (marks : List ℕ) where
       let other = two.1 in
       let one_below : one < length marks = omega (arith, two.2, two.3) in
       let some : 2 ≤ length marks = omega (arith, two.2, two.3) in
-      let same : OneParity one other = sym (parity_at_lem one one_below some) ∙ two.6 ∙ parity_at_lem other two.3 some in
+      let same : OneParity one other = sym (parity_at_lem one one_below some)
+      ∙ two.6 ∙ parity_at_lem other two.3 some in
       ⊎_elim
       (λ (reached : ScannedOnce marks).
       absurd (omega (
@@ -195,7 +196,8 @@ module _ (image marks : List ℕ) where
       unfolding pick
       wrong_marks wrong = whole_is ∙ simp (two, long, wrong)
 
-      by_marks : eqb (length marks) (marks_in count) ≡ true → whole_refusal image marks 1 ≡ pick (legal_marks marks) 0 10
+      by_marks : eqb (length marks) (marks_in count) ≡ true
+          → whole_refusal image marks 1 ≡ pick (legal_marks marks) 0 10
       unfolding pick
       by_marks marked = whole_is ∙ simp (two, long, marked)
 

@@ -60,7 +60,8 @@ module _ (bytes built blockettes marks : List ℕ) (n : ℕ) (count : n ≡ bloc
   byte_good : (i : ℕ) → i < length bytes → get_or marks (i / 256) 0 ≡ 15 → get_or blockettes i 0 ≡ get_or bytes i 0
   unfolding blockette_count
   byte_good i inside fine =
-      sym (blockette_at_lem blockettes i) ∙ ap (λ (l : List ℕ). get_or l (i % 256) 0) (good (i / 256) (omega arith) fine)
+      sym (blockette_at_lem blockettes i)
+      ∙ ap (λ (l : List ℕ). get_or l (i % 256) 0) (good (i / 256) (omega arith) fine)
       ∙ blockette_at_lem built i
       ∙ front i inside
 
@@ -119,7 +120,8 @@ restored_bytes_lem bytes image marks said long marked once good =
     let few : 256 * n < c + 256 = blockettes_tight c in
     let kept : length half ≡ c = mended_length blocks n odd old (rw as_long few) ∙ as_long in
     let done : length (mend_at blocks n even half) ≡ c = mended_length blocks n even half (rw kept few) ∙ kept in
-    ap (λ (k : ℕ). mend_at blocks (blockette_count k) even (mend_at blocks (blockette_count k) odd (take k blocks))) said
+    ap (λ (k : ℕ). mend_at blocks (blockette_count k) even (mend_at blocks (blockette_count k) odd (take k blocks)))
+    said
     ∙ ext_get_or 0 (mend_at blocks n even half) bytes done
     (λ i inside.
     let below : i < c = omega arith in
@@ -153,4 +155,5 @@ pub restorer_gives : (image marks space : List ℕ) → restore_refusal image ma
     → restore_into image marks space ≡ overwrite (restored_bytes image marks) space
 unfolding restore_into
 restorer_gives image marks space accepted =
-    where_done (restore_refusal image marks (length space)) (overwrite (restored_bytes image marks) space) space accepted
+    where_done (restore_refusal image marks (length space)) (overwrite (restored_bytes image marks) space)
+    space accepted

@@ -46,7 +46,8 @@ set_legal (m ∷ marks) (suc place) mark new old =
 -- ---- one blockette more
 
 -- a byte of a blockette
-byte_of : (bytes : List ℕ) (place i : ℕ) → i < 256 → get_or (blockette_at bytes place) i 0 ≡ get_or bytes (256 * place + i) 0
+byte_of : (bytes : List ℕ) (place i : ℕ)
+    → i < 256 → get_or (blockette_at bytes place) i 0 ≡ get_or bytes (256 * place + i) 0
 unfolding blockette_at
 byte_of bytes place i h = get_or-take 256 (drop (256 * place) bytes) i 0 h ∙ get_or-drop (256 * place) bytes i 0
 
@@ -66,7 +67,8 @@ module _ (bytes new : List ℕ) (place : ℕ) (full : length new ≡ 256) (room 
       let after = written_at bytes (256 * place) new in
       let kept : length after ≡ length bytes = written_length bytes new (256 * place) (omega arith) in
       let long : length (blockette_at after other) ≡ 256 = blockette_length_lem after other (omega arith) in
-      ext_get_or 0 (blockette_at after other) (blockette_at bytes other) (long ∙ sym (blockette_length_lem bytes other inside))
+      ext_get_or 0 (blockette_at after other) (blockette_at bytes other)
+      (long ∙ sym (blockette_length_lem bytes other inside))
       (λ i h.
       let small : i < 256 = omega arith in
       byte_of after other i small

@@ -50,7 +50,8 @@ bad mark low high = record { low = low; high = high }
 -- an image with bytes that were not built, in each of these places
 unfoldable pub spoilings : List ℕ → List ℕ → List ℕ
 spoilings built [] = built
-spoilings built (place ∷ places) = spoiled_at (spoilings built places) place (another (blockette_at (drop 2 built) place))
+spoilings built (place ∷ places) =
+    spoiled_at (spoilings built places) place (another (blockette_at (drop 2 built) place))
 
 -- as it is in each pass
 abbrev pub first_pass : List ℕ → Pass
@@ -111,4 +112,5 @@ module _ (bytes : List ℕ) (five : mark_count (length bytes) 1 ≡ 5) where
 
 -- one error is left
 pub both_once : Once (merged_marks first_marks second_marks)
-both_once = subst Once (sym both_marks_lem) (once_more (replicate 5 15) 4 5 (good_once 5) (λ j h e same. no_error 5 j h e))
+both_once =
+    subst Once (sym both_marks_lem) (once_more (replicate 5 15) 4 5 (good_once 5) (λ j h e same. no_error 5 j h e))

@@ -5,13 +5,13 @@ use mathlib.Core.Path.{◌≡◌, sym, ap, ◌∙◌}
 use mathlib.Core.Bool.{true, not, false≢true}
 use mathlib.Core.List.{List, [], ◌∷◌}
 use contract.Lifetimes.{Lfts}
-use denote.Ref.{MutBor, at_last}
+use denote.Ref.{Bor, MutBor, at_last}
 use Prim.Native.Nat.{ℕ, ◌+◌, ◌-◌, ◌*◌, ◌%◌, ◌≤◌, ◌<◌}
 use native.Mathlib.Decide.{ℕ_discrete}
 use native.Mathlib.Omega.{arith}
 use lib.Dec.{ltb, eqb}
 use lib.ListN.{length, drop, get_or}
-use lib.Seq.{drop-append_seam, drop_at}
+use lib.Seq.{drop_at}
 use borrow.Author.Tests.{eqb-false, lt-ltb, le-ltb, ne_eqb}
 use Rattle.common.specs.Pick.{pick}
 use Rattle.common.specs.Space.{overwrite, filled}
@@ -50,7 +50,7 @@ use Rattle.records.proofs.interface.ctc_verify.Reads as verify-reads
 
 -- ---- ctc_build
 
-module _ (κs : Lfts 2) (bytes image : MutBor (List ℕ)) (density place r : ℕ) (after : List ℕ)
+module _ (κs : Lfts 2) (bytes : Bor (List ℕ)) (image : MutBor (List ℕ)) (density place r : ℕ) (after : List ℕ)
     (allowed : build-reads.Post κs (bytes, (density, (place, (image, tt)))) r
     (bytes, (density, (place, (at_last image after, tt))))) where
   -- more than 65,535 bytes are taken
@@ -107,7 +107,7 @@ module _ (κs : Lfts 2) (bytes image : MutBor (List ℕ)) (density place r : ℕ
 
 -- ---- ctc_restore
 
-module _ (κs : Lfts 3) (image marks out : MutBor (List ℕ)) (r : ℕ) (after : List ℕ)
+module _ (κs : Lfts 3) (image marks : Bor (List ℕ)) (out : MutBor (List ℕ)) (r : ℕ) (after : List ℕ)
     (allowed : restore-reads.Post κs (image, (marks, (out, tt))) r (image, (marks, (at_last out after, tt)))) where
   -- two bad blockettes of one parity are taken for restored
   pub restore_gives_what_cannot_be_restored : ltb (scan_marks marks.now).stop (length marks.now) ≡ true → r ≡ 0 → ⊥
@@ -131,10 +131,12 @@ module _ (κs : Lfts 3) (image marks out : MutBor (List ℕ)) (r : ℕ) (after :
 
 -- ---- ctc_merge
 
-module _ (κs : Lfts 6) (first first_marks second second_marks image marks : MutBor (List ℕ)) (r : ℕ)
+module _ (κs : Lfts 6) (first first_marks second second_marks : Bor (List ℕ)) (image marks : MutBor (List ℕ)) (r : ℕ)
     (image_after_lem marks_after_lem : List ℕ)
-    (allowed : merge-reads.Post κs (first, (first_marks, (second, (second_marks, (image, (marks, tt)))))) r
-    (first, (first_marks, (second, (second_marks, (at_last image image_after_lem, (at_last marks marks_after_lem, tt)))))))
+    (allowed : merge-reads.Post κs (first, (first_marks, (second, (second_marks, (image, (marks, tt)))))) r (
+      first,
+      (first_marks, (second, (second_marks, (at_last image image_after_lem, (at_last marks marks_after_lem, tt))))),
+    ))
   where
     abbrev one : Pass
     one = pass_of first.now first_marks.now
@@ -203,7 +205,7 @@ module _ (count density r : ℕ) (allowed : marks-reads.Post tt (count, (density
 
 -- ---- ctc_image_count
 
-module _ (κs : Lfts 1) (image : MutBor (List ℕ)) (r : ℕ) (allowed : count-reads.Post κs (image, tt) r (image, tt)) where
+module _ (κs : Lfts 1) (image : Bor (List ℕ)) (r : ℕ) (allowed : count-reads.Post κs (image, tt) r (image, tt)) where
   -- an image too short for a count has one
   pub count_of_a_short_image : length image.now < 2 → r < 65536 → ⊥
   unfolding image_count
@@ -220,12 +222,12 @@ module _ (κs : Lfts 1) (image : MutBor (List ℕ)) (r : ℕ) (allowed : count-r
 
 -- ---- ctc_scan
 
-module _ (κs : Lfts 2) (marks report : MutBor (List ℕ)) (r : ℕ) (after : List ℕ)
+module _ (κs : Lfts 2) (marks : Bor (List ℕ)) (report : MutBor (List ℕ)) (r : ℕ) (after : List ℕ)
     (allowed : scan-reads.Post κs (marks, (report, tt)) r (marks, (at_last report after, tt))) where
   -- a bad check blockette does not stop the scan, though blockette 0, of its parity, is bad too
   pub scan_passes_a_check_blockette : marks.now ≡ 9 ∷ 15 ∷ 3 ∷ [] → r ≡ 0 → get_or after 6 0 ≡ 0 → ⊥
-  unfolding scan_refusal scan_into overwrite scan_report findings_of defect_at kind_of number_of scan_marks scan_from is_error
-      pick
+  unfolding scan_refusal scan_into overwrite scan_report findings_of defect_at kind_of number_of scan_marks scan_from
+      is_error pick
   scan_passes_a_check_blockette bad done e =
       by_test (ltb (length report.now) 9)
       (λ short. let right : r ≡ 11 = allowed.0 ∙ simp short in omega arith)
@@ -243,7 +245,7 @@ module _ (κs : Lfts 2) (marks report : MutBor (List ℕ)) (r : ℕ) (after : Li
 
 -- ---- ctc_verify
 
-module _ (κs : Lfts 1) (image : MutBor (List ℕ)) (r : ℕ) (allowed : verify-reads.Post κs (image, tt) r (image, tt)) where
+module _ (κs : Lfts 1) (image : Bor (List ℕ)) (r : ℕ) (allowed : verify-reads.Post κs (image, tt) r (image, tt)) where
   -- a built image with one blockette changed passes
   pub verify_passes_a_changed_blockette :
       (bytes new : List ℕ) (place : ℕ) → length bytes ≤ limit → place < mark_count (length bytes) 1 → length new ≡ 256

@@ -36,7 +36,8 @@ earlier_whole_refusal image marks =
 abbrev pub earlier_restore_refusal : List ℕ → List ℕ → ℕ → ℕ
 earlier_restore_refusal image marks space =
     pick (eqb (earlier_whole_refusal image marks) done)
-    (pick (ltb space (count_of image)) space_short (pick (ltb (scan_marks marks).stop (length marks)) unrestorable done))
+    (pick (ltb space (count_of image)) space_short
+    (pick (ltb (scan_marks marks).stop (length marks)) unrestorable done))
     (earlier_whole_refusal image marks)
 
 abbrev pub earlier_restore_into : List ℕ → List ℕ → List ℕ → List ℕ

@@ -2,7 +2,8 @@
 -- of each a table of numbers with their conditions, in the papers' order. The conditions are in numbers, and cite no
 -- other definition of the records.
 -- Assumes nothing.
-use Rattle.std.specs.Prelude.{◌≡◌, ℕ, ◌+◌, ◌-◌, ◌*◌, ◌/◌, ◌%◌, ◌≤◌, ◌<◌, List, [], ◌∷◌, ltb, eqb, length, take, drop, get_or}
+use Rattle.std.specs.Prelude.{◌≡◌, ℕ, ◌+◌, ◌-◌, ◌*◌, ◌/◌, ◌%◌, ◌≤◌, ◌<◌, List, [], ◌∷◌, ltb, eqb, length, take, drop}
+use Rattle.std.specs.Prelude.{get_or}
 use Rattle.common.specs.Pick.{pick}
 use Rattle.common.specs.FirstOf.{FirstOf}
 use Rattle.blockettes.specs.Blockettes.{check_of}

@@ -14,7 +14,8 @@ use Rattle.records.specs.Whole.{whole_refusal}
 unfoldable pub restore_refusal : List ℕ → List ℕ → ℕ → ℕ
 restore_refusal image marks space =
     pick (eqb (whole_refusal image marks 1) done)
-    (pick (ltb space (count_of image)) space_short (pick (ltb (scan_marks marks).stop (length marks)) unrestorable done))
+    (pick (ltb space (count_of image)) space_short
+    (pick (ltb (scan_marks marks).stop (length marks)) unrestorable done))
     (whole_refusal image marks 1)
 
 -- a string with another written over it from a start, as far as it goes

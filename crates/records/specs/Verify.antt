@@ -18,7 +18,8 @@ unfit_odd = 64
 
 -- whether the check blockette of a parity is the XOR of its data, of n blockettes of data and the two behind them
 unfoldable pub check_fits : List ℕ → ℕ → ℕ → Bool
-check_fits blockettes n parity = same_blockettes (check_of blockettes n parity) (blockette_at blockettes (n + 1 - parity))
+check_fits blockettes n parity =
+    same_blockettes (check_of blockettes n parity) (blockette_at blockettes (n + 1 - parity))
 
 -- those that do not, of both parities
 unfoldable pub unfit_checks : List ℕ → ℕ → ℕ

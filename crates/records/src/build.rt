@@ -20,6 +20,7 @@ const BEFORE_ALIGNED: usize = 14;
 const LONG: usize = 2048;
 
 // The bytes of a record, with zeros behind them. Of a long one most are put where the image is aligned.
+#[tactic(auto, unfolding(common::specs::Space::filled))]
 fn put_bytes(bytes: &[u8], space: &mut [u8])
     requires { length bytes.now ≤ length space.old }
     ensures { space.new ≡ filled bytes.now (length space.old) }
@@ -33,6 +34,7 @@ fn put_bytes(bytes: &[u8], space: &mut [u8])
 }
 
 // Both check blockettes of n blockettes of data.
+#[tactic(auto, unfolding(blockettes::specs::Blockettes::check_of))]
 fn put_checks(bytes: &[u8], n: usize, space: &mut [u8])
     requires n_bound { n ≤ 256 }
     requires space_len { length space.old ≡ checks_length }
@@ -43,6 +45,7 @@ fn put_checks(bytes: &[u8], n: usize, space: &mut [u8])
 }
 
 // The blockettes of data and of check. Bytes that are missing are zeros.
+#[tactic(auto, unfolding(crate::specs::Image::blockettes_of))]
 fn put_blockettes(bytes: &[u8], n: usize, space: &mut [u8])
     requires n_bound { n ≤ 256 }
     requires bytes_len_bound { length bytes.now ≤ blockette_length * n }
@@ -55,6 +58,7 @@ fn put_blockettes(bytes: &[u8], n: usize, space: &mut [u8])
 }
 
 // What follows the count. Bytes that are missing are zeros.
+#[tactic(auto, unfolding(crate::specs::Image::body_of, common::specs::Space::filled, common::specs::Pick::pick))]
 fn put_body(bytes: &[u8], count: u16, density: u8, space: &mut [u8])
     requires bytes_len_bound { length bytes.now ≤ count }
     requires space_len { length space.old + 2 ≡ image_length count density }
@@ -69,6 +73,7 @@ fn put_body(bytes: &[u8], count: u16, density: u8, space: &mut [u8])
 }
 
 // The image of a record of this count. Bytes that are missing are zeros.
+#[tactic(auto, unfolding(crate::specs::Image::image_of, common::specs::Space::filled))]
 pub fn put_image(bytes: &[u8], count: u16, density: u8, image: &mut [u8])
     requires bytes_len_bound { length bytes.now ≤ count }
     requires image_len { length image.old ≡ image_length count density }
@@ -79,6 +84,7 @@ pub fn put_image(bytes: &[u8], count: u16, density: u8, image: &mut [u8])
 }
 
 // Refused for too many bytes, too little space, or a place that is not in the bytes.
+#[tactic(auto, unfolding(crate::specs::Build::build_refusal, common::specs::Pick::pick, crate::specs::Count::limit))]
 fn build_refusal(count: usize, density: u8, place: usize, space: usize) -> u32
     ensures { result ≡ build_refusal count density place space }
 {
@@ -97,6 +103,7 @@ fn build_refusal(count: usize, density: u8, place: usize, space: usize) -> u32
 
 // Bytes to an image, at the start of the space. Those behind the place are zeros, which put_image fills in without a
 // pass of their own.
+#[tactic(auto, unfolding(crate::specs::Build::build_into))]
 pub fn build(bytes: &[u8], density: u8, place: usize, image: &mut [u8]) -> u32
     ensures answered { result ≡ build_refusal (length bytes.now) density place
         (length image.old) }

@@ -6,6 +6,7 @@ ghost use Rattle.records.specs.Count.{count_bytes, count_of};
 pub const LIMIT: usize = 65535;
 
 // Writes a count.
+#[tactic(auto, unfolding(crate::specs::Count::count_bytes, crate::specs::Count::rotated))]
 pub fn put_count_bytes(count: u16, space: &mut [u8])
     requires { length space.old ≡ 2 }
     ensures { space.new ≡ count_bytes count }
@@ -16,6 +17,7 @@ pub fn put_count_bytes(count: u16, space: &mut [u8])
 }
 
 // The count that an image says.
+#[tactic(auto, unfolding(crate::specs::Count::count_of, crate::specs::Count::unrotated))]
 pub fn count_of(image: &[u8]) -> u16
     requires { 2 ≤ length image.now }
     ensures { result ≡ count_of image.now }

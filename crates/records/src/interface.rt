@@ -79,6 +79,7 @@ pub extern "C" fn ctc_verify(image: &[u8]) -> u32
 
 // The length of an image, 0 where no image has the count.
 #[unsafe(no_mangle)]
+#[tactic(auto, unfolding(crate::specs::Interface::image_length_within, common::specs::Pick::pick, crate::specs::Count::limit))]
 pub extern "C" fn ctc_image_length(count: usize, density: u8) -> usize
     ensures { result ≡ image_length_within count density }
 {
@@ -90,6 +91,7 @@ pub extern "C" fn ctc_image_length(count: usize, density: u8) -> usize
 
 // The number of its marks, 0 where no image has the count.
 #[unsafe(no_mangle)]
+#[tactic(auto, unfolding(crate::specs::Interface::mark_count_within, common::specs::Pick::pick, crate::specs::Count::limit))]
 pub extern "C" fn ctc_mark_count(count: usize, density: u8) -> usize
     ensures { result ≡ mark_count_within count density }
 {
@@ -101,6 +103,7 @@ pub extern "C" fn ctc_mark_count(count: usize, density: u8) -> usize
 
 // The count that an image says, and no count where two bytes are not there.
 #[unsafe(no_mangle)]
+#[tactic(auto, unfolding(crate::specs::Interface::image_count, common::specs::Pick::pick))]
 pub extern "C" fn ctc_image_count(image: &[u8]) -> usize
     ensures { result ≡ image_count image.now }
 {
@@ -111,6 +114,7 @@ pub extern "C" fn ctc_image_count(image: &[u8]) -> usize
 }
 
 // What the scan finds, as nine bytes.
+#[tactic(auto, unfolding(crate::specs::Interface::scan_report))]
 fn scan_report(marks: &[u8]) -> [u8; REPORT_LENGTH]
     ensures { result ≡ scan_report marks.now }
 {
@@ -130,6 +134,7 @@ fn scan_report(marks: &[u8]) -> [u8; REPORT_LENGTH]
 
 // The scan of the marks.
 #[unsafe(no_mangle)]
+#[tactic(auto, unfolding(crate::specs::Interface::scan_refusal, crate::specs::Interface::scan_into, common::specs::Pick::pick))]
 pub extern "C" fn ctc_scan(marks: &[u8], report: &mut [u8]) -> u32
     ensures answered { result ≡ scan_refusal (length report.old) }
     ensures written { report.new ≡ scan_into marks.now report.old }

@@ -5,6 +5,7 @@ ghost use Rattle.records.specs.Image.{blockette_count, has_blockettes, image_len
 use blockettes::BLOCKETTE_LENGTH;
 
 // The blockettes of data.
+#[tactic(auto, unfolding(crate::specs::Image::blockette_count))]
 pub fn blockette_count(count: u16) -> usize
     ensures { result ≡ blockette_count count }
 {
@@ -12,6 +13,7 @@ pub fn blockette_count(count: u16) -> usize
 }
 
 // Whether there are any: in GCR, where the count is not 0.
+#[tactic(auto, unfolding(crate::specs::Image::has_blockettes))]
 pub fn has_blockettes(count: u16, density: u8) -> bool
     ensures { result ≡ has_blockettes count density }
 {
@@ -19,6 +21,7 @@ pub fn has_blockettes(count: u16, density: u8) -> bool
 }
 
 // The length of an image.
+#[tactic(auto, unfolding(crate::specs::Image::image_length, common::specs::Pick::pick))]
 pub fn image_length(count: u16, density: u8) -> usize
     ensures { result ≡ image_length count density }
 {
@@ -30,6 +33,7 @@ pub fn image_length(count: u16, density: u8) -> usize
 }
 
 // The number of its marks.
+#[tactic(auto, unfolding(crate::specs::Image::mark_count, common::specs::Pick::pick))]
 pub fn mark_count(count: u16, density: u8) -> usize
     ensures { result ≡ mark_count count density }
 {

@@ -1,5 +1,7 @@
 // Records as they lie on tape: the layout of an image, the builder, the test of an image and its marks, that of its
 // check blockettes, and the restorer. It knows nothing of the controller.
+#![tactic(auto)]
+
 pub mod build;
 pub mod count;
 pub mod interface;

@@ -14,6 +14,7 @@ use common::refusals::{
 use passes::{clashes, put_merged_blockettes, put_merged_marks};
 
 // Of two passes that are whole: 13, 14 or 0.
+#[tactic(auto, unfolding(crate::specs::Merge::pair_refusal))]
 fn pair_refusal(first: &[u8], first_marks: &[u8], second: &[u8], second_marks: &[u8]) -> u32
     requires first_marks_value { pass_refusal (pass_of first.now first_marks.now) ≡ 0 }
     requires second_marks_value { pass_refusal (pass_of second.now second_marks.now) ≡ 0 }
@@ -30,6 +31,7 @@ fn pair_refusal(first: &[u8], first_marks: &[u8], second: &[u8], second_marks: &
 }
 
 // 11 or 0.
+#[tactic(auto, unfolding(common::specs::Pick::pick))]
 fn room_refusal(first: &[u8], first_marks: &[u8], image: usize, marks: usize) -> u32
     ensures { result ≡ room_refusal (pass_of first.now first_marks.now) image marks }
 {
@@ -40,6 +42,7 @@ fn room_refusal(first: &[u8], first_marks: &[u8], image: usize, marks: usize) ->
 }
 
 // 9, 10, 13, 14, 11 or 0, each over both passes before the next.
+#[tactic(auto, unfolding(crate::specs::Merge::merge_refusal, crate::specs::Merge::either_refused, common::specs::Pick::pick))]
 fn merge_refusal(
     first: &[u8],
     first_marks: &[u8],
@@ -70,6 +73,7 @@ fn merge_refusal(
 
 // The merged image and its marks, which fill their spaces. The first pass is copied whole, and the blockettes of the
 // second put over it.
+#[tactic(auto, unfolding(crate::specs::Merge::merged_image, passes::specs::Passes::merged_marks))]
 fn put_merged_image(
     first: &[u8],
     first_marks: &[u8],
@@ -95,6 +99,7 @@ fn put_merged_image(
 }
 
 // Two GCR images and their marks to one, at the start of their spaces.
+#[tactic(auto, unfolding(crate::specs::Merge::merge_image_into, crate::specs::Merge::merge_marks_into))]
 pub fn merge(
     first: &[u8],
     first_marks: &[u8],

@@ -6,6 +6,7 @@ ghost use Rattle.records.specs.Place.{is_place, as_came};
 pub const NO_PLACE: usize = 65791;
 
 // Whether it is in the bytes handed in, or none.
+#[tactic(auto, unfolding(crate::specs::Place::is_place))]
 pub fn is_place(handed: usize, place: usize) -> bool
     ensures { result ≡ is_place handed place }
 {
@@ -13,6 +14,7 @@ pub fn is_place(handed: usize, place: usize) -> bool
 }
 
 // How many of the bytes handed in are written as they came.
+#[tactic(auto, unfolding(crate::specs::Place::as_came, common::specs::Pick::pick))]
 pub fn as_came(handed: usize, place: usize) -> usize
     ensures counted { result ≡ as_came handed place }
     ensures bounded { result ≤ handed }

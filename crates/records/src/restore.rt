@@ -13,6 +13,7 @@ use common::{min, overwrite};
 use marks::scan_marks;
 
 // Restores the blockette at a place of the bytes of a record, from its n + 2 blockettes, where it is one of data.
+#[tactic(auto, unfolding(crate::specs::Restore::mend_at, common::specs::Pick::pick))]
 fn mend_at(blockettes: &[u8], n: usize, place: usize, bytes: &mut [u8])
     requires n_bound { n ≤ 256 }
     requires n_value { n ≡ blockette_count (length bytes.old) }
@@ -41,6 +42,7 @@ fn put_restored(blockettes: &[u8], n: usize, odd: usize, even: usize, space: &mu
 
 // Refused as a whole image is, for too little space, or for two bad blockettes of one parity; `stop` is where the scan
 // of the marks stopped.
+#[tactic(auto, unfolding(crate::specs::Restore::restore_refusal, common::specs::Pick::pick))]
 fn restore_refusal(image: &[u8], marks: &[u8], stop: usize, space: usize) -> u32
     requires { stop ≡ (scan_marks marks.now).stop }
     ensures { result ≡ restore_refusal image.now marks.now space }
@@ -60,6 +62,7 @@ fn restore_refusal(image: &[u8], marks: &[u8], stop: usize, space: usize) -> u32
 }
 
 // GCR image and marks to the bytes of the record, at the start of the space.
+#[tactic(auto, unfolding(crate::specs::Restore::restore_into))]
 pub fn restore(image: &[u8], marks: &[u8], space: &mut [u8]) -> u32
     ensures answered { result ≡ restore_refusal image.now marks.now
         (length space.old) }

@@ -15,6 +15,7 @@ const UNFIT_EVEN: u32 = 32;
 const UNFIT_ODD: u32 = 64;
 
 // Whether the check blockette of a parity is the XOR of its data, n blockettes with both check blockettes behind them.
+#[tactic(auto, unfolding(crate::specs::Verify::check_fits))]
 fn check_fits(blockettes: &[u8], n: usize, parity: usize) -> bool
     requires n_bound { n ≤ 256 }
     requires parity_bound { parity ≤ 1 }
@@ -29,6 +30,7 @@ fn check_fits(blockettes: &[u8], n: usize, parity: usize) -> bool
 }
 
 // Those that do not, of both parities.
+#[tactic(auto, unfolding(crate::specs::Verify::unfit_checks, common::specs::Pick::pick))]
 fn unfit_checks(blockettes: &[u8], n: usize) -> u32
     requires n_bound { n ≤ 256 }
     requires blockettes_len { length blockettes.now ≡ blockette_length * (n + 2) }
@@ -49,6 +51,7 @@ fn unfit_checks(blockettes: &[u8], n: usize) -> u32
 }
 
 // Refused for a wrong length, or which of the two parities do not fit.
+#[tactic(auto, unfolding(crate::specs::Verify::verify, common::specs::Pick::pick))]
 pub fn verify(image: &[u8]) -> u32
     ensures { result ≡ verify image.now }
 {

@@ -8,6 +8,7 @@ use common::refusals::{DONE, MARK_VALUE, WRONG_LENGTH};
 use marks::legal_marks;
 
 // An image with this count, and its marks: refused for a wrong length or a mark value.
+#[tactic(auto, unfolding(crate::specs::Whole::layout_refusal, common::specs::Pick::pick))]
 pub fn layout_refusal(image: &[u8], marks: &[u8], count: u16, density: u8) -> u32
     ensures { result ≡ layout_refusal image.now marks.now count density }
 {
@@ -27,6 +28,7 @@ pub fn layout_refusal(image: &[u8], marks: &[u8], count: u16, density: u8) -> u3
 }
 
 // A whole image, with the count that it says.
+#[tactic(auto, unfolding(crate::specs::Whole::whole_refusal, common::specs::Pick::pick))]
 pub fn whole_refusal(image: &[u8], marks: &[u8], density: u8) -> u32
     ensures { result ≡ whole_refusal image.now marks.now density }
 {

@@ -6,7 +6,7 @@ use mathlib.Core.Path.{◌≡◌, refl, sym, ap, ap₂, subst, ◌∙◌}
 use mathlib.Core.Bool.{true, not}
 use mathlib.Core.List.{List, []}
 use contract.Lifetimes.{Lfts}
-use denote.Ref.{MutBor, at_last}
+use denote.Ref.{Bor, MutBor, at_last}
 use Prim.Native.Nat.{ℕ, ◌≤◌}
 use native.Mathlib.Omega.{arith}
 use lib.ListN.{length, take}
@@ -56,7 +56,7 @@ use Rattle.records.proofs.interface.ctc_verify.Statement as verify-statement
 pub record BuildAllows (bytes : List ℕ) (density place : ℕ) (space : List ℕ) (refusal : ℕ)
     (after : List ℕ) : Type 0 where
   pub lifetimes : Lfts 2
-  pub bytes_slice : MutBor (List ℕ)
+  pub bytes_slice : Bor (List ℕ)
   pub space_slice : MutBor (List ℕ)
   pub holds_bytes : bytes_slice.now ≡ bytes
   pub holds_space : space_slice.now ≡ space
@@ -66,8 +66,8 @@ pub record BuildAllows (bytes : List ℕ) (density place : ℕ) (space : List �
 
 pub record RestoreAllows (image marks space : List ℕ) (refusal : ℕ) (after : List ℕ) : Type 0 where
   pub lifetimes : Lfts 3
-  pub image_slice : MutBor (List ℕ)
-  pub marks_slice : MutBor (List ℕ)
+  pub image_slice : Bor (List ℕ)
+  pub marks_slice : Bor (List ℕ)
   pub space_slice : MutBor (List ℕ)
   pub holds_image : image_slice.now ≡ image
   pub holds_marks : marks_slice.now ≡ marks
@@ -80,10 +80,10 @@ pub record RestoreAllows (image marks space : List ℕ) (refusal : ℕ) (after :
 pub record MergeAllows (first second : Pass) (image marks : List ℕ) (refusal : ℕ)
     (image_after marks_after : List ℕ) : Type 0 where
   pub lifetimes : Lfts 6
-  pub first_slice : MutBor (List ℕ)
-  pub first_marks_slice : MutBor (List ℕ)
-  pub second_slice : MutBor (List ℕ)
-  pub second_marks_slice : MutBor (List ℕ)
+  pub first_slice : Bor (List ℕ)
+  pub first_marks_slice : Bor (List ℕ)
+  pub second_slice : Bor (List ℕ)
+  pub second_marks_slice : Bor (List ℕ)
   pub image_slice : MutBor (List ℕ)
   pub marks_slice : MutBor (List ℕ)
   pub holds_first : pass_of first_slice.now first_marks_slice.now ≡ first
@@ -97,13 +97,16 @@ pub record MergeAllows (first second : Pass) (image marks : List ℕ) (refusal :
         first_slice,
         (
           first_marks_slice,
-          (second_slice, (second_marks_slice, (at_last image_slice image_after, (at_last marks_slice marks_after, tt)))),
+          (
+            second_slice,
+            (second_marks_slice, (at_last image_slice image_after, (at_last marks_slice marks_after, tt))),
+          ),
         ),
       )
 
 pub record ScanAllows (marks space : List ℕ) (refusal : ℕ) (after : List ℕ) : Type 0 where
   pub lifetimes : Lfts 2
-  pub marks_slice : MutBor (List ℕ)
+  pub marks_slice : Bor (List ℕ)
   pub space_slice : MutBor (List ℕ)
   pub holds_marks : marks_slice.now ≡ marks
   pub holds_space : space_slice.now ≡ space
@@ -119,13 +122,13 @@ MarksAllows count density told = marks-reads.Post tt (count, (density, tt)) told
 
 pub record CountAllows (image : List ℕ) (told : ℕ) : Type 0 where
   pub lifetimes : Lfts 1
-  pub image_slice : MutBor (List ℕ)
+  pub image_slice : Bor (List ℕ)
   pub holds_image : image_slice.now ≡ image
   pub promise : count-reads.Post lifetimes (image_slice, tt) told (image_slice, tt)
 
 pub record VerifyAllows (image : List ℕ) (told : ℕ) : Type 0 where
   pub lifetimes : Lfts 1
-  pub image_slice : MutBor (List ℕ)
+  pub image_slice : Bor (List ℕ)
   pub holds_image : image_slice.now ≡ image
   pub promise : verify-reads.Post lifetimes (image_slice, tt) told (image_slice, tt)
 
@@ -198,6 +201,9 @@ pub verifies_are_defined : (image : List ℕ) (told : ℕ) → VerifyAllows imag
 verifies_are_defined image told allowed = allowed.promise ∙ ap verify allowed.holds_image
 
 -- and that answer is allowed
+abbrev shown : List ℕ → Bor (List ℕ)
+shown bytes = record { ref_ptr = (0, 0); now = bytes }
+
 abbrev somewhere : List ℕ → MutBor (List ℕ)
 somewhere bytes = record { ref_ptr = (0, 0); ghost_name = 0; now = bytes }
 
@@ -207,7 +213,7 @@ pub builds_are_allowed : (bytes : List ℕ) (density place : ℕ) (space : List 
 builds_are_allowed bytes density place space =
     record {
       lifetimes = ([], ([], tt));
-      bytes_slice = somewhere bytes;
+      bytes_slice = shown bytes;
       space_slice = somewhere space;
       holds_bytes = refl;
       holds_space = refl;
@@ -219,8 +225,8 @@ pub restores_are_allowed : (image marks space : List ℕ)
 restores_are_allowed image marks space =
     record {
       lifetimes = ([], ([], ([], tt)));
-      image_slice = somewhere image;
-      marks_slice = somewhere marks;
+      image_slice = shown image;
+      marks_slice = shown marks;
       space_slice = somewhere space;
       holds_image = refl;
       holds_marks = refl;
@@ -235,10 +241,10 @@ pub merges_are_allowed : (first second : Pass) (image marks : List ℕ)
 merges_are_allowed first second image marks =
     record {
       lifetimes = ([], ([], ([], ([], ([], ([], tt))))));
-      first_slice = somewhere first.image;
-      first_marks_slice = somewhere first.marks;
-      second_slice = somewhere second.image;
-      second_marks_slice = somewhere second.marks;
+      first_slice = shown first.image;
+      first_marks_slice = shown first.marks;
+      second_slice = shown second.image;
+      second_marks_slice = shown second.marks;
       image_slice = somewhere image;
       marks_slice = somewhere marks;
       holds_first = refl;
@@ -250,7 +256,7 @@ merges_are_allowed first second image marks =
 
 pub verifies_are_allowed : (image : List ℕ) → VerifyAllows image (verify image)
 verifies_are_allowed image =
-    record { lifetimes = ([], tt); image_slice = somewhere image; holds_image = refl; promise = refl }
+    record { lifetimes = ([], tt); image_slice = shown image; holds_image = refl; promise = refl }
 
 -- ---- the builder's answer 0
 
