@@ -40,6 +40,7 @@ pub fn note_report(mut b: Body, number: u8, report: u8) -> Body
 }
 
 // Changed is set if a report differs from its copy; all four are copied.
+#[tactic(auto, unfolding(crate::specs::State::review))]
 pub fn review(mut b: Body) -> Body
     ensures { result ≡ review b }
 {
@@ -52,6 +53,7 @@ pub fn review(mut b: Body) -> Body
 }
 
 // The start, with these drives.
+#[tactic(auto, unfolding(crate::specs::State::start_body))]
 pub fn start_body(drives: Drives) -> Body
     ensures { result ≡ start_body drives }
 {
@@ -69,6 +71,7 @@ pub fn start_body(drives: Drives) -> Body
 }
 
 // Reset, then collecting.
+#[tactic(auto, unfolding(crate::specs::State::reset_state))]
 pub fn reset_state(b: Body) -> Transition
     ensures { result ≡ reset_state b }
 {
@@ -103,6 +106,7 @@ pub fn keep_collecting(b: Body, s: Collected) -> Transition
 }
 
 // Review, then collecting, with nothing collected.
+#[tactic(auto, unfolding(crate::specs::State::idle))]
 pub fn idle(b: Body, action: Action) -> Transition
     ensures { result ≡ idle b action }
 {

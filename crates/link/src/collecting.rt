@@ -1,7 +1,8 @@
 // Collecting: the bytes of a string from the host, and a tick while nothing is collected.
 ghost use Rattle.std.specs.Prelude.{◌≡◌, ◌<◌};
 ghost use Rattle.link.specs.Bytes.{store_length};
-ghost use Rattle.link.specs.Link.{whole_length, append_byte, load_xor, is_good_string, first_byte, last_byte, next_byte};
+ghost use Rattle.link.specs.Link.{whole_length, append_byte, load_xor, is_good_string, first_byte, last_byte};
+ghost use Rattle.link.specs.Link.{next_byte};
 ghost use Rattle.link.specs.Link.{collect_byte, tick_after_review, idle_tick};
 
 use crate::body::{idle, keep_collecting, keep_phase, review};
@@ -10,6 +11,7 @@ use crate::completion::{primary_now, send_word};
 use crate::state::{Action, Body, Collected, Handed, Kind, Phase, Transition, nothing_collected};
 
 // How many bytes a string with this lead has.
+#[tactic(auto, unfolding(crate::specs::Link::whole_length, common::specs::Pick::pick))]
 pub fn whole_length(lead: u8) -> u8
     ensures { result ≡ whole_length lead }
 {
@@ -18,6 +20,7 @@ pub fn whole_length(lead: u8) -> u8
 }
 
 // A string with one byte more.
+#[tactic(auto, unfolding(crate::specs::Link::append_byte, common::specs::Pick::pick))]
 fn append_byte(mut s: Collected, byte: u8) -> Collected
     requires { s.length < store_length }
     ensures { result ≡ append_byte s byte }
@@ -38,6 +41,7 @@ fn append_byte(mut s: Collected, byte: u8) -> Collected
 }
 
 // The XOR of a load's bytes.
+#[tactic(auto, unfolding(crate::specs::Link::load_xor))]
 fn load_xor(s: Collected) -> u8
     ensures { result ≡ load_xor s }
 {
@@ -45,6 +49,7 @@ fn load_xor(s: Collected) -> u8
 }
 
 // Whether a whole string is good: all its bytes XOR to 0.
+#[tactic(auto, unfolding(crate::specs::Link::is_good_string, common::specs::Pick::pick))]
 fn is_good_string(s: Collected) -> bool
     ensures { result ≡ is_good_string s }
 {
@@ -57,6 +62,7 @@ fn is_good_string(s: Collected) -> bool
 }
 
 // The first byte of a string, or one that begins none.
+#[tactic(auto, unfolding(crate::specs::Link::first_byte, common::specs::Pick::pick))]
 fn first_byte(b: Body, s: Collected, byte: u8) -> Transition
     ensures { result ≡ first_byte b s byte }
 {
@@ -72,6 +78,7 @@ fn first_byte(b: Body, s: Collected, byte: u8) -> Transition
 }
 
 // A whole string: ACK is offered, or NACK answers.
+#[tactic(auto, unfolding(crate::specs::Link::last_byte, common::specs::Pick::pick))]
 fn last_byte(b: Body, s: Collected) -> Transition
     ensures { result ≡ last_byte b s }
 {
@@ -88,6 +95,7 @@ fn last_byte(b: Body, s: Collected) -> Transition
 }
 
 // A further byte of a string.
+#[tactic(auto, unfolding(crate::specs::Link::next_byte, common::specs::Pick::pick))]
 fn next_byte(b: Body, s: Collected, byte: u8) -> Transition
     requires { s.length < store_length }
     ensures { result ≡ next_byte b s byte }
@@ -102,6 +110,7 @@ fn next_byte(b: Body, s: Collected, byte: u8) -> Transition
 }
 
 // A byte while collecting: the first of a string, or a further one.
+#[tactic(auto, unfolding(crate::specs::Link::collect_byte, common::specs::Pick::pick))]
 pub fn collect_byte(b: Body, s: Collected, byte: u8) -> Transition
     requires { s.length < store_length }
     ensures { result ≡ collect_byte b s byte }
@@ -114,6 +123,7 @@ pub fn collect_byte(b: Body, s: Collected, byte: u8) -> Transition
 }
 
 // A tick while nothing is collected, after the review.
+#[tactic(auto, unfolding(crate::specs::Link::tick_after_review, common::specs::Pick::pick))]
 fn tick_after_review(b: Body, phase: Phase) -> Transition
     ensures { result ≡ tick_after_review b phase }
 {
@@ -127,6 +137,7 @@ fn tick_after_review(b: Body, phase: Phase) -> Transition
 }
 
 // A tick while nothing is collected.
+#[tactic(auto, unfolding(crate::specs::Link::idle_tick))]
 pub fn idle_tick(b: Body, phase: Phase) -> Transition
     ensures { result ≡ idle_tick b phase }
 {

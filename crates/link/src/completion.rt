@@ -10,6 +10,7 @@ use status::drives::drive_of;
 use status::words::{Word, primary_of, secondary_word};
 
 // Primary as the state stands.
+#[tactic(auto, unfolding(crate::specs::Completion::primary_now))]
 pub fn primary_now(b: Body) -> Word
     ensures { result ≡ primary_now b }
 {
@@ -19,6 +20,7 @@ pub fn primary_now(b: Body) -> Word
 }
 
 // A status word is sent.
+#[tactic(auto, unfolding(crate::specs::Completion::send_word))]
 pub fn send_word(b: Body, kind: Kind, lead: u8, word: Word) -> Transition
     ensures { result ≡ send_word b kind lead word }
 {
@@ -37,6 +39,7 @@ pub fn send_word(b: Body, kind: Kind, lead: u8, word: Word) -> Transition
 }
 
 // The interrupt that ends a store: secondary goes first where it is valid, else primary at once.
+#[tactic(auto, unfolding(crate::specs::Completion::send_interrupt, common::specs::Pick::pick))]
 fn send_interrupt(b: Body) -> Transition
     ensures { result ≡ send_interrupt b }
 {
@@ -50,6 +53,7 @@ fn send_interrupt(b: Body) -> Transition
 }
 
 // The end of a store.
+#[tactic(auto, unfolding(crate::specs::Completion::complete, common::specs::Pick::pick))]
 pub fn complete(b: Body, asked: bool) -> Transition
     ensures { result ≡ complete b asked }
 {

@@ -9,18 +9,21 @@ use crate::state::{Body, Collected, Phase};
 use status::drives::{Drive, Drives, GAP_LOST, GCR, LAST_DRIVE, LAST_TRACK};
 use status::words::{COUNT_LIMIT, LAST_CODE, LAST_MOTION};
 
+#[tactic(auto, unfolding(crate::specs::Damaged::sound_drive))]
 fn sound_drive(d: Drive) -> bool
     ensures { result ≡ sound_drive d }
 {
     (d.track <= LAST_TRACK) & ((d.gap <= GAP_LOST) & (d.density <= GCR))
 }
 
+#[tactic(auto, unfolding(crate::specs::Damaged::sound_drives))]
 fn sound_drives(d: Drives) -> bool
     ensures { result ≡ sound_drives d }
 {
     sound_drive(d.d0) & (sound_drive(d.d1) & (sound_drive(d.d2) & sound_drive(d.d3)))
 }
 
+#[tactic(auto, unfolding(crate::specs::Damaged::sound_body))]
 fn sound_body(b: Body) -> bool
     ensures { result ≡ sound_body b }
 {
@@ -31,6 +34,7 @@ fn sound_body(b: Body) -> bool
 }
 
 // A string begins with the lead of a load or of a store.
+#[tactic(auto, unfolding(crate::specs::Damaged::sound_lead))]
 fn sound_lead(s: Collected) -> bool
     ensures { result ≡ sound_lead s }
 {
@@ -38,6 +42,7 @@ fn sound_lead(s: Collected) -> bool
 }
 
 // A string that is being collected.
+#[tactic(auto, unfolding(crate::specs::Damaged::sound_part))]
 fn sound_part(s: Collected) -> bool
     ensures { result ≡ sound_part s }
 {
@@ -45,12 +50,14 @@ fn sound_part(s: Collected) -> bool
 }
 
 // A whole string.
+#[tactic(auto, unfolding(crate::specs::Damaged::sound_string))]
 fn sound_string(s: Collected) -> bool
     ensures { result ≡ sound_string s }
 {
     sound_lead(s) & (s.length == whole_length(s.c0))
 }
 
+#[tactic(auto, unfolding(crate::specs::Damaged::sound_phase))]
 fn sound_phase(phase: Phase) -> bool
     ensures { result ≡ sound_phase phase }
 {
@@ -63,6 +70,7 @@ fn sound_phase(phase: Phase) -> bool
 }
 
 // Whether no field is out of range.
+#[tactic(auto, unfolding(crate::specs::Damaged::is_sound))]
 pub fn is_sound(b: Body, phase: Phase) -> bool
     ensures { result ≡ is_sound b phase }
 {

@@ -4,7 +4,7 @@ ghost use Rattle.link.specs.Frames.{string_of, order_of};
 
 use status::words::Word;
 
-#[derive(Drop)]
+#[derive(Clone, Copy)]
 pub struct Frame {
     pub b0: u8,
     pub b1: u8,
@@ -15,6 +15,7 @@ pub struct Frame {
 }
 
 // A lead, a status word and the check byte that makes the XOR of all six 0.
+#[tactic(auto, unfolding(crate::specs::Frames::string_of))]
 pub fn string_of(lead: u8, word: Word) -> Frame
     ensures { result ≡ string_of lead word }
 {
@@ -29,6 +30,7 @@ pub fn string_of(lead: u8, word: Word) -> Frame
 }
 
 // A motion order.
+#[tactic(auto, unfolding(crate::specs::Frames::order_of))]
 pub fn order_of(operation: u8, drive: u8, track: u8, density: u8, third: u8, fourth: u8) -> Frame
     ensures { result ≡ order_of operation drive track density third fourth }
 {

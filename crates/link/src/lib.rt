@@ -3,6 +3,8 @@
 //
 // A body that goes to a call which is not inlined goes as a copy, `held`: by its address the body itself would have to
 // lie in memory, on every path.
+#![tactic(auto)]
+
 pub mod body;
 pub mod bytes;
 pub mod collecting;

@@ -9,6 +9,7 @@ use crate::state::{Action, Body, Kind, Transition};
 use status::words::{Word, reports_word, secondary_word};
 
 // By the operation, address bits 1-3; 6 and 7 are not asked.
+#[tactic(auto, unfolding(crate::specs::Loads::load_word, common::specs::Pick::pick))]
 fn load_word(b: Body, operation: u8) -> Word
     ensures { result ≡ load_word b operation }
 {
@@ -26,6 +27,7 @@ fn load_word(b: Body, operation: u8) -> Word
 }
 
 // A load is carried out: its word is sent, or there is no reply.
+#[tactic(auto, unfolding(crate::specs::Loads::carry_out_load, common::specs::Pick::pick))]
 pub fn carry_out_load(b: Body, address: u8) -> Transition
     ensures { result ≡ carry_out_load b address }
 {

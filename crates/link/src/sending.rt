@@ -9,6 +9,7 @@ use crate::completion::{primary_now, send_word};
 use crate::state::{Action, Body, Handed, Kind, Phase, Send, Transition};
 
 // A sent string is accepted.
+#[tactic(auto, unfolding(crate::specs::Link::yes_to_send))]
 fn yes_to_send(b: Body, kind: Kind) -> Transition
     ensures { result ≡ yes_to_send b kind }
 {
@@ -24,6 +25,7 @@ fn yes_to_send(b: Body, kind: Kind) -> Transition
 }
 
 // A send is given up: changed stays, and the interrupt of a change clears enable.
+#[tactic(auto, unfolding(crate::specs::Link::give_up))]
 pub fn give_up(b: Body, kind: Kind) -> Transition
     ensures { result ≡ give_up b kind }
 {
@@ -36,6 +38,7 @@ pub fn give_up(b: Body, kind: Kind) -> Transition
 }
 
 // A sent string is answered by a no: the same bytes go again, or the send is given up after the fifth.
+#[tactic(auto, unfolding(crate::specs::Link::no_to_send, common::specs::Pick::pick))]
 fn no_to_send(b: Body, send: Send) -> Transition
     requires { send.noes ≤ most_noes }
     ensures { result ≡ no_to_send b send }
@@ -60,6 +63,7 @@ fn no_to_send(b: Body, send: Send) -> Transition
 }
 
 // A byte that answers a sent string.
+#[tactic(auto, unfolding(crate::specs::Link::answer_to_send, common::specs::Pick::pick))]
 pub fn answer_to_send(b: Body, byte: u8, send: Send) -> Transition
     requires { send.noes ≤ most_noes }
     ensures { result ≡ answer_to_send b byte send }

@@ -9,7 +9,7 @@ use status::drives::Drives;
 use status::words::{Outcome, ResultRecord, Word};
 
 // A string from the host as far as it has come: how many bytes, and the bytes.
-#[derive(Drop)]
+#[derive(Clone, Copy)]
 pub struct Collected {
     pub length: u8,
     pub c0: u8,
@@ -40,6 +40,7 @@ pub fn nothing_collected() -> Collected
 }
 
 // The store that a whole string is: its address and its operand.
+#[tactic(auto, unfolding(crate::specs::State::store_of))]
 pub fn store_of(s: Collected) -> Store
     ensures { result ≡ store_of s }
 {
@@ -54,7 +55,7 @@ pub fn store_of(s: Collected) -> Store
 
 // What is sent: a load's reply, the secondary update before an interrupt, the interrupt that ends a store, or the
 // interrupt of a drive that changed.
-#[derive(Drop)]
+#[derive(Clone, Copy)]
 pub enum Kind {
     Load,
     Secondary,
@@ -63,7 +64,7 @@ pub enum Kind {
 }
 
 // A string on its way to the host. The bytes are kept, since they go again after a no.
-#[derive(Drop)]
+#[derive(Clone, Copy)]
 pub struct Send {
     pub kind: Kind,
     pub bytes: Frame,
@@ -71,7 +72,7 @@ pub struct Send {
 }
 
 // What the controller waits for, with what is in hand.
-#[derive(Drop)]
+#[derive(Clone, Copy)]
 pub enum Phase {
     // the next byte of a string, with those that have come
     Collecting(Collected),
@@ -90,7 +91,7 @@ pub enum Phase {
 }
 
 // All but the phase.
-#[derive(Drop)]
+#[derive(Clone, Copy)]
 pub struct Body {
     pub drives: Drives,
     pub selected: u8,
@@ -102,7 +103,7 @@ pub struct Body {
 }
 
 // What a step has the controller do: nothing, offer a byte, send a string, or order a motion.
-#[derive(Drop)]
+#[derive(Clone, Copy)]
 pub enum Action {
     Nothing,
     Byte(u8),
@@ -111,7 +112,7 @@ pub enum Action {
 }
 
 // What a step hands back of a store: nothing, or the record of one whose code it settled.
-#[derive(Drop)]
+#[derive(Clone, Copy)]
 pub enum Handed {
     NoneHanded,
     OneHanded(ResultRecord),
@@ -119,7 +120,7 @@ pub enum Handed {
 
 // What a step that is carried out leaves: the body, the phase, what it has the controller do, and what it hands back of
 // a store.
-#[derive(Drop)]
+#[derive(Clone, Copy)]
 pub struct Transition {
     pub body: Body,
     pub phase: Phase,

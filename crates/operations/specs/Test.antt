@@ -30,7 +30,8 @@ is_guarded guard gap report = guard && not (eqb gap gap_proper || reports report
 
 -- "write, write mark and erase need not protected", and no guard against it
 abbrev pub is_writable : ℕ → Bool → ℕ → Bool
-is_writable report guard gap = (is_ahead_free report && not (reports report protected)) && not (is_guarded guard gap report)
+is_writable report guard gap = (is_ahead_free report && not (reports report protected))
+    && not (is_guarded guard gap report)
 
 -- by the drive's report, its guard and its gap; "check bytes have no test"
 unfoldable pub may_move : Motion → ℕ → Bool → ℕ → Bool

@@ -13,6 +13,7 @@ use status::words::{Outcome, ResultRecord};
 const LOST: u8 = 3;
 
 // The codes that leave it so.
+#[tactic(auto, unfolding(crate::specs::After::loses_tape))]
 fn loses_tape(code: u8) -> bool
     ensures { result ≡ loses_tape code }
 {
@@ -36,6 +37,7 @@ fn usual_motion(movement: Motion) -> u8
 }
 
 // The motion by the final code.
+#[tactic(auto, unfolding(crate::specs::After::motion_of, common::specs::Pick::pick))]
 pub fn motion_of(movement: Motion, code: u8) -> u8
     ensures { result ≡ motion_of movement code }
 {
@@ -47,6 +49,7 @@ pub fn motion_of(movement: Motion, code: u8) -> u8
 }
 
 // The gap after a move that was made and lost nothing.
+#[tactic(auto, unfolding(crate::specs::After::gap_of, common::specs::Pick::pick))]
 fn gap_of(movement: Motion, code: u8) -> u8
     ensures { result ≡ gap_of movement code }
 {
@@ -63,6 +66,7 @@ fn gap_of(movement: Motion, code: u8) -> u8
 }
 
 // The gap by the final code, from the gap before.
+#[tactic(auto, unfolding(crate::specs::After::gap_after, common::specs::Pick::pick))]
 pub fn gap_after(movement: Motion, code: u8, gap: u8) -> u8
     ensures { result ≡ gap_after movement code gap }
 {
@@ -77,6 +81,7 @@ pub fn gap_after(movement: Motion, code: u8, gap: u8) -> u8
 }
 
 // Of a code that no result reports, whether it asks a retry: all but 15 where only check blockettes are bad.
+#[tactic(auto, unfolding(crate::specs::After::own_retry))]
 fn own_retry(code: u8, checks_alone: bool) -> bool
     ensures { result ≡ own_retry code checks_alone }
 {
@@ -84,6 +89,7 @@ fn own_retry(code: u8, checks_alone: bool) -> bool
 }
 
 // Of a final code, whether it asks a retry: one that a result reports by its entry in the table.
+#[tactic(auto, unfolding(crate::specs::After::code_retry, common::specs::Pick::pick))]
 fn code_retry(operation: Operation, code: u8, checks_alone: bool) -> bool
     ensures { result ≡ code_retry operation code checks_alone }
 {
@@ -95,6 +101,7 @@ fn code_retry(operation: Operation, code: u8, checks_alone: bool) -> bool
 }
 
 // Bit 2, by the final code and whether any of bits 16-20 is set that counts.
+#[tactic(auto, unfolding(crate::specs::After::retry_of))]
 pub fn retry_of(operation: Operation, code: u8, checks_alone: bool, any_bit: bool) -> bool
     ensures { result ≡ retry_of operation code checks_alone any_bit }
 {

@@ -11,7 +11,7 @@ use status::drives::{Drive, with_density, with_guard, with_track};
 
 // The controller is reset, a code ends the store, enable is cleared or set, the drive has another record, or an
 // operation begins.
-#[derive(Drop)]
+#[derive(Clone, Copy)]
 pub enum Course {
     Reset,
     End(u8),
@@ -21,6 +21,7 @@ pub enum Course {
 }
 
 // An operation begins where the drive may carry it out.
+#[tactic(auto, unfolding(crate::specs::Course::test_of, common::specs::Pick::pick))]
 fn test_of(drive: Drive, operation: Operation) -> Course
     ensures { result ≡ test_of drive operation }
 {
@@ -31,6 +32,7 @@ fn test_of(drive: Drive, operation: Operation) -> Course
 }
 
 // By what is asked for.
+#[tactic(auto, unfolding(crate::specs::Course::course_of))]
 pub fn course_of(drive: Drive, asked: Decoded) -> Course
     ensures { result ≡ course_of drive asked }
 {

@@ -7,7 +7,7 @@ use crate::operation::{Operation, supplies_count};
 use status::drives::MFM;
 
 // A reset, a code that ends the store, a setting of the selected drive or of the controller, or an operation.
-#[derive(Drop)]
+#[derive(Clone, Copy)]
 pub enum Decoded {
     Reset,
     Code(u8),
@@ -19,6 +19,7 @@ pub enum Decoded {
 }
 
 // By the control value.
+#[tactic(auto, unfolding(crate::specs::Decode::control_of, common::specs::Pick::pick))]
 fn control_of(value: u8) -> Decoded
     ensures { result ≡ control_of value }
 {
@@ -43,6 +44,7 @@ fn control_of(value: u8) -> Decoded
 }
 
 // A store to operation 4, by its first operand byte.
+#[tactic(auto, unfolding(crate::specs::Decode::read_of, common::specs::Pick::pick))]
 fn read_of(first: u8) -> Decoded
     ensures { result ≡ read_of first }
 {
@@ -55,6 +57,7 @@ fn read_of(first: u8) -> Decoded
 }
 
 // By the operation, address bits 1-3, and the operand's first and last byte.
+#[tactic(auto, unfolding(crate::specs::Decode::decode_of, common::specs::Pick::pick))]
 pub fn decode_of(operation: u8, first: u8, last: u8) -> Decoded
     ensures { result ≡ decode_of operation first last }
 {
@@ -69,6 +72,7 @@ pub fn decode_of(operation: u8, first: u8, last: u8) -> Decoded
 }
 
 // The same for a drive of this density: a supplied count needs GCR.
+#[tactic(auto, unfolding(crate::specs::Decode::in_density, common::specs::Pick::pick))]
 pub fn in_density(density: u8, asked: Decoded) -> Decoded
     ensures { result ≡ in_density density asked }
 {

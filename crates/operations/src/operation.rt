@@ -4,7 +4,7 @@ ghost use Rattle.operations.specs.Operation.{row_of, number_of, same_operation, 
 ghost use Rattle.operations.specs.Operation.{offers_end, moves_tape, supplies_count, is_read, brings_record, is_skip};
 ghost use Rattle.operations.specs.Operation.{is_search, takes_mark};
 
-#[derive(Drop)]
+#[derive(Clone, Copy)]
 pub enum Operation {
     Read,
     CheckBytes,
@@ -21,7 +21,7 @@ pub enum Operation {
 }
 
 // How an operation moves tape.
-#[derive(Drop)]
+#[derive(Clone, Copy)]
 pub enum Motion {
     Still,
     Forward,
@@ -34,7 +34,7 @@ pub enum Motion {
 
 // What counts of an operation in more than one rule: its number, the first byte of its motion order, how it moves tape,
 // whether secondary is set to 0 past the test, and whether EOR is offered at its end.
-#[derive(Drop)]
+#[derive(Clone, Copy)]
 pub struct Row(pub usize, pub u8, pub Motion, pub bool, pub bool);
 
 // A row for each operation. Check bytes give no order, and 0 stands there.
@@ -100,6 +100,7 @@ pub fn offers_end(operation: Operation) -> bool
 }
 
 // Whether tape moves at all.
+#[tactic(auto, unfolding(crate::specs::Operation::moves_tape))]
 pub fn moves_tape(movement: Motion) -> bool
     ensures { result ≡ moves_tape movement }
 {
@@ -131,6 +132,7 @@ pub fn brings_record(operation: Operation) -> bool
 }
 
 // A skip, forward or reverse.
+#[tactic(auto, unfolding(crate::specs::Operation::is_skip))]
 pub fn is_skip(operation: Operation) -> bool
     ensures { result ≡ is_skip operation }
 {
@@ -139,6 +141,7 @@ pub fn is_skip(operation: Operation) -> bool
 }
 
 // A search for a mark.
+#[tactic(auto, unfolding(crate::specs::Operation::is_search))]
 pub fn is_search(operation: Operation) -> bool
     ensures { result ≡ is_search operation }
 {
@@ -147,6 +150,7 @@ pub fn is_search(operation: Operation) -> bool
 }
 
 // Whether the mark flag may be set: in a read, skip or search, but with no supplied count.
+#[tactic(auto, unfolding(crate::specs::Operation::takes_mark))]
 pub fn takes_mark(operation: Operation) -> bool
     ensures { result ≡ takes_mark operation }
 {

@@ -10,7 +10,7 @@ use crate::operation::{Operation, supplies_count};
 pub const DRIVES: u8 = 4;
 
 // Its address and its four operand bytes.
-#[derive(Drop)]
+#[derive(Clone, Copy)]
 pub struct Store {
     pub address: u8,
     pub first: u8,
@@ -20,6 +20,7 @@ pub struct Store {
 }
 
 // Whether it asks an interrupt.
+#[tactic(auto, unfolding(crate::specs::Store::asks_interrupt))]
 pub fn asks_interrupt(store: Store) -> bool
     ensures { result ≡ asks_interrupt store }
 {
@@ -27,6 +28,7 @@ pub fn asks_interrupt(store: Store) -> bool
 }
 
 // Whether it names a drive.
+#[tactic(auto, unfolding(crate::specs::Store::names_drive))]
 pub fn names_drive(store: Store) -> bool
     ensures { result ≡ names_drive store }
 {
@@ -34,6 +36,7 @@ pub fn names_drive(store: Store) -> bool
 }
 
 // The drive that it names.
+#[tactic(auto, unfolding(crate::specs::Store::named_drive))]
 pub fn named_drive(store: Store) -> u8
     ensures { result ≡ named_drive store }
 {
@@ -41,6 +44,7 @@ pub fn named_drive(store: Store) -> u8
 }
 
 // Whether it names a drive above 3.
+#[tactic(auto, unfolding(crate::specs::Store::names_unknown))]
 pub fn names_unknown(store: Store) -> bool
     ensures { result ≡ names_unknown store }
 {
@@ -48,6 +52,7 @@ pub fn names_unknown(store: Store) -> bool
 }
 
 // The drive that it is for: the one that it names, or the one selected before.
+#[tactic(auto, unfolding(crate::specs::Store::selected_by, common::specs::Pick::pick))]
 pub fn selected_by(store: Store, selected: u8) -> u8
     ensures { result ≡ selected_by store selected }
 {
@@ -56,6 +61,7 @@ pub fn selected_by(store: Store, selected: u8) -> u8
 }
 
 // What it asks for.
+#[tactic(auto, unfolding(crate::specs::Store::asked_for))]
 pub fn asked_for(store: Store) -> Decoded
     ensures { result ≡ asked_for store }
 {
@@ -70,6 +76,7 @@ pub fn asked_in(store: Store, density: u8) -> Decoded
 }
 
 // The count of a write, or the supplied one.
+#[tactic(auto, unfolding(crate::specs::Store::held_count))]
 pub fn held_count(store: Store) -> u16
     ensures { result ≡ held_count store }
 {
@@ -77,6 +84,7 @@ pub fn held_count(store: Store) -> u16
 }
 
 // The count that is supplied for an operation, 0 where none is.
+#[tactic(auto, unfolding(crate::specs::Store::supplied_count, common::specs::Pick::pick))]
 pub fn supplied_count(operation: Operation, store: Store) -> u16
     ensures { result ≡ supplied_count operation store }
 {

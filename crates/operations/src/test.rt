@@ -52,6 +52,7 @@ fn is_writable(drive: Drive) -> bool
 }
 
 // Whether the tape of this drive may move so.
+#[tactic(auto, unfolding(crate::specs::Test::may_move))]
 pub fn may_move(movement: Motion, drive: Drive) -> bool
     ensures { result ≡ may_move movement drive.report drive.guard drive.gap }
 {

@@ -39,7 +39,8 @@ module _ (drives : Drives) (drive : Drive) where
       n hn m hm
 
 -- a review leaves each drive as it was, with its report copied
-pub reviewed_drive : (drives : Drives) (n : ℕ) → n ≤ 3 → drive_of (copy_reports drives) n ≡ copy_report (drive_of drives n)
+pub reviewed_drive : (drives : Drives) (n : ℕ)
+    → n ≤ 3 → drive_of (copy_reports drives) n ≡ copy_report (drive_of drives n)
 unfolding drive_of copy_reports pick
 reviewed_drive drives =
     by_four (λ n. drive_of (copy_reports drives) n ≡ copy_report (drive_of drives n)) refl refl refl refl

@@ -178,7 +178,8 @@ copy_reports drives =
 -- "track 0, density 0 (MFM; 1 is GCR), gap 3", with a report that is copied as reviewed; of the guard, "it starts
 -- clear, and a reset clears it"
 abbrev pub fresh_with : ℕ → Drive
-fresh_with report = record { report = report; reviewed = report; track = 0; density = mfm; gap = gap_lost; guard = false }
+fresh_with report =
+    record { report = report; reviewed = report; track = 0; density = mfm; gap = gap_lost; guard = false }
 
 -- "Fresh: report 4 and reviewed copy 4 for each"
 unfoldable pub fresh_drives : Drives

@@ -44,7 +44,7 @@ pub const GCR: u8 = 1;
 
 // A drive's report, the copy that the last review took of it, its track (0-3), density and gap, and whether writing out
 // of a bad gap is guarded against.
-#[derive(Drop)]
+#[derive(Clone, Copy)]
 pub struct Drive {
     pub report: u8,
     pub reviewed: u8,
@@ -54,7 +54,7 @@ pub struct Drive {
     pub guard: bool,
 }
 
-#[derive(Drop)]
+#[derive(Clone, Copy)]
 pub struct Drives {
     pub d0: Drive,
     pub d1: Drive,
@@ -63,6 +63,7 @@ pub struct Drives {
 }
 
 // Whether a report has this bit.
+#[tactic(auto, unfolding(crate::specs::Drives::reports))]
 pub fn reports(report: u8, bit: u8) -> bool
     requires { 1 ≤ bit }
     ensures { result ≡ reports report bit }
@@ -71,6 +72,7 @@ pub fn reports(report: u8, bit: u8) -> bool
 }
 
 // The record of a drive; any number above 2 is drive 3.
+#[tactic(auto, unfolding(crate::specs::Drives::drive_of, common::specs::Pick::pick))]
 pub fn drive_of(drives: Drives, number: u8) -> Drive
     ensures { result ≡ drive_of drives number }
 {
@@ -83,6 +85,7 @@ pub fn drive_of(drives: Drives, number: u8) -> Drive
 }
 
 // The drives with another record for one of them.
+#[tactic(auto, unfolding(crate::specs::Drives::with_drive, common::specs::Pick::pick))]
 pub fn with_drive(mut drives: Drives, number: u8, drive: Drive) -> Drives
     ensures { result ≡ with_drive drives number drive }
 {
@@ -104,6 +107,7 @@ pub fn with_gap(mut drive: Drive, gap: u8) -> Drive
 }
 
 // A drive with a new report; where no tape is installed its gap is lost.
+#[tactic(auto, unfolding(crate::specs::Drives::with_report, common::specs::Pick::pick))]
 pub fn with_report(mut drive: Drive, report: u8) -> Drive
     ensures { result ≡ with_report drive report }
 {
@@ -115,6 +119,7 @@ pub fn with_report(mut drive: Drive, report: u8) -> Drive
 }
 
 // A drive with a track selected. The gap of a new track is proper at the beginning of tape, else lost.
+#[tactic(auto, unfolding(crate::specs::Drives::with_track, common::specs::Pick::pick))]
 pub fn with_track(mut drive: Drive, track: u8) -> Drive
     ensures { result ≡ with_track drive track }
 {
@@ -154,6 +159,7 @@ pub fn is_gcr(drive: Drive) -> bool
 }
 
 // Whether any report differs from its copy.
+#[tactic(auto, unfolding(crate::specs::Drives::any_differs))]
 pub fn any_differs(drives: Drives) -> bool
     ensures { result ≡ any_differs drives }
 {
@@ -179,6 +185,7 @@ fn copy_report(drive: Drive) -> Drive
 }
 
 // All four reports copied.
+#[tactic(auto, unfolding(crate::specs::Drives::copy_reports))]
 pub fn copy_reports(drives: Drives) -> Drives
     ensures { result ≡ copy_reports drives }
 {
@@ -205,6 +212,7 @@ fn fresh_with(report: u8) -> Drive
 }
 
 // All four as they start.
+#[tactic(auto, unfolding(crate::specs::Drives::fresh_drives))]
 pub fn fresh_drives() -> Drives
     ensures { result ≡ fresh_drives }
 {
@@ -218,6 +226,7 @@ pub fn fresh_drives() -> Drives
 }
 
 // All four after a reset, which keeps the reports.
+#[tactic(auto, unfolding(crate::specs::Drives::reset_drives))]
 pub fn reset_drives(drives: Drives) -> Drives
     ensures { result ≡ reset_drives drives }
 {

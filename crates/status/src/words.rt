@@ -6,7 +6,8 @@
 //             21 supplied count, 22 count valid, 23 density
 //             bits 24-31 report
 ghost use Rattle.std.specs.Prelude.{◌≡◌, ◌≤◌};
-ghost use Rattle.status.specs.Words.{zero_word, bit_of, no_outcome, with_count, with_host_errors, any_bit, primary_first};
+ghost use Rattle.status.specs.Words.{zero_word, bit_of, no_outcome, with_count, with_host_errors, any_bit};
+ghost use Rattle.status.specs.Words.{primary_first};
 ghost use Rattle.status.specs.Words.{primary_second, primary_third, primary_of, secondary_word, digits_of, tertiary_of};
 ghost use Rattle.status.specs.Words.{quintary_of, reports_word};
 
@@ -20,7 +21,7 @@ pub const LAST_CODE: u8 = 31;
 
 pub const COUNT_LIMIT: u32 = 65535;
 
-#[derive(Drop)]
+#[derive(Clone, Copy)]
 pub struct Word {
     pub b0: u8,
     pub b1: u8,
@@ -29,7 +30,7 @@ pub struct Word {
 }
 
 // What a store came to: the final code, the motion and the count, which secondary shows.
-#[derive(Drop)]
+#[derive(Clone, Copy)]
 pub struct ResultRecord {
     pub code: u8,
     pub motion: u8,
@@ -37,7 +38,7 @@ pub struct ResultRecord {
 }
 
 // What a store sets: bits 2 and 8-22 of primary, and secondary.
-#[derive(Drop)]
+#[derive(Clone, Copy)]
 pub struct Outcome {
     pub retry: bool,
     pub mark: bool,
@@ -52,6 +53,7 @@ pub struct Outcome {
 }
 
 // A bit of a byte.
+#[tactic(auto, unfolding(crate::specs::Words::bit_of, common::specs::Pick::pick))]
 fn bit_of(set: bool, weight: u8) -> u8
     ensures value { result ≡ bit_of set weight }
     ensures upper_bound { result ≤ weight }
@@ -60,6 +62,7 @@ fn bit_of(set: bool, weight: u8) -> u8
 }
 
 // Nothing set of primary, and this count.
+#[tactic(auto, unfolding(crate::specs::Words::no_outcome))]
 pub fn no_outcome(count: u32) -> Outcome
     ensures { result ≡ no_outcome count }
 {
@@ -100,6 +103,7 @@ pub fn with_host_errors(mut outcome: Outcome, bad: bool, short: bool) -> Outcome
 }
 
 // Whether any of bits 16-20 is set that counts: bit 19 where it does.
+#[tactic(auto, unfolding(crate::specs::Words::any_bit))]
 pub fn any_bit(outcome: Outcome, wdl_counts: bool) -> bool
     ensures { result ≡ any_bit outcome wdl_counts }
 {
@@ -140,6 +144,7 @@ fn primary_third(outcome: Outcome, drive: Drive) -> u8
 }
 
 // Primary.
+#[tactic(auto, unfolding(crate::specs::Words::primary_of))]
 pub fn primary_of(changed: bool, enable: bool, outcome: Outcome, selected: u8, drive: Drive) -> Word
     ensures { result ≡ primary_of changed enable outcome selected drive }
 {
@@ -152,6 +157,7 @@ pub fn primary_of(changed: bool, enable: bool, outcome: Outcome, selected: u8, d
 }
 
 // Secondary.
+#[tactic(auto, unfolding(crate::specs::Words::secondary_word))]
 pub fn secondary_word(count: u32) -> Word
     ensures { result ≡ secondary_word count }
 {
@@ -164,6 +170,7 @@ pub fn secondary_word(count: u32) -> Word
 }
 
 // An error's mark and kind as two digits.
+#[tactic(auto, unfolding(crate::specs::Words::digits_of))]
 fn digits_of(defect: Defect) -> u8
     ensures { result ≡ digits_of defect }
 {
@@ -171,6 +178,7 @@ fn digits_of(defect: Defect) -> u8
 }
 
 // Tertiary.
+#[tactic(auto, unfolding(crate::specs::Words::tertiary_of))]
 pub fn tertiary_of(odd: Defect, even: Defect) -> Word
     ensures { result ≡ tertiary_of odd even }
 {
@@ -195,6 +203,7 @@ pub fn zero_word() -> Word
 }
 
 // Quintary.
+#[tactic(auto, unfolding(crate::specs::Words::quintary_of))]
 pub fn quintary_of(stop: Defect) -> Word
     ensures { result ≡ quintary_of stop }
 {
@@ -207,6 +216,7 @@ pub fn quintary_of(stop: Defect) -> Word
 }
 
 // The four reports.
+#[tactic(auto, unfolding(crate::specs::Words::reports_word))]
 pub fn reports_word(drives: Drives) -> Word
     ensures { result ≡ reports_word drives }
 {

@@ -48,14 +48,16 @@ two_bytes : (image marks : List ℕ) (expected : Expected) → image_refusal ima
     → (length image ≡ 0 → ⊥) → 2 ≤ length image
 unfolding image_refusal
 two_bytes image marks (Whole density) e some = (whole image marks density e).two
-two_bytes image marks (Supplied count) e some = omega (arith, (laid image marks count gcr e).long, image_holds count gcr)
+two_bytes image marks (Supplied count) e some =
+    omega (arith, (laid image marks count gcr e).long, image_holds count gcr)
 two_bytes image marks Count e some = omega (arith, (unmarked image marks 2 e).0)
 two_bytes image marks Nothing e some = absurd (some (unmarked image marks 0 e).0)
 
 -- the image of a read or a forward skip is whole, where there is one
 abbrev LongFor : List ℕ → List ℕ → ℕ → Expected → Type 0
 LongFor image marks density expected =
-    image_refusal image marks expected ≡ 0 → (length image ≡ 0 → ⊥) → length image ≡ image_length (count_of image) density
+    image_refusal image marks expected ≡ 0 → (length image ≡ 0 → ⊥)
+    → length image ≡ image_length (count_of image) density
 
 whole_long : (image marks : List ℕ) (density code : ℕ) (mark : Bool)
     → LongFor image marks density (expected_whole density code mark)

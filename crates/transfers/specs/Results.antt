@@ -1,7 +1,8 @@
 -- The result (document 01, Records; document 02, requests 1 and 2), as far as it concerns one drive: its refusals, the
 -- verdict on it, and what is told by that: the bytes that are delivered, the check store, the status words and the gap.
 -- Assumes nothing.
-use Rattle.std.specs.Prelude.{ℕ, ◌*◌, ◌/◌, ◌%◌, min, Bool, not, ◌&&◌, ◌||◌, List, [], ◌++◌, leb, ltb, eqb, length, take, drop, replicate}
+use Rattle.std.specs.Prelude.{ℕ, ◌*◌, ◌/◌, ◌%◌, min, Bool, not, ◌&&◌, ◌||◌, List, [], ◌++◌, leb, ltb, eqb, length, take}
+use Rattle.std.specs.Prelude.{drop, replicate}
 use Rattle.common.specs.Pick.{pick}
 use Rattle.common.specs.Space.{overwrite}
 use Rattle.common.specs.Refusals.{check_store_length, code_not_listed, flags_against_rule}
@@ -29,7 +30,8 @@ use Rattle.transfers.specs.declared.after.Words.{Words}
 use Rattle.transfers.specs.declared.after.After.{After}
 use Rattle.operations.specs.Codes.{offline, blockette_number_wrong, recoverable, unrecoverable}
 use Rattle.status.specs.Drives.{is_gcr}
-use Rattle.operations.specs.Operation.{supplies_count, is_read, brings_record, is_skip, is_search, takes_mark, moves_tape}
+use Rattle.operations.specs.Operation.{supplies_count, is_read, brings_record, is_skip, is_search, takes_mark}
+use Rattle.operations.specs.Operation.{moves_tape}
 use Rattle.transfers.specs.Data.{check_store, check_bytes}
 use Rattle.transfers.specs.Expected.{expected_of, image_refusal}
 

@@ -2,7 +2,7 @@
 use status::words::{Outcome, Word};
 
 // What a store sets of primary and of secondary, and the other two words.
-#[derive(Drop)]
+#[derive(Clone, Copy)]
 pub struct Words {
     pub outcome: Outcome,
     pub tertiary: Word,
@@ -10,14 +10,14 @@ pub struct Words {
 }
 
 // What a data call leaves: the words, and how many bytes its image has.
-#[derive(Drop)]
+#[derive(Clone, Copy)]
 pub struct Written {
     pub words: Words,
     pub bytes: usize,
 }
 
 // What a result leaves: the words, the drive's gap, and how many bytes were delivered.
-#[derive(Drop)]
+#[derive(Clone, Copy)]
 pub struct After {
     pub words: Words,
     pub gap: u8,

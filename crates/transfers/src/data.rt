@@ -21,6 +21,7 @@ use status::words::{with_host_errors, zero_word};
 pub const CHECK_STORE: usize = CHECKS_LENGTH;
 
 // 6, 11 or 15, or 0.
+#[tactic(auto, unfolding(crate::specs::Data::data_refusal, common::specs::Pick::pick))]
 pub fn data_refusal(
     drive: Drive,
     store: Store,
@@ -46,6 +47,7 @@ pub fn data_refusal(
 
 // The image of a write, at the start of the space: how long it is. What follows a bad byte is zeros, as what the host
 // did not hand in.
+#[tactic(auto, using(crate::proofs::DataLaws::record_image_length, crate::proofs::DataLaws::record_part, crate::proofs::DataLaws::image_overwritten))]
 pub fn put_write_image(
     store: Store,
     host: &[u8],
@@ -68,6 +70,7 @@ pub fn put_write_image(
 }
 
 // Both check blockettes of a GCR image, or zeros where it has none.
+#[tactic(auto, using(records::proofs::ImageLaws::blockettes_few, crate::proofs::DataLaws::checks_left, crate::proofs::DataLaws::check_part), unfolding(crate::specs::Data::check_bytes, common::specs::Pick::pick))]
 pub fn put_check_bytes(image: &[u8], count: u16, check: &mut [u8])
     requires image_len { length image.now ≡ image_length count 1 }
     requires check_len { length check.old ≡ check_store }
@@ -82,6 +85,7 @@ pub fn put_check_bytes(image: &[u8], count: u16, check: &mut [u8])
 }
 
 // The check store after a data call: in GCR the check bytes of the image.
+#[tactic(auto, using(crate::proofs::DataLaws::gcr_alike), unfolding(common::specs::Pick::pick))]
 pub fn put_data_check(drive: Drive, store: Store, image: &[u8], check: &mut [u8])
     requires image_len { length image.now ≡ image_length (held_count store) drive.density }
     requires check_len { length check.old ≡ check_store }
@@ -93,6 +97,7 @@ pub fn put_data_check(drive: Drive, store: Store, image: &[u8], check: &mut [u8]
 }
 
 // The bytes that a store needs: those thrown away and those counted.
+#[tactic(auto, unfolding(crate::specs::Data::needed_bytes, operations::specs::Store::thrown_away))]
 fn needed_bytes(store: Store) -> usize
     ensures { result ≡ needed_bytes store }
 {
@@ -100,6 +105,7 @@ fn needed_bytes(store: Store) -> usize
 }
 
 // Whether a bad byte is among them.
+#[tactic(auto, unfolding(crate::specs::Data::bad_byte))]
 fn bad_byte(store: Store, place: usize) -> bool
     ensures { result ≡ bad_byte store place }
 {
@@ -107,6 +113,7 @@ fn bad_byte(store: Store, place: usize) -> bool
 }
 
 // Whether the host ran out before any bad byte.
+#[tactic(auto, unfolding(crate::specs::Data::runs_short))]
 fn runs_short(store: Store, host: &[u8], place: usize) -> bool
     ensures { result ≡ runs_short store (host_of host.now place) }
 {
@@ -115,6 +122,7 @@ fn runs_short(store: Store, host: &[u8], place: usize) -> bool
 
 // The words after a data call: bit 16 is set where a byte was bad, bit 18 where host bytes ran short, and in GCR
 // tertiary and quintary are zeroed.
+#[tactic(auto, unfolding(crate::specs::Data::data_words, common::specs::Pick::pick))]
 pub fn data_words(mut words: Words, drive: Drive, store: Store, host: &[u8], place: usize) -> Words
     ensures { result ≡ data_words words drive store (host_of host.now place) }
 {

@@ -15,6 +15,7 @@ use operations::operation::{Operation, is_read, same_operation, supplies_count};
 use records::layout::blockette_count;
 
 // How many bytes of its image a read delivers.
+#[tactic(auto, using(records::proofs::ImageLaws::blockettes_few), unfolding(crate::specs::Results::read_count, common::specs::Pick::pick))]
 fn read_count(count: u16, found: Findings) -> usize
     ensures value { result ≡ read_count count found }
     ensures upper_bound { result ≤ count }
@@ -27,6 +28,7 @@ fn read_count(count: u16, found: Findings) -> usize
 }
 
 // The bytes of its image that a read delivers.
+#[tactic(auto, unfolding(crate::specs::Results::read_bytes))]
 fn read_bytes(image: &[u8], count: u16, found: Findings) -> &[u8]
     requires { 2 + count ≤ length image.now }
     ensures { result.now ≡ read_bytes image.now count found }
@@ -36,6 +38,7 @@ fn read_bytes(image: &[u8], count: u16, found: Findings) -> &[u8]
 }
 
 // What is to be delivered, as the image or the check store has it.
+#[tactic(auto, unfolding(crate::specs::Results::delivered_bytes, common::specs::Pick::pick))]
 pub fn delivered_bytes<'a>(
     verdict: Verdict,
     operation: Operation,
@@ -58,6 +61,7 @@ pub fn delivered_bytes<'a>(
 }
 
 // As many bytes as fit: how many they are.
+#[tactic(auto, using(crate::proofs::ResultLaws::fitting_part, crate::proofs::ResultLaws::fitting_length))]
 fn put_fitting(bytes: &[u8], space: &mut [u8]) -> usize
     ensures value { result ≡ length (fitting bytes.now (length space.old)) }
     ensures space_after { space.new ≡ fitting_into bytes.now space.old }
@@ -68,6 +72,7 @@ fn put_fitting(bytes: &[u8], space: &mut [u8]) -> usize
 }
 
 // As many bytes as fit, as the operation reads them: those of a torn first blockette are zeros. How many they are.
+#[tactic(auto, using(crate::proofs::ReadLaws::fit_length, crate::proofs::ReadLaws::put_whole, crate::proofs::ReadLaws::torn_room, crate::proofs::ReadLaws::put_torn))]
 pub fn put_bytes_read(operation: Operation, bytes: &[u8], space: &mut [u8]) -> usize
     ensures value { result ≡ length (fitting (bytes_read operation bytes.now) (length space.old)) }
     ensures space_after { space.new ≡ fitting_into (bytes_read operation bytes.now) space.old }
@@ -81,6 +86,7 @@ pub fn put_bytes_read(operation: Operation, bytes: &[u8], space: &mut [u8]) -> u
 }
 
 // The check store after a result.
+#[tactic(auto, unfolding(crate::specs::Results::result_check, common::specs::Pick::pick))]
 pub fn put_result_check(verdict: Verdict, image: &[u8], check: &mut [u8])
     requires check_len { length check.old ≡ check_store }
     requires image_len { verdict.renews ≡ true → verdict.used ≡ true → length image.now ≡ image_length verdict.count 1 }

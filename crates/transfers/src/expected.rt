@@ -12,7 +12,7 @@ use status::drives::{GCR, MFM};
 
 // What is to be handed in: a whole image of this density with its marks, a GCR image of a supplied count with its
 // marks, two count bytes and no marks, or neither.
-#[derive(Drop)]
+#[derive(Clone, Copy)]
 pub enum Expected {
     Whole(u8),
     Supplied(u16),
@@ -21,6 +21,7 @@ pub enum Expected {
 }
 
 // The codes with which a read or a forward skip brings an image.
+#[tactic(auto, unfolding(crate::specs::Expected::whole_code))]
 fn whole_code(code: u8) -> bool
     ensures { result ≡ whole_code code }
 {
@@ -28,6 +29,7 @@ fn whole_code(code: u8) -> bool
 }
 
 // What a read or a forward skip brings.
+#[tactic(auto, unfolding(crate::specs::Expected::expected_whole, common::specs::Pick::pick))]
 fn expected_whole(density: u8, ending: Ending) -> Expected
     ensures { result ≡ expected_whole density ending.code ending.mark }
 {
@@ -38,6 +40,7 @@ fn expected_whole(density: u8, ending: Ending) -> Expected
 }
 
 // What a read with a supplied count brings.
+#[tactic(auto, unfolding(crate::specs::Expected::expected_supplied, common::specs::Pick::pick))]
 fn expected_supplied(count: u16, ending: Ending) -> Expected
     ensures { result ≡ expected_supplied count ending.code }
 {
@@ -48,6 +51,7 @@ fn expected_supplied(count: u16, ending: Ending) -> Expected
 }
 
 // What a reverse skip brings.
+#[tactic(auto, unfolding(common::specs::Pick::pick))]
 fn expected_count(density: u8, ending: Ending) -> Expected
     ensures { result ≡ expected_count density ending.code ending.mark }
 {
@@ -58,6 +62,7 @@ fn expected_count(density: u8, ending: Ending) -> Expected
 }
 
 // What an operation brings.
+#[tactic(auto, unfolding(crate::specs::Expected::expected_of, common::specs::Pick::pick))]
 pub fn expected_of(operation: Operation, store: Store, density: u8, ending: Ending) -> Expected
     ensures { result ≡ expected_of operation store density ending.code ending.mark }
 {
@@ -74,6 +79,7 @@ pub fn expected_of(operation: Operation, store: Store, density: u8, ending: Endi
 }
 
 // An image of this length and no marks: 9 or 0.
+#[tactic(auto, unfolding(crate::specs::Expected::unmarked_refusal, common::specs::Pick::pick))]
 fn unmarked_refusal(image: &[u8], marks: &[u8], length: usize) -> u32
     ensures { result ≡ unmarked_refusal image.now marks.now length }
 {
@@ -87,6 +93,7 @@ fn unmarked_refusal(image: &[u8], marks: &[u8], length: usize) -> u32
 }
 
 // What is expected: 9, 10, or 0.
+#[tactic(auto, unfolding(crate::specs::Expected::image_refusal))]
 pub fn image_refusal(image: &[u8], marks: &[u8], expected: Expected) -> u32
     ensures { result ≡ image_refusal image.now marks.now expected }
 {

@@ -12,6 +12,7 @@ use operations::store::Store;
 use status::drives::Drive;
 
 // Whether the mark flag is against its rule.
+#[tactic(auto, unfolding(crate::specs::Results::mark_against))]
 fn mark_against(operation: Operation, ending: Ending) -> bool
     ensures { result ≡ mark_against operation ending.code ending.mark }
 {
@@ -20,6 +21,7 @@ fn mark_against(operation: Operation, ending: Ending) -> bool
 }
 
 // 6 to 10, or 0.
+#[tactic(auto, unfolding(crate::specs::Results::result_refusal, common::specs::Pick::pick))]
 pub fn result_refusal(
     drive: Drive,
     operation: Operation,

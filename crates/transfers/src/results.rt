@@ -13,6 +13,7 @@ use status::drives::Drive;
 use status::words::{Outcome, ResultRecord, Word, any_bit, quintary_of, tertiary_of, zero_word};
 
 // Tertiary after a result: the first errors, zero where the image goes unused, or as it was.
+#[tactic(auto, unfolding(crate::specs::Results::result_tertiary, common::specs::Pick::pick))]
 fn result_tertiary(verdict: Verdict, before: Word) -> Word
     ensures { result ≡ result_tertiary verdict before }
 {
@@ -26,6 +27,7 @@ fn result_tertiary(verdict: Verdict, before: Word) -> Word
 }
 
 // Quintary after a result: the stopping error, zero where the image goes unused, or as it was.
+#[tactic(auto, unfolding(crate::specs::Results::result_quintary, common::specs::Pick::pick))]
 fn result_quintary(verdict: Verdict, before: Word) -> Word
     ensures { result ≡ result_quintary verdict before }
 {
@@ -39,6 +41,7 @@ fn result_quintary(verdict: Verdict, before: Word) -> Word
 }
 
 // Whether a write came to code 0.
+#[tactic(auto, unfolding(crate::specs::Results::wrote_well))]
 fn wrote_well(operation: Operation, code: u8) -> bool
     ensures { result ≡ wrote_well operation code }
 {
@@ -46,6 +49,7 @@ fn wrote_well(operation: Operation, code: u8) -> bool
 }
 
 // The count after a result: the supplied one, that of an image that is used, of a write with code 0, or as it was.
+#[tactic(auto, unfolding(crate::specs::Results::result_count, common::specs::Pick::pick))]
 fn result_count(verdict: Verdict, operation: Operation, store: Store, before: u32) -> u32
     ensures { result ≡ result_count verdict operation store before }
 {
@@ -62,6 +66,7 @@ fn result_count(verdict: Verdict, operation: Operation, store: Store, before: u3
 }
 
 // The bits of primary, and the record of code, motion and count: `bytes` are to be delivered, and `space` fit.
+#[tactic(auto, unfolding(crate::specs::Results::result_bits))]
 fn result_bits(
     verdict: Verdict,
     mut outcome: Outcome,
@@ -92,6 +97,7 @@ fn result_bits(
 }
 
 // An outcome with bit 2, which the code and bits 16-20 decide; bit 19 does not count in a skip.
+#[tactic(auto, unfolding(crate::specs::Results::with_retry))]
 fn with_retry(mut outcome: Outcome, operation: Operation, found: Findings) -> Outcome
     ensures { result ≡ with_retry outcome operation found }
 {
@@ -102,6 +108,7 @@ fn with_retry(mut outcome: Outcome, operation: Operation, found: Findings) -> Ou
 }
 
 // All words after a result.
+#[tactic(auto, unfolding(crate::specs::Results::result_words))]
 pub fn result_words(
     words: Words,
     verdict: Verdict,
@@ -133,6 +140,7 @@ pub fn result_words(
 }
 
 // The drive's gap, by the final code.
+#[tactic(auto, unfolding(crate::specs::Results::result_gap))]
 pub fn result_gap(drive: Drive, operation: Operation, code: u8) -> u8
     ensures { result ≡ result_gap drive operation code }
 {

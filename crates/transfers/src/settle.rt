@@ -14,6 +14,7 @@ use operations::store::Store;
 use status::drives::Drive;
 
 // A data call that is not refused: the image stands at the start of the space afterwards.
+#[tactic(auto, using(common::proofs::SpaceLaws::overwritten_front, common::proofs::SpaceLaws::overwritten_room, crate::proofs::DataLaws::record_image_length, crate::proofs::DataLaws::data_ready), unfolding(crate::specs::Data::settle_data))]
 pub fn settle_data(
     words: Words,
     drive: Drive,
@@ -38,6 +39,7 @@ pub fn settle_data(
 }
 
 // A result that is not refused: the bytes that it delivers stand at the start of the space afterwards, as many as fit.
+#[tactic(auto, using(crate::proofs::ReadLaws::read_length, crate::proofs::ResultLaws::result_passed), unfolding(operations::specs::Store::held_count, crate::specs::Results::settle_result))]
 pub fn settle_result(
     words: Words,
     drive: Drive,

@@ -13,7 +13,7 @@ use records::count::count_of;
 use status::drives::{Drive, INSTALLED, is_gcr, reports};
 
 // What a result says besides its image and marks.
-#[derive(Drop)]
+#[derive(Clone, Copy)]
 pub struct Ending {
     pub code: u8,
     pub mark: bool,
@@ -23,7 +23,7 @@ pub struct Ending {
 // Whether the tape that should have moved is gone, whether the image is used, whether a count is supplied, whether
 // tertiary, quintary and the check store are made anew, the code that the host sees, the count of an image that is
 // used, and what the scan found.
-#[derive(Drop)]
+#[derive(Clone, Copy)]
 pub struct Verdict {
     pub gone: bool,
     pub used: bool,
@@ -35,6 +35,7 @@ pub struct Verdict {
 }
 
 // Whether the tape that should have moved is gone.
+#[tactic(auto, unfolding(crate::specs::Results::is_gone))]
 fn is_gone(drive: Drive, operation: Operation) -> bool
     ensures { result ≡ is_gone drive operation }
 {
@@ -42,6 +43,7 @@ fn is_gone(drive: Drive, operation: Operation) -> bool
 }
 
 // What the scan finds in the marks as the operation reads them: with a supplied count the first blockette is torn.
+#[tactic(auto, unfolding(crate::specs::Results::marks_read, common::specs::Pick::pick))]
 fn findings_read(operation: Operation, marks: &[u8]) -> Findings
     requires { supplies_count operation ≡ true → length marks.now ≤ most_marks }
     ensures { result ≡ findings_read operation marks.now }
@@ -53,6 +55,7 @@ fn findings_read(operation: Operation, marks: &[u8]) -> Findings
 }
 
 // The code that is reported, but that a supplied count of 0 finds no blockette.
+#[tactic(auto, unfolding(crate::specs::Results::code_reported, common::specs::Pick::pick))]
 fn code_reported(operation: Operation, store: Store, code: u8) -> u8
     ensures { result ≡ code_reported operation store code }
 {
@@ -63,6 +66,7 @@ fn code_reported(operation: Operation, store: Store, code: u8) -> u8
 }
 
 // The code that the host sees.
+#[tactic(auto, unfolding(crate::specs::Results::final_code, common::specs::Pick::pick))]
 fn final_code(gone: bool, code: u8, found: Findings) -> u8
     ensures { result ≡ final_code gone code found }
 {
@@ -79,6 +83,7 @@ fn final_code(gone: bool, code: u8, found: Findings) -> u8
 }
 
 // Whether tertiary, quintary and the check store are made anew.
+#[tactic(auto, unfolding(crate::specs::Results::reads_gcr))]
 fn reads_gcr(drive: Drive, operation: Operation) -> bool
     ensures { result ≡ reads_gcr drive operation }
 {
@@ -86,6 +91,7 @@ fn reads_gcr(drive: Drive, operation: Operation) -> bool
 }
 
 // The count of a record: the supplied one, or the image's own.
+#[tactic(auto, unfolding(crate::specs::Results::record_count, common::specs::Pick::pick))]
 fn record_count(operation: Operation, store: Store, image: &[u8]) -> u16
     requires { 2 ≤ length image.now }
     ensures { result ≡ record_count operation store image.now }
@@ -97,6 +103,7 @@ fn record_count(operation: Operation, store: Store, image: &[u8]) -> u16
 }
 
 // The count of an image that is used.
+#[tactic(auto, unfolding(crate::specs::Results::used_count, common::specs::Pick::pick))]
 fn used_count(used: bool, operation: Operation, store: Store, image: &[u8]) -> u16
     requires { used ≡ true → 2 ≤ length image.now }
     ensures { result ≡ used_count used operation store image.now }
@@ -108,6 +115,7 @@ fn used_count(used: bool, operation: Operation, store: Store, image: &[u8]) -> u
 }
 
 // The verdict; the only place where the marks of a result are scanned.
+#[tactic(auto, using(common::proofs::PickLaws::both_hold), unfolding(crate::specs::Results::verdict_of))]
 pub fn verdict_of(
     drive: Drive,
     operation: Operation,
