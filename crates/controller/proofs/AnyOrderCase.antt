@@ -16,7 +16,8 @@ use Rattle.blockettes.specs.Blockettes.{blockette_at, numbered, of_parity, fold_
 use Rattle.marks.specs.Marks.{legal_mark, legal_marks, is_error, torn_marks}
 use Rattle.marks.specs.Scan.{scan_from, scan_marks, kind_of, number_of, defect_at, is_found, findings_of, checks_alone}
 use Rattle.records.specs.Count.{limit, rotated, count_bytes, unrotated, count_of}
-use Rattle.records.specs.Image.{blockette_count, has_blockettes, blockettes_of, body_of, image_of, image_length, mark_count}
+use Rattle.records.specs.Image.{blockette_count, has_blockettes, blockettes_of, body_of, image_of, image_length}
+use Rattle.records.specs.Image.{mark_count}
 use Rattle.records.specs.Place.{no_place, is_place, as_came, written_bytes}
 use Rattle.records.specs.Whole.{layout_refusal, whole_refusal}
 use Rattle.transfers.specs.Expected.{whole_code, expected_whole, expected_supplied, expected_of, unmarked_refusal}
@@ -24,12 +25,14 @@ use Rattle.transfers.specs.Expected.{image_refusal}
 use Rattle.operations.specs.Operation.{moves_tape, is_skip, is_search, takes_mark}
 use Rattle.operations.specs.Decode.{control_of, read_of, decode_of, in_density}
 use Rattle.operations.specs.Test.{may_move}
-use Rattle.operations.specs.Answers.{forward_codes, reverse_codes, end_codes, supplied_codes, listed_codes, trailing_codes}
+use Rattle.operations.specs.Answers.{forward_codes, reverse_codes, end_codes, supplied_codes, listed_codes}
+use Rattle.operations.specs.Answers.{trailing_codes}
 use Rattle.operations.specs.Answers.{clear_codes, is_in, answer_of}
 use Rattle.operations.specs.After.{loses_tape, motion_of, gap_of, gap_after, own_retry, code_retry, retry_of}
 use Rattle.status.specs.Drives.{reports, with_track, drive_of, with_drive, with_report, any_differs, copy_reports}
 use Rattle.status.specs.Drives.{fresh_drives, reset_drives}
-use Rattle.status.specs.Words.{bit_of, no_outcome, any_bit, primary_of, secondary_word, digits_of, tertiary_of, quintary_of}
+use Rattle.status.specs.Words.{bit_of, no_outcome, any_bit, primary_of, secondary_word, digits_of, tertiary_of}
+use Rattle.status.specs.Words.{quintary_of}
 use Rattle.status.specs.Words.{reports_word}
 use Rattle.link.specs.Frames.{string_of, order_of}
 use Rattle.controller.specs.declared.controller.Controller.{Controller}
@@ -39,7 +42,8 @@ use Rattle.operations.specs.declared.store.Store.{Store}
 use Rattle.operations.specs.Store.{asks_interrupt, names_drive, named_drive, names_unknown, selected_by, asked_for}
 use Rattle.operations.specs.Store.{thrown_away, held_count, supplied_count}
 use Rattle.operations.specs.Course.{test_of, course_of}
-use Rattle.link.specs.Link.{whole_length, append_byte, load_xor, is_good_string, first_byte, last_byte, next_byte, yes_to_send}
+use Rattle.link.specs.Link.{whole_length, append_byte, load_xor, is_good_string, first_byte, last_byte, next_byte}
+use Rattle.link.specs.Link.{yes_to_send}
 use Rattle.link.specs.Link.{give_up, no_to_send, collect_byte, answer_to_send, tick_after_review, idle_tick}
 use Rattle.link.specs.Loads.{load_word, carry_out_load}
 use Rattle.controller.specs.Controller.{fresh, is_idle_in, is_idle}
@@ -47,8 +51,10 @@ use Rattle.controller.specs.Stores.{end_with, settle, end_operation, motion_orde
 use Rattle.controller.specs.Stores.{follow, clear_outcome, carry_out_on, carry_out, no_to_go, yes_to_go, answer_to_go}
 use Rattle.transfers.specs.Data.{host_of, check_bytes, needed_bytes, bad_byte, runs_short, data_refusal, data_words}
 use Rattle.transfers.specs.Data.{settle_data}
-use Rattle.transfers.specs.Results.{mark_against, result_refusal, is_gone, marks_read, code_reported, final_code, reads_gcr}
-use Rattle.transfers.specs.Results.{record_count, used_count, verdict_of, read_count, read_bytes, delivered_bytes, torn_bytes}
+use Rattle.transfers.specs.Results.{mark_against, result_refusal, is_gone, marks_read, code_reported, final_code}
+use Rattle.transfers.specs.Results.{reads_gcr}
+use Rattle.transfers.specs.Results.{record_count, used_count, verdict_of, read_count, read_bytes, delivered_bytes}
+use Rattle.transfers.specs.Results.{torn_bytes}
 use Rattle.transfers.specs.Results.{bytes_read, fitting, result_check, result_tertiary, result_quintary, wrote_well}
 use Rattle.transfers.specs.Results.{result_count, result_bits, with_retry, result_words, result_gap, settle_result}
 use Rattle.controller.specs.Records.{data_done, result_done}
@@ -87,7 +93,8 @@ script_of store =
     }
 
 abbrev pub alone : ℕ → ℕ → Script
-alone address value = script_of (record { address = address; first = 0x00; second = 0x00; third = 0x00; fourth = value })
+alone address value =
+    script_of (record { address = address; first = 0x00; second = 0x00; third = 0x00; fourth = value })
 
 -- enable is set by a store for drive 0, a guard by one for drive 1, and two bytes are written on drive 0
 abbrev pub enable_on_zero : Script
@@ -128,27 +135,30 @@ pub record AnyOrderCase : Type 0 where
   pub not_refused_lem : refusal_after (tick ∷ []) (hand guard_on_one.store) ≡ 0
 
 pub any_order_case : AnyOrderCase
-unfolding pick overwrite filled ◌⊕◌ xor_all blockette_at numbered of_parity fold_parity check_of legal_mark legal_marks is_error
-    torn_marks scan_from scan_marks kind_of number_of defect_at limit rotated count_bytes unrotated count_of blockette_count
-    has_blockettes blockettes_of body_of image_of image_length mark_count layout_refusal whole_refusal unmarked_refusal
-    image_refusal control_of read_of decode_of in_density may_move forward_codes reverse_codes end_codes supplied_codes
-    listed_codes trailing_codes clear_codes is_in answer_of loses_tape motion_of gap_of gap_after own_retry code_retry retry_of
-    reports drive_of with_drive with_report any_differs copy_reports fresh_drives reset_drives bit_of no_outcome any_bit primary_of
-    secondary_word digits_of tertiary_of quintary_of reports_word string_of order_of start_body fresh reset_state review idle
-    primary_now send_word send_interrupt complete whole_length append_byte load_xor is_good_string first_byte last_byte next_byte
-    yes_to_send give_up no_to_send asks_interrupt no_to_go yes_to_go collect_byte answer_to_send answer_to_go tick_after_review idle_tick
-    load_word carry_out_load store_of names_drive named_drive asked_for end_with settle with_track motion_order past_test order_move
-    begin clear_outcome names_unknown selected_by test_of course_of follow carry_out_on carry_out check_bytes thrown_away
-    held_count supplied_count is_place as_came written_bytes needed_bytes bad_byte runs_short data_refusal data_done data_for
-    result_for takes_mark is_skip is_search mark_against whole_code expected_whole expected_supplied expected_of result_refusal
-    moves_tape is_gone marks_read code_reported final_code reads_gcr result_tertiary result_quintary result_check read_bytes
-    fitting wrote_well result_count result_bits with_retry end_operation result_done is_found findings_of checks_alone data_words
-    settle_data record_count used_count verdict_of read_count delivered_bytes torn_bytes bytes_read result_words result_gap
-    settle_result sound_drive sound_drives sound_body sound_lead sound_part sound_string sound_phase is_sound byte_in broken_in
-    tick_in byte_call broken_call tick_call carry_out_string taken_in taken_call report_call reset_call data_in data_call result_in
-    result_call step hand_in hand_call run lists.after stores_from first_of is_report reports_fixed is_idle_in not_refused
-    holds_store brings_store store_brought carries_out last_store is_of store_event awaits_go event_of events_of history_from
-    asks_reset resets is_reset admits admitted_from offered is_own all_own answer_in play pause AllScriptsDone
+unfolding pick overwrite filled ◌⊕◌ xor_all blockette_at numbered of_parity fold_parity check_of legal_mark legal_marks
+    is_error torn_marks scan_from scan_marks kind_of number_of defect_at limit rotated count_bytes unrotated count_of
+    blockette_count has_blockettes blockettes_of body_of image_of image_length mark_count layout_refusal whole_refusal
+    unmarked_refusal image_refusal control_of read_of decode_of in_density may_move forward_codes reverse_codes
+    end_codes supplied_codes listed_codes trailing_codes clear_codes is_in answer_of loses_tape motion_of gap_of
+    gap_after own_retry code_retry retry_of reports drive_of with_drive with_report any_differs copy_reports
+    fresh_drives reset_drives bit_of no_outcome any_bit primary_of secondary_word digits_of tertiary_of quintary_of
+    reports_word string_of order_of start_body fresh reset_state review idle primary_now send_word send_interrupt
+    complete whole_length append_byte load_xor is_good_string first_byte last_byte next_byte yes_to_send give_up
+    no_to_send asks_interrupt no_to_go yes_to_go collect_byte answer_to_send answer_to_go tick_after_review idle_tick
+    load_word carry_out_load store_of names_drive named_drive asked_for end_with settle with_track motion_order
+    past_test order_move begin clear_outcome names_unknown selected_by test_of course_of follow carry_out_on carry_out
+    check_bytes thrown_away held_count supplied_count is_place as_came written_bytes needed_bytes bad_byte runs_short
+    data_refusal data_done data_for result_for takes_mark is_skip is_search mark_against whole_code expected_whole
+    expected_supplied expected_of result_refusal moves_tape is_gone marks_read code_reported final_code reads_gcr
+    result_tertiary result_quintary result_check read_bytes fitting wrote_well result_count result_bits with_retry
+    end_operation result_done is_found findings_of checks_alone data_words settle_data record_count used_count
+    verdict_of read_count delivered_bytes torn_bytes bytes_read result_words result_gap settle_result sound_drive
+    sound_drives sound_body sound_lead sound_part sound_string sound_phase is_sound byte_in broken_in tick_in byte_call
+    broken_call tick_call carry_out_string taken_in taken_call report_call reset_call data_in data_call result_in
+    result_call step hand_in hand_call run lists.after stores_from first_of is_report reports_fixed is_idle_in
+    not_refused holds_store brings_store store_brought carries_out last_store is_of store_event awaits_go event_of
+    events_of history_from asks_reset resets is_reset admits admitted_from offered is_own all_own answer_in play pause
+    AllScriptsDone
 any_order_case =
     record {
       done = (

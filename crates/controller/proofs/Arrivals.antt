@@ -30,7 +30,7 @@ use Rattle.controller.specs.Controller.{fresh, is_idle_in, is_idle, carried}
 use Rattle.controller.specs.Stores.{hand_back, settle, end_with, clear_outcome, carry_out}
 use Rattle.controller.specs.Records.{Answer}
 use Rattle.controller.specs.Machine.{byte_in, byte_call, Call, Exchange, step, run}
-use Rattle.controller.specs.Machine.Call.{result, tick, hand}
+use Rattle.controller.specs.Machine.Call.{tick, hand}
 use Rattle.controller.specs.Lists.{not_refused, brings_store, store_brought, carries_out, after}
 use Rattle.controller.specs.Separation.{is_reset, resets, admits, admitted_from, EndsAlike}
 use Rattle.controller.specs.JobOrder.{stores_from, first_of, is_report, reports_fixed, Completes}
@@ -310,9 +310,9 @@ module _ (script : Script) where
 
   ended_rests : (asked : Bool) → (is_idle (after_calls (ended asked) (play 6 script (ended asked))) ≡ true)
       × Sound (after_calls (ended asked) (play 6 script (ended asked)))
-  unfolding play run after answer_in step byte_call byte_in answer_to_send yes_to_send complete send_interrupt send_word idle
-      review clear_outcome no_outcome fresh start_body fresh_drives any_differs copy_reports is_idle_in is_sound sound_body
-      sound_drives sound_drive sound_phase sound_part pick
+  unfolding play run after answer_in step byte_call byte_in answer_to_send yes_to_send complete send_interrupt send_word
+      idle review clear_outcome no_outcome fresh start_body fresh_drives any_differs copy_reports is_idle_in is_sound
+      sound_body sound_drives sound_drive sound_phase sound_part pick
   ended_rests true = (refl, refl)
   ended_rests false = (refl, refl)
 

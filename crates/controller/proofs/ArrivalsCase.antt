@@ -43,7 +43,8 @@ in_another =
 taped_in_range : InRange taped
 unfolding run AllBytesIn BytesIn
 taped_in_range =
-    (list_stays_in_range fresh (report 0 0x22 ∷ report 1 0x22 ∷ []) fresh_in_range (omega arith, (omega arith, tt))).ends
+    (list_stays_in_range fresh (report 0 0x22 ∷ report 1 0x22 ∷ [])
+    fresh_in_range (omega arith, (omega arith, tt))).ends
 
 two_bytes : Bytes (0x4F ∷ 0x4B ∷ [])
 two_bytes zero inside = omega arith

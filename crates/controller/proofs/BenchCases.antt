@@ -13,7 +13,8 @@ use Rattle.blockettes.specs.Blockettes.{blockette_at, numbered, of_parity, fold_
 use Rattle.marks.specs.Marks.{legal_mark, legal_marks, is_error, torn_marks}
 use Rattle.marks.specs.Scan.{scan_from, scan_marks, kind_of, number_of, defect_at, is_found, findings_of, checks_alone}
 use Rattle.records.specs.Count.{rotated, count_bytes, unrotated, count_of}
-use Rattle.records.specs.Image.{blockette_count, has_blockettes, blockettes_of, body_of, image_of, image_length, mark_count}
+use Rattle.records.specs.Image.{blockette_count, has_blockettes, blockettes_of, body_of, image_of, image_length}
+use Rattle.records.specs.Image.{mark_count}
 use Rattle.records.specs.Place.{no_place, is_place, as_came, written_bytes}
 use Rattle.records.specs.Whole.{layout_refusal, whole_refusal}
 use Rattle.transfers.specs.Expected.{whole_code, expected_whole, expected_supplied, expected_of, unmarked_refusal}
@@ -21,12 +22,14 @@ use Rattle.transfers.specs.Expected.{image_refusal}
 use Rattle.operations.specs.Operation.{moves_tape, is_skip, is_search, takes_mark}
 use Rattle.operations.specs.Decode.{control_of, read_of, decode_of, in_density}
 use Rattle.operations.specs.Test.{may_move}
-use Rattle.operations.specs.Answers.{forward_codes, reverse_codes, end_codes, supplied_codes, listed_codes, trailing_codes}
+use Rattle.operations.specs.Answers.{forward_codes, reverse_codes, end_codes, supplied_codes, listed_codes}
+use Rattle.operations.specs.Answers.{trailing_codes}
 use Rattle.operations.specs.Answers.{clear_codes, is_in, answer_of}
 use Rattle.operations.specs.After.{loses_tape, motion_of, gap_of, gap_after, own_retry, code_retry, retry_of}
 use Rattle.status.specs.Drives.{reports, with_track, drive_of, with_drive, with_report, any_differs, copy_reports}
 use Rattle.status.specs.Drives.{fresh_drives, reset_drives}
-use Rattle.status.specs.Words.{bit_of, no_outcome, any_bit, primary_of, secondary_word, digits_of, tertiary_of, quintary_of}
+use Rattle.status.specs.Words.{bit_of, no_outcome, any_bit, primary_of, secondary_word, digits_of, tertiary_of}
+use Rattle.status.specs.Words.{quintary_of}
 use Rattle.status.specs.Words.{reports_word}
 use Rattle.link.specs.Frames.{string_of, order_of}
 use Rattle.link.specs.declared.state.Body.{Body}
@@ -38,7 +41,8 @@ use Rattle.link.specs.Completion.{primary_now, send_word, send_interrupt, comple
 use Rattle.operations.specs.Store.{asks_interrupt, names_drive, named_drive, names_unknown, selected_by, asked_for}
 use Rattle.operations.specs.Store.{thrown_away, held_count, supplied_count}
 use Rattle.operations.specs.Course.{test_of, course_of}
-use Rattle.link.specs.Link.{whole_length, append_byte, load_xor, is_good_string, first_byte, last_byte, next_byte, yes_to_send}
+use Rattle.link.specs.Link.{whole_length, append_byte, load_xor, is_good_string, first_byte, last_byte, next_byte}
+use Rattle.link.specs.Link.{yes_to_send}
 use Rattle.link.specs.Link.{give_up, no_to_send, collect_byte, answer_to_send, tick_after_review, idle_tick}
 use Rattle.link.specs.Loads.{load_word, carry_out_load}
 use Rattle.controller.specs.Controller.{fresh}
@@ -46,15 +50,17 @@ use Rattle.controller.specs.Stores.{end_with, settle, end_operation, motion_orde
 use Rattle.controller.specs.Stores.{follow, clear_outcome, carry_out_on, carry_out, no_to_go, yes_to_go, answer_to_go}
 use Rattle.transfers.specs.Data.{host_of, check_bytes, needed_bytes, bad_byte, runs_short, data_refusal, data_words}
 use Rattle.transfers.specs.Data.{settle_data}
-use Rattle.transfers.specs.Results.{mark_against, result_refusal, is_gone, marks_read, code_reported, final_code, reads_gcr}
-use Rattle.transfers.specs.Results.{record_count, used_count, verdict_of, read_count, read_bytes, delivered_bytes, torn_bytes}
+use Rattle.transfers.specs.Results.{mark_against, result_refusal, is_gone, marks_read, code_reported, final_code}
+use Rattle.transfers.specs.Results.{reads_gcr}
+use Rattle.transfers.specs.Results.{record_count, used_count, verdict_of, read_count, read_bytes, delivered_bytes}
+use Rattle.transfers.specs.Results.{torn_bytes}
 use Rattle.transfers.specs.Results.{bytes_read, fitting, result_check, result_tertiary, result_quintary, wrote_well}
 use Rattle.transfers.specs.Results.{result_count, result_bits, with_retry, result_words, result_gap, settle_result}
 use Rattle.controller.specs.Records.{Answer, data_done, result_done}
 use Rattle.link.specs.Damaged.{sound_drive, sound_drives, sound_body, sound_lead, sound_part, sound_string, sound_phase}
 use Rattle.link.specs.Damaged.{is_sound}
 use Rattle.controller.specs.Machine.{byte_in, broken_in, tick_in, byte_call, broken_call, tick_call, carry_out_string}
-use Rattle.controller.specs.Machine.{taken_in, taken_call, report_noted, report_call, reset_call, data_for, result_for}
+use Rattle.controller.specs.Machine.{taken_in, taken_call, report_call, reset_call, data_for, result_for}
 use Rattle.controller.specs.Machine.{data_in, data_call, result_in, result_call, Call, step}
 use Rattle.controller.specs.Machine.Call.{byte, taken, report, host_data, result}
 
@@ -138,7 +144,8 @@ torn_image = 0xFF ∷ 0xFF ∷ replicate 256 0xEE ++ drop 258 (image_of six_hund
 abbrev torn_read : List Call
 torn_read =
     report 1 0x22 ∷ store 0x39 0x00 0x00 0x00 0x0D 0x50 ++ store 0x49 0x80 0x00 0x02 0x58 0xF7
-    ++ result (record { code = 0; mark = false; late = 0; image = torn_image; marks = replicate 5 15 }) (replicate 600 9)
+    ++ result (record { code = 0; mark = false; late = 0; image = torn_image; marks = replicate 5 15 })
+    (replicate 600 9)
     (replicate 512 9) ∷ []
 
 pub record BenchCases : Type 0 where
@@ -189,7 +196,8 @@ pub record BenchCases : Type 0 where
   pub bad_bit : primary_now (left (mfm_write six_bytes 3)) ≡ record { b0 = 0x81; b1 = 0x00; b2 = 0x80; b3 = 0x22 }
   -- "A bad byte among those thrown away makes the whole record zeros and sets that bit too."
   pub bad_thrown_away : (played (mfm_write six_bytes 1)).space ≡ 0x80 ∷ 0x01 ∷ 0x00 ∷ 0x00 ∷ 0x00 ∷ 9 ∷ []
-  pub bad_thrown_bit : primary_now (left (mfm_write six_bytes 1)) ≡ record { b0 = 0x81; b1 = 0x00; b2 = 0x80; b3 = 0x22 }
+  pub bad_thrown_bit : primary_now (left (mfm_write six_bytes 1))
+      ≡ record { b0 = 0x81; b1 = 0x00; b2 = 0x80; b3 = 0x22 }
   -- "A place past the bytes that the store needs counts as none.", and so does 65,791
   pub bad_past : (played (mfm_write six_bytes 5)).space ≡ 0x80 ∷ 0x01 ∷ 0x33 ∷ 0x44 ∷ 0x55 ∷ 9 ∷ []
   pub bad_past_bit : primary_now (left (mfm_write six_bytes 5)) ≡ record { b0 = 0x81; b1 = 0x00; b2 = 0x00; b3 = 0x22 }
@@ -225,31 +233,25 @@ pub record BenchCases : Type 0 where
 pub bench_cases : BenchCases
 unfolding pick overwrite filled ◌⊕◌ xor_all blockette_at numbered of_parity fold_parity check_of legal_mark legal_marks
     is_error torn_marks scan_from scan_marks kind_of
-    number_of defect_at rotated count_bytes unrotated count_of blockette_count has_blockettes blockettes_of body_of image_of
-    image_length mark_count
-    layout_refusal whole_refusal unmarked_refusal image_refusal control_of read_of decode_of in_density may_move forward_codes
-    reverse_codes end_codes supplied_codes listed_codes trailing_codes clear_codes is_in
-    answer_of loses_tape motion_of gap_of gap_after own_retry code_retry retry_of reports drive_of with_drive with_report
-    any_differs copy_reports fresh_drives reset_drives bit_of
-    no_outcome any_bit primary_of secondary_word digits_of tertiary_of quintary_of reports_word string_of order_of start_body fresh
-    reset_state review idle
-    primary_now send_word send_interrupt complete whole_length append_byte load_xor is_good_string first_byte last_byte next_byte
-    yes_to_send give_up no_to_send
-    asks_interrupt no_to_go yes_to_go collect_byte answer_to_send answer_to_go tick_after_review idle_tick load_word carry_out_load
-    store_of names_drive named_drive
-    asked_for end_with settle with_track motion_order past_test order_move begin clear_outcome names_unknown selected_by test_of
-    course_of follow
-    carry_out_on carry_out check_bytes thrown_away held_count supplied_count is_place as_came written_bytes needed_bytes bad_byte
-    runs_short data_refusal data_done data_for result_for takes_mark is_skip is_search mark_against
-    whole_code expected_whole expected_supplied expected_of result_refusal moves_tape is_gone marks_read code_reported final_code
-    reads_gcr result_tertiary result_quintary result_check read_bytes fitting
-    wrote_well result_count result_bits with_retry end_operation result_done is_found findings_of checks_alone data_words
-    settle_data record_count used_count verdict_of read_count
-    delivered_bytes torn_bytes bytes_read result_words result_gap settle_result sound_drive sound_drives sound_body sound_lead
-    sound_part sound_string sound_phase
-    is_sound byte_in broken_in tick_in byte_call broken_call tick_call carry_out_string taken_in taken_call report_call reset_call
-    data_in data_call result_in
-    result_call step
+    number_of defect_at rotated count_bytes unrotated count_of blockette_count has_blockettes blockettes_of body_of
+    image_of image_length mark_count layout_refusal whole_refusal unmarked_refusal image_refusal control_of read_of
+    decode_of in_density may_move forward_codes reverse_codes end_codes supplied_codes listed_codes trailing_codes
+    clear_codes is_in answer_of loses_tape motion_of gap_of gap_after own_retry code_retry retry_of reports drive_of
+    with_drive with_report any_differs copy_reports fresh_drives reset_drives bit_of no_outcome any_bit primary_of
+    secondary_word digits_of tertiary_of quintary_of reports_word string_of order_of start_body fresh reset_state review
+    idle primary_now send_word send_interrupt complete whole_length append_byte load_xor is_good_string first_byte
+    last_byte next_byte yes_to_send give_up no_to_send asks_interrupt no_to_go yes_to_go collect_byte answer_to_send
+    answer_to_go tick_after_review idle_tick load_word carry_out_load store_of names_drive named_drive asked_for
+    end_with settle with_track motion_order past_test order_move begin clear_outcome names_unknown selected_by test_of
+    course_of follow carry_out_on carry_out check_bytes thrown_away held_count supplied_count is_place as_came
+    written_bytes needed_bytes bad_byte runs_short data_refusal data_done data_for result_for takes_mark is_skip
+    is_search mark_against whole_code expected_whole expected_supplied expected_of result_refusal moves_tape is_gone
+    marks_read code_reported final_code reads_gcr result_tertiary result_quintary result_check read_bytes fitting
+    wrote_well result_count result_bits with_retry end_operation result_done is_found findings_of checks_alone
+    data_words settle_data record_count used_count verdict_of read_count delivered_bytes torn_bytes bytes_read
+    result_words result_gap settle_result sound_drive sound_drives sound_body sound_lead sound_part sound_string
+    sound_phase is_sound byte_in broken_in tick_in byte_call broken_call tick_call carry_out_string taken_in taken_call
+    report_call reset_call data_in data_call result_in result_call step
 bench_cases =
     record {
       ack = refl;

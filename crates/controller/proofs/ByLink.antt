@@ -16,14 +16,16 @@ use Rattle.link.specs.declared.state.Phase.TheVariants.{Collecting, AckOffered}
 use Rattle.link.specs.declared.state.Body.{Body}
 use Rattle.link.specs.declared.state.Transition.{Transition}
 use Rattle.link.specs.State.{store_of, offered, keep_collecting}
-use Rattle.link.specs.Link.{whole_length, append_byte, load_xor, is_good_string, first_byte, last_byte, next_byte, collect_byte}
+use Rattle.link.specs.Link.{whole_length, append_byte, load_xor, is_good_string, first_byte, last_byte, next_byte}
+use Rattle.link.specs.Link.{collect_byte}
 use Rattle.link.specs.Damaged.{sound_body, sound_lead, sound_part, sound_string, sound_phase, is_sound}
 use Rattle.controller.specs.declared.controller.Controller.{Controller}
 use Rattle.controller.specs.declared.controller.Reply.{Reply}
 use Rattle.controller.specs.Controller.{is_idle, carried}
 use Rattle.controller.specs.Stores.{carry_out}
 use Rattle.controller.specs.Records.{Answer}
-use Rattle.controller.specs.Machine.{byte_in, byte_call, carry_out_string, taken_in, taken_call, hand_in, hand_call, Call}
+use Rattle.controller.specs.Machine.{byte_in, byte_call, carry_out_string, taken_in, taken_call, hand_in, hand_call}
+use Rattle.controller.specs.Machine.{Call}
 use Rattle.controller.specs.Machine.{Exchange, plain, step, run}
 use Rattle.controller.specs.Machine.Call.{byte, taken, hand}
 use Rattle.controller.specs.Lists.{not_refused, holds_store, brings_store, store_brought, carries_out, after}
@@ -66,8 +68,8 @@ record Leads (c : Controller) (value : ℕ) (o : Controller) : Type 0 where
 
 -- a byte that is collected brings nothing by itself
 byte_goes : (c o : Controller) (value : ℕ) (calls : List Call) → Leads c value o → Goes c o (byte value ∷ calls) calls
-unfolding run stores_from admitted_from reports_fixed none_refused after carries_out not_refused admits brings_store is_reset
-    is_report
+unfolding run stores_from admitted_from reports_fixed none_refused after carries_out not_refused admits brings_store
+    is_reset is_report
 byte_goes c o value calls step_leads =
     let leads = step_leads.state in
     let x : Exchange = record { call = byte value; answer = step c (byte value) } in

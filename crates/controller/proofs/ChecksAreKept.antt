@@ -57,7 +57,8 @@ data_checks l b held host space check current same =
     (checks_said (write_image held host density) (held_count held)
     ∙ ap (λ (image : List ℕ). checks_behind image (count_asked held)) (sym (recorded_is held host density)))
     ∙ ap₂
-    (λ (s : Store) (n : ℕ). pick (not (eqb n 0)) (checks_behind (image_on_tape (bytes_sent s host) n) (count_asked s)) check)
+    (λ (s : Store) (n : ℕ). pick (not (eqb n 0)) (checks_behind (image_on_tape (bytes_sent s host) n) (count_asked s))
+    check)
     same (ap (λ (d : Drive). d.density) current)
 
 -- ---- a result
@@ -104,7 +105,8 @@ results_checks l b operation held r space check current asks same clear =
           (λ (n d : ℕ). checks_read (order_byte operation) (count_asked held) n d r check)
           (ap (λ (x : Drive). x.report) current) (ap (λ (x : Drive). x.density) current)
           ∙ ap₂
-          (λ (order : ℕ) (s : Store). checks_read order (count_asked s) (tape_now l).report (tape_now l).density r check)
+          (λ (order : ℕ) (s : Store). checks_read order (count_asked s)
+          (tape_now l).report (tape_now l).density r check)
           (sym (order_said l.store operation asks)) same;
       delivered = λ four checks.
           let is = sym (asks_checks l.store operation asks four checks) in

@@ -22,7 +22,8 @@ use Rattle.link.specs.declared.state.Body.{Body}
 use Rattle.link.specs.declared.state.Phase.{Phase}
 use Rattle.link.specs.declared.state.Phase.TheVariants.{DataAwaited}
 use Rattle.link.specs.declared.state.Transition.{Transition}
-use Rattle.link.specs.State.{store_of, reset_state, start_body, current_drive, with_current_drive, with_flags, note_report}
+use Rattle.link.specs.State.{store_of, reset_state, start_body, current_drive, with_current_drive, with_flags}
+use Rattle.link.specs.State.{note_report}
 use Rattle.link.specs.State.{when_in_hand}
 use Rattle.link.proofs.PhaseLaws.{each_phase}
 use Rattle.transfers.specs.Data.{Host, data_words, settle_data}

@@ -38,8 +38,10 @@ use Rattle.link.specs.State.{when_in_hand, store_of, offered, start_body, with_f
 use Rattle.link.specs.State.{reset_state}
 use Rattle.transfers.specs.declared.verdict.Verdict.{Verdict}
 use Rattle.transfers.specs.Data.{Host, data_words, settle_data}
-use Rattle.transfers.specs.Results.{Result, result_refusal, is_gone, findings_read, code_reported, record_count, used_count}
-use Rattle.transfers.specs.Results.{verdict_of, wrote_well, result_count, result_bits, with_retry, result_words, settle_result}
+use Rattle.transfers.specs.Results.{Result, result_refusal, is_gone, findings_read, code_reported, record_count}
+use Rattle.transfers.specs.Results.{used_count}
+use Rattle.transfers.specs.Results.{verdict_of, wrote_well, result_count, result_bits, with_retry, result_words}
+use Rattle.transfers.specs.Results.{settle_result}
 use Rattle.transfers.proofs.ResultLaws.{supplied_none, final_zero, reported_zero}
 use Rattle.controller.specs.OnTape.{count_said}
 use Rattle.controller.specs.declared.controller.Controller.{Controller}
@@ -48,7 +50,7 @@ use Rattle.controller.specs.Stores.{end_operation, order_move, begin, follow, cl
 use Rattle.controller.specs.Stores.{yes_to_go}
 use Rattle.controller.specs.Records.{words_of, with_after, data_done, result_done}
 use Rattle.controller.specs.Machine.{data_in, result_in, Call, Exchange, step, run}
-use Rattle.controller.specs.Machine.Call.{host_data, result, hand}
+use Rattle.controller.specs.Machine.Call.{host_data, result}
 use Rattle.controller.specs.Lists.{not_refused, holds_store, held_store}
 use Rattle.controller.specs.Ledger.{Ledger, ledger_fresh, ledger_carried, ledger_ended, ledger_call, ledger_after}
 use Rattle.controller.specs.Ledger.{count_asked}
@@ -246,8 +248,8 @@ written :
     (b : Body) (held : Store) (drive : Drive) (host : Host) (space check : List ℕ)
     → Keeps (stated b (DataAwaited held))
     (exchanged (host_data host space check) (data_done b drive held host space check))
-unfolding data_done settle_data data_words order_move ledger_after ledger_call not_refused own_record record_after InHand
-    HeldUpToDate SentUpToDate pick
+unfolding data_done settle_data data_words order_move ledger_after ledger_call not_refused own_record record_after
+    InHand HeldUpToDate SentUpToDate pick
 written b held drive host space check l own drives before =
     record { kept = record { hand = before.hand; valid = before.valid; holds = tt }; says = tt }
 
@@ -385,8 +387,8 @@ results_case b operation held r space check =
 -- ---- every call, and every list
 
 keeps : Kinds Keeps
-unfolding yes_to_go reset_state start_body no_outcome ledger_after ledger_call not_refused own_record record_after InHand
-    HeldUpToDate SentUpToDate pick
+unfolding yes_to_go reset_state start_body no_outcome ledger_after ledger_call not_refused own_record record_after
+    InHand HeldUpToDate SentUpToDate pick
 keeps =
     record {
       refusals = refusals_case;

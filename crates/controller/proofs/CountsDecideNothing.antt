@@ -16,14 +16,14 @@ use Rattle.operations.specs.declared.decode.Decoded.{Decoded}
 use Rattle.operations.specs.declared.course.Course.{Course}
 use Rattle.operations.specs.declared.course.Course.TheVariants.{Reset, End, Enable, Set, Begin}
 use Rattle.operations.specs.Operation.{same_operation}
-use Rattle.operations.specs.Decode.{read_of, decode_of, in_density}
-use Rattle.operations.specs.Store.{asks_interrupt, names_drive, named_drive, names_unknown, selected_by, asked_for, asked_in}
+use Rattle.operations.specs.Decode.{decode_of, in_density}
+use Rattle.operations.specs.Store.{asks_interrupt, names_drive, named_drive, names_unknown, selected_by, asked_for}
+use Rattle.operations.specs.Store.{asked_in}
 use Rattle.operations.specs.Course.{course_of}
 use Rattle.link.specs.declared.state.Collected.{Collected}
 use Rattle.link.specs.declared.state.Phase.{Phase}
-use Rattle.link.specs.declared.state.Phase.TheVariants.{Collecting, AckOffered}
+use Rattle.link.specs.declared.state.Phase.TheVariants.{AckOffered}
 use Rattle.link.specs.declared.state.Body.{Body}
-use Rattle.link.specs.declared.state.Handed.{Handed}
 use Rattle.link.specs.declared.state.Handed.TheVariants.{NoneHanded}
 use Rattle.link.specs.declared.state.Transition.{Transition}
 use Rattle.link.specs.Bytes.{load_lead}

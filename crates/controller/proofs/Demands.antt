@@ -182,7 +182,8 @@ stores_on_different_drives_commute c stores others one two =
     (order_is_free c (calls_of_all stores) (calls_of_all others))
 
 -- the state that calls of transactions leave, one after the other
-made_after : (c : Controller) (entries : List Entry) (xs : List Exchange) → Made c xs → calls_of xs ≡ all_calls c entries
+made_after : (c : Controller) (entries : List Entry) (xs : List Exchange)
+    → Made c xs → calls_of xs ≡ all_calls c entries
     → after_all c entries ≡ after c xs
 made_after c entries xs made same =
     sym (all_calls_after c entries)

@@ -16,7 +16,8 @@ use Rattle.status.specs.declared.drives.Drive.{Drive}
 use Rattle.status.specs.declared.drives.Drives.{Drives}
 use Rattle.status.specs.declared.words.Outcome.{Outcome}
 use Rattle.status.specs.declared.words.ResultRecord.{ResultRecord}
-use Rattle.status.specs.Drives.{drive_of, with_drive, with_gap, with_report, with_track, with_density, with_guard, copy_report}
+use Rattle.status.specs.Drives.{drive_of, with_drive, with_gap, with_report, with_track, with_density, with_guard}
+use Rattle.status.specs.Drives.{copy_report}
 use Rattle.status.specs.Drives.{fresh_with, fresh_drives, reset_drives, reports}
 use Rattle.status.proofs.DriveLaws.{by_four, put_same, put_other}
 use Rattle.operations.specs.declared.operation.Operation.{Operation}
@@ -56,7 +57,7 @@ use Rattle.controller.specs.Stores.{settle, end_operation, motion_order, order_m
 use Rattle.controller.specs.Stores.{clear_outcome, carry_out_on, carry_out, yes_to_go}
 use Rattle.controller.specs.Records.{words_of, with_after, data_done, result_done}
 use Rattle.controller.specs.Machine.{data_in, result_in, Call, Exchange, step, run}
-use Rattle.controller.specs.Machine.Call.{report, host_data, result, hand}
+use Rattle.controller.specs.Machine.Call.{host_data, result}
 use Rattle.controller.specs.Lists.{not_refused, holds_store, held_store, after}
 use Rattle.controller.specs.Ledger.{entered, among, Allowed, Tape, fresh_tape, tape_reported, tape_tracked}
 use Rattle.controller.specs.Ledger.{tape_controlled, tape_stored, motion_made, gap_left, tape_left, Ledger}
@@ -331,7 +332,8 @@ reset_keeps l store b drives =
 
 -- the first byte of an order
 unfoldable FirstSaid : ℕ → ℕ → ℕ → Decoded → Type 0
-FirstSaid operation f l (Operate asked) = moves_tape (move_of asked) ≡ true → order_byte asked ≡ order_first operation f l
+FirstSaid operation f l (Operate asked) = moves_tape (move_of asked) ≡ true
+    → order_byte asked ≡ order_first operation f l
 FirstSaid operation f l Reset = Unit
 FirstSaid operation f l (Code c) = Unit
 FirstSaid operation f l (Track track) = Unit
@@ -526,7 +528,8 @@ module _ (l : Ledger) (b : Body) (store : Store) (low : b.selected ≤ 3)
 
 carried_keeps : (l : Ledger) (b : Body) (store : Store) → Agreeing l b
     → KeptBy (ledger_carried l store) (carry_out b store)
-unfolding ledger_carried carry_out carry_out_on names_unknown selected_by names_drive named_drive asked_for clear_outcome
+unfolding ledger_carried carry_out carry_out_on names_unknown selected_by names_drive named_drive asked_for
+    clear_outcome
 carried_keeps l b store agrees =
     let named = eqb (store.address / 8 % 2) 1 in
     let number = store.address % 8 in
@@ -548,7 +551,8 @@ stores_case : OfStores Keeps
 unfolding ledger_after ledger_call not_refused holds_store offered pick
 stores_case b s lead l before =
     let store = store_of s in
-    subst (λ (later : Ledger). KeptBy later (carry_out b store)) (sym (pick_yes (ledger_carried l store) l (ap not lead)))
+    subst (λ (later : Ledger). KeptBy later (carry_out b store))
+    (sym (pick_yes (ledger_carried l store) l (ap not lead)))
     (carried_keeps l b store before.agrees)
 
 handings_case : OfHandings Keeps
@@ -632,7 +636,8 @@ written :
     (b : Body) (held : Store) (drive : Drive) (host : Host) (space check : List ℕ)
     → Keeps (stated b (DataAwaited held)) (exchanged (host_data host space check)
     (data_done b drive held host space check))
-unfolding data_done order_move motion_order order_of moves_tape ledger_after ledger_call not_refused InHand ActionAllowed pick
+unfolding data_done order_move motion_order order_of moves_tape ledger_after ledger_call not_refused InHand
+    ActionAllowed pick
 written b held drive host space check l before =
     let agrees = before.agrees in
     let w = before.hand in

@@ -17,7 +17,8 @@ use Rattle.status.specs.declared.drives.Drives.{Drives}
 use Rattle.status.specs.declared.words.Word.{Word}
 use Rattle.status.specs.declared.words.ResultRecord.{ResultRecord}
 use Rattle.link.specs.declared.frames.Frame.{Frame}
-use Rattle.status.specs.Drives.{drive_of, with_drive, with_gap, with_track, with_guard, with_density, copy_report, reports}
+use Rattle.status.specs.Drives.{drive_of, with_drive, with_gap, with_track, with_guard, with_density, copy_report}
+use Rattle.status.specs.Drives.{reports}
 use Rattle.status.specs.Drives.{bot, gap_proper, gap_lost}
 use Rattle.status.specs.Words.{no_outcome}
 use Rattle.status.proofs.DriveLaws.{put_same, put_other, reviewed_drive}
@@ -30,7 +31,8 @@ use Rattle.operations.specs.declared.store.Store.{Store}
 use Rattle.operations.specs.Codes.{illegal_motion, no_go}
 use Rattle.operations.specs.Operation.{same_operation, move_of, counts_bytes, offers_end}
 use Rattle.operations.specs.Test.{may_move}
-use Rattle.operations.specs.Store.{asks_interrupt, names_drive, named_drive, names_unknown, selected_by, asked_for, asked_in}
+use Rattle.operations.specs.Store.{asks_interrupt, names_drive, named_drive, names_unknown, selected_by, asked_for}
+use Rattle.operations.specs.Store.{asked_in}
 use Rattle.operations.specs.Course.{test_of, course_of}
 use Rattle.operations.specs.After.{motion_of}
 use Rattle.link.specs.declared.state.Collected.{Collected}
@@ -44,9 +46,11 @@ use Rattle.link.specs.declared.state.Action.{Action}
 use Rattle.link.specs.declared.state.Action.TheVariants.{Nothing}
 use Rattle.link.specs.declared.state.Transition.{Transition}
 use Rattle.link.specs.Bytes.{ack, nack, load_lead, store_lead, most_noes}
-use Rattle.link.specs.State.{store_of, with_selected, with_flags, current_drive, review, idle, offered, nothing_collected}
+use Rattle.link.specs.State.{store_of, with_selected, with_flags, current_drive, review, idle, offered}
+use Rattle.link.specs.State.{nothing_collected}
 use Rattle.link.specs.Completion.{send_word, send_interrupt, complete}
-use Rattle.link.specs.Link.{whole_length, append_byte, is_good_string, first_byte, last_byte, next_byte, yes_to_send, give_up}
+use Rattle.link.specs.Link.{whole_length, append_byte, is_good_string, first_byte, last_byte, next_byte, yes_to_send}
+use Rattle.link.specs.Link.{give_up}
 use Rattle.link.specs.Link.{no_to_send, collect_byte, answer_to_send}
 use Rattle.link.specs.Loads.{carry_out_load}
 use Rattle.link.specs.Damaged.{sound_drive, sound_drives, sound_body, sound_part, sound_phase, is_sound}
@@ -86,7 +90,8 @@ pick_two P false true same f g = absurd (false≢true same)
 -- of the drive all but the reviewed copy is the same; the tests of damage have the same outcomes
 pub record Bodies (d : ℕ) (all more : Drives) (chosen too : ℕ) (r s : ResultRecord) : Type 0 where
   pub own : d ≤ 3 → copy_report (drive_of all d) ≡ copy_report (drive_of more d)
-  pub drives : (e : ℕ) → e ≤ 3 → sound_drive (copy_report (drive_of all e)) ≡ sound_drive (copy_report (drive_of more e))
+  pub drives : (e : ℕ)
+      → e ≤ 3 → sound_drive (copy_report (drive_of all e)) ≡ sound_drive (copy_report (drive_of more e))
   pub selected : leb chosen 3 ≡ leb too 3
   pub motion : leb r.motion 3 ≡ leb s.motion 3
   pub code : leb r.code 31 ≡ leb s.code 31
@@ -226,7 +231,8 @@ module _ (d : ℕ) where
   unfolding answer_to_send no_to_send
   answered b o value kind noes bytes more alike =
       pick_two (Transitions d) (eqb value ack) (eqb value ack) refl (λ yes. accepted b o kind alike)
-      (λ no. pick_two (Transitions d) (eqb noes most_noes) (eqb noes most_noes) refl (λ most. given_up_lem b o kind alike)
+      (λ no. pick_two (Transitions d) (eqb noes most_noes) (eqb noes most_noes)
+      refl (λ most. given_up_lem b o kind alike)
       (λ again. record { bodies = alike; phases = sending kind (noes + 1) bytes more }))
 
   first : (b o : Body) (s t : Collected) (value : ℕ) → BodiesOf d b o → PhasesOf d b o (Collecting s) (Collecting t)
@@ -249,7 +255,8 @@ module _ (d : ℕ) where
       (λ no. idles b o _ _ alike))
       (λ more. record { bodies = alike; phases = collecting _ })
 
-  loads : (b o : Body) (address : ℕ) → BodiesOf d b o → Transitions d (carry_out_load b address) (carry_out_load o address)
+  loads : (b o : Body) (address : ℕ)
+      → BodiesOf d b o → Transitions d (carry_out_load b address) (carry_out_load o address)
   unfolding carry_out_load
   loads b o address alike =
       let six = eqb (address / 16 % 8) 6 in
@@ -528,8 +535,8 @@ module _ (d : ℕ) where
         → Answers (result_for (stated b (ResultAwaited operation store)) b (current_drive b)
         operation store r space check)
         (result_for (stated o (ResultAwaited operation store)) o (current_drive o) operation store r space check)
-    unfolding result_for result_refusal result_done settle_result result_words result_bits with_retry verdict_of is_gone reads_gcr
-        result_gap
+    unfolding result_for result_refusal result_done settle_result result_words result_bits with_retry verdict_of is_gone
+        reads_gcr result_gap
     moved operation r space check =
         let number : Drive → ℕ = λ drive. result_refusal drive operation store r (length check) in
         let same : number (current_drive b) ≡ number (current_drive o) = ap number (current b o ready) in
@@ -579,7 +586,8 @@ module _ (d : ℕ) where
     byte_in_lem value (sending kind noes bytes more) = done _ _ (answered b o value kind noes bytes more alike)
     byte_in_lem value (going store chosen) =
         done _ _ (go_answered_lem b o value store (record { bodies = alike; chosen = chosen }))
-    byte_in_lem value (writing store chosen) = turned _ [] [] _ _ (record { bodies = alike; phases = writing store chosen })
+    byte_in_lem value (writing store chosen) =
+        turned _ [] [] _ _ (record { bodies = alike; phases = writing store chosen })
     byte_in_lem value (moving operation store chosen) =
         turned _ [] [] _ _ (record { bodies = alike; phases = moving operation store chosen })
     byte_in_lem value (ending interrupt same) = done _ _ (completed b o interrupt alike same)
@@ -598,7 +606,8 @@ module _ (d : ℕ) where
     broken_in_lem (ending interrupt same) = done _ _ (completed b o interrupt alike same)
 
     taken_in_lem : {p q : Phase} → PhasesOf d b o p q
-        → ((taken_in (stated b p) b p).refusal ≡ 0 → holds_store (stated b p) ≡ true → OfDrive (held_store (stated b p)))
+        → ((taken_in (stated b p) b p).refusal ≡ 0 → holds_store (stated b p) ≡ true
+        → OfDrive (held_store (stated b p)))
         → Answers (plain (taken_in (stated b p) b p)) (plain (taken_in (stated o q) o q))
     unfolding taken_in carry_out_string holds_store offered
     taken_in_lem (idling s t none nothing) mine =
@@ -611,7 +620,8 @@ module _ (d : ℕ) where
     taken_in_lem (sending kind noes bytes more) mine =
         turned _ [] [] _ _ (record { bodies = alike; phases = sending kind noes bytes more })
     taken_in_lem (going store chosen) mine = turned _ [] [] _ _ (record { bodies = alike; phases = going store chosen })
-    taken_in_lem (writing store chosen) mine = turned _ [] [] _ _ (record { bodies = alike; phases = writing store chosen })
+    taken_in_lem (writing store chosen) mine =
+        turned _ [] [] _ _ (record { bodies = alike; phases = writing store chosen })
     taken_in_lem (moving operation store chosen) mine =
         turned _ [] [] _ _ (record { bodies = alike; phases = moving operation store chosen })
     taken_in_lem (ending interrupt same) mine =
@@ -632,7 +642,8 @@ module _ (d : ℕ) where
     hand_in_lem store (offering s) mine = turned _ [] [] _ _ (record { bodies = alike; phases = offering s })
     hand_in_lem store (sending kind noes bytes more) mine =
         turned _ [] [] _ _ (record { bodies = alike; phases = sending kind noes bytes more })
-    hand_in_lem store (going held chosen) mine = turned _ [] [] _ _ (record { bodies = alike; phases = going held chosen })
+    hand_in_lem store (going held chosen) mine =
+        turned _ [] [] _ _ (record { bodies = alike; phases = going held chosen })
     hand_in_lem store (writing held chosen) mine =
         turned _ [] [] _ _ (record { bodies = alike; phases = writing held chosen })
     hand_in_lem store (moving operation held chosen) mine =
@@ -647,7 +658,8 @@ module _ (d : ℕ) where
         turned _ space check _ _ (record { bodies = alike; phases = idling s t none nothing })
     data_in_lem host space check (collecting s) =
         turned _ space check _ _ (record { bodies = alike; phases = collecting s })
-    data_in_lem host space check (offering s) = turned _ space check _ _ (record { bodies = alike; phases = offering s })
+    data_in_lem host space check (offering s) =
+        turned _ space check _ _ (record { bodies = alike; phases = offering s })
     data_in_lem host space check (sending kind noes bytes more) =
         turned _ space check _ _ (record { bodies = alike; phases = sending kind noes bytes more })
     data_in_lem host space check (going store chosen) =
@@ -664,7 +676,8 @@ module _ (d : ℕ) where
     unfolding result_in
     result_in_lem r space check (idling s t none nothing) =
         turned _ space check _ _ (record { bodies = alike; phases = idling s t none nothing })
-    result_in_lem r space check (collecting s) = turned _ space check _ _ (record { bodies = alike; phases = collecting s })
+    result_in_lem r space check (collecting s) =
+        turned _ space check _ _ (record { bodies = alike; phases = collecting s })
     result_in_lem r space check (offering s) = turned _ space check _ _ (record { bodies = alike; phases = offering s })
     result_in_lem r space check (sending kind noes bytes more) =
         turned _ space check _ _ (record { bodies = alike; phases = sending kind noes bytes more })
@@ -788,7 +801,8 @@ module _ (d : ℕ) where
       let next = (step c call).reply.controller in
       let next_too = (step o call).reply.controller in
       let rest_mine : AllOf (stores_from next (run next calls)) =
-      by_test (carries_out c x) (λ yes. (subst AllOf (pick_yes _ _ yes) mine).1) (λ no. subst AllOf (pick_no _ _ no) mine)
+      by_test (carries_out c x) (λ yes. (subst AllOf (pick_yes _ _ yes) mine).1)
+      (λ no. subst AllOf (pick_no _ _ no) mine)
       in
       let rest = runs_alike calls next next_too own_calls rest_mine answers.next in
       let same = offered_alike alike.phases in

@@ -34,7 +34,8 @@ use Rattle.link.specs.declared.state.Body.{Body}
 use Rattle.link.specs.declared.state.Transition.{Transition}
 use Rattle.link.specs.Bytes.{load_lead}
 use Rattle.link.specs.Damaged.{is_sound}
-use Rattle.link.specs.State.{store_of, current_drive, with_selected, when_collecting, when_ack_offered, when_result_awaited}
+use Rattle.link.specs.State.{store_of, current_drive, with_selected, when_collecting, when_ack_offered}
+use Rattle.link.specs.State.{when_result_awaited}
 use Rattle.link.proofs.PhaseLaws.{each_phase}
 use Rattle.transfers.specs.declared.expected.Expected.{Expected}
 use Rattle.transfers.specs.declared.expected.Expected.TheVariants.{Whole, Supplied, Count, Nothing}

@@ -21,7 +21,8 @@ use Rattle.blockettes.proofs.Checked.{blockette_length_lem, check_length}
 use Rattle.records.specs.Count.{rotated, count_bytes}
 use Rattle.records.specs.Image.{blockette_count, has_blockettes, blockettes_of, body_of, image_of}
 use Rattle.records.proofs.ImageLaws.{blockettes_hold}
-use Rattle.controller.specs.OnTape.{bytes_by, count_on_tape, xor_byte, blockette_byte, check_on_tape, blockettes_on_tape}
+use Rattle.controller.specs.OnTape.{bytes_by, count_on_tape, xor_byte, blockette_byte, check_on_tape}
+use Rattle.controller.specs.OnTape.{blockettes_on_tape}
 use Rattle.controller.specs.OnTape.{body_on_tape, image_on_tape}
 
 -- ---- bytes by their places

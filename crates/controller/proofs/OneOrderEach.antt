@@ -26,7 +26,8 @@ use Rattle.link.specs.declared.state.Action.TheVariants.{Nothing, Byte, Text, Or
 use Rattle.link.specs.declared.state.Handed.{Handed}
 use Rattle.link.specs.declared.state.Body.{Body}
 use Rattle.link.specs.declared.state.Transition.{Transition}
-use Rattle.link.specs.State.{store_of, offered, when_in_hand, with_flags, with_current_drive, current_drive, reset_state}
+use Rattle.link.specs.State.{store_of, offered, when_in_hand, with_flags, with_current_drive, current_drive}
+use Rattle.link.specs.State.{reset_state}
 use Rattle.transfers.specs.Results.{Result, settle_result}
 use Rattle.transfers.specs.Data.{Host}
 use Rattle.controller.specs.declared.controller.Controller.{Controller}
@@ -132,7 +133,8 @@ stores_case : OfStores Keeps
 unfolding may_order may_order_after not_refused holds_store offered pick
 stores_case b s lead may ready =
     let store = store_of s in
-    subst (λ (later : Bool). KeptBy later (carry_out b store)) (sym (pick_yes (not (resets_all store)) may (ap not lead)))
+    subst (λ (later : Bool). KeptBy later (carry_out b store))
+    (sym (pick_yes (not (resets_all store)) may (ap not lead)))
     (carried_keeps store b)
 
 handings_case : OfHandings Keeps
@@ -179,7 +181,8 @@ ended :
 unfolding result_done
 ended b operation held drive r space check may ready =
     rests_keep _ _ _
-    (ending_rests (with_after b (settle_result (words_of b) drive operation held r (length space) check)) operation held)
+    (ending_rests (with_after b (settle_result (words_of b) drive operation held r (length space) check))
+    operation held)
 
 results_case : OfResults Keeps
 unfolding result_in

@@ -7,9 +7,9 @@ use Prim.Native.Nat.{ℕ, ◌≤◌}
 use mathlib.Core.Bool.{Bool, true, false, not, ◌&&◌, false≢true, and-false}
 use mathlib.Core.List.{List, [], ◌∷◌, ◌++◌}
 use lib.Dec.{eqb}
-use borrow.Author.Tests.{not-true, eqb-true}
+use borrow.Author.Tests.{eqb-true}
 use Rattle.common.specs.Pick.{pick}
-use Rattle.common.proofs.PickLaws.{by_test, both_hold, pick_yes, pick_no, pick_by, pick_both}
+use Rattle.common.proofs.PickLaws.{by_test, both_hold, pick_yes, pick_no, pick_both}
 use Rattle.status.specs.declared.drives.Drive.{Drive}
 use Rattle.operations.specs.declared.store.Store.{Store}
 use Rattle.operations.specs.Store.{names_drive, named_drive}
@@ -20,15 +20,14 @@ use Rattle.controller.specs.Controller.{is_idle_in, is_idle}
 use Rattle.controller.specs.Machine.{Call, Exchange, run}
 use Rattle.controller.specs.Machine.Call.{byte, taken, broken, report, host_data, result, tick, reset, hand}
 use Rattle.controller.specs.Lists.{not_refused, holds_store, store_brought, carries_out, last_store, no_store, after}
-use Rattle.controller.specs.Separation.{Event, is_of, awaits_go, event_of, events_of, history_from, admitted_from}
-use Rattle.controller.specs.Separation.{EndsAlike}
+use Rattle.controller.specs.Separation.{Event, is_of, awaits_go, event_of, events_of, history_from}
 use Rattle.controller.specs.Separation.Event.{report_came, store_came, go_answered, data_came, result_came}
 use Rattle.controller.specs.JobOrder.{stores_from, first_of, is_report, reports_fixed, Completes, CompletedStore}
 use Rattle.controller.specs.JobOrder.{without_length, without_lengths, completed_by, all_of, AllComplete}
 use Rattle.controller.specs.JobOrder.{completed_stores, own_stores, SameOwnOrder, OrderIsFree}
 use Rattle.controller.proofs.Steps.Resting.{Free, seen}
 use Rattle.controller.proofs.DrivesAreSeparate.OneDrive.{View, resting, told, told_all}
-use Rattle.controller.proofs.DrivesAreSeparate.Views.{view_of, free_held, free_view}
+use Rattle.controller.proofs.DrivesAreSeparate.Views.{free_held, free_view}
 use Rattle.controller.proofs.DrivesAreSeparate.{determined, seen_alike}
 
 -- ---- an idle state
@@ -54,7 +53,8 @@ told_all_without : (v : View) (events : List Event) → told_all v (without_leng
 unfolding told_all without_lengths
 told_all_without v [] = refl
 told_all_without v (event ∷ events) =
-    ap (λ (w : View). told_all w (without_lengths events)) (told_without v event) ∙ told_all_without (told v event) events
+    ap (λ (w : View). told_all w (without_lengths events)) (told_without v event)
+    ∙ told_all_without (told v event) events
 
 -- ---- another drive
 
@@ -114,7 +114,8 @@ module _ (d : ℕ) where
       (λ yes. let (brought, rest) = subst NoneOf (pick_yes _ _ yes) none in
       subst (λ (later : Store). events_of d later c x ++ history_from d later next xs ≡ []) (sym (pick_yes _ _ yes))
       (at (store_brought c x.call) brought rest))
-      (λ no. subst (λ (later : Store). events_of d later c x ++ history_from d later next xs ≡ []) (sym (pick_no _ _ no))
+      (λ no. subst (λ (later : Store). events_of d later c x ++ history_from d later next xs ≡ [])
+      (sym (pick_no _ _ no))
       (at last other (subst NoneOf (pick_no _ _ no) none)))
 
 -- ---- a completed store

@@ -36,8 +36,10 @@ use Rattle.link.specs.State.{current_drive}
 use Rattle.transfers.specs.declared.expected.Expected.{Expected}
 use Rattle.transfers.specs.declared.verdict.Verdict.{Verdict}
 use Rattle.transfers.specs.Expected.{expected_supplied, expected_of, unmarked_refusal, image_refusal}
-use Rattle.transfers.specs.Results.{Result, result_refusal, is_gone, marks_read, code_reported, final_code, record_count}
-use Rattle.transfers.specs.Results.{used_count, verdict_of, read_count, read_bytes, delivered_bytes, torn_bytes, bytes_read}
+use Rattle.transfers.specs.Results.{Result, result_refusal, is_gone, marks_read, code_reported, final_code}
+use Rattle.transfers.specs.Results.{record_count}
+use Rattle.transfers.specs.Results.{used_count, verdict_of, read_count, read_bytes, delivered_bytes, torn_bytes}
+use Rattle.transfers.specs.Results.{bytes_read}
 use Rattle.transfers.specs.Results.{fitting, delivered, wrote_well, result_count, result_bits, with_retry, result_words}
 use Rattle.transfers.specs.Results.{settle_result}
 use Rattle.transfers.proofs.ResultLaws.{result_passed, supplied_none}

@@ -24,7 +24,8 @@ use Rattle.operations.specs.declared.operation.Operation.TheVariants.{Rewind, Fa
 use Rattle.operations.specs.declared.operation.Operation.TheVariants.{SearchForward, SearchReverse, WriteMark}
 use Rattle.operations.specs.declared.store.Store.{Store}
 use Rattle.operations.specs.Operation.{is_search, takes_mark}
-use Rattle.operations.specs.Answers.{forward_codes, reverse_codes, end_codes, supplied_codes, listed_codes, trailing_codes}
+use Rattle.operations.specs.Answers.{forward_codes, reverse_codes, end_codes, supplied_codes, listed_codes}
+use Rattle.operations.specs.Answers.{trailing_codes}
 use Rattle.operations.specs.Answers.{clear_codes, is_in, answer_of}
 use Rattle.operations.specs.Store.{held_count}
 use Rattle.link.specs.declared.state.Phase.{Phase}
@@ -46,7 +47,8 @@ use Rattle.controller.specs.declared.controller.Controller.{Controller}
 use Rattle.controller.specs.declared.controller.Reply.{Reply}
 use Rattle.controller.specs.Controller.{carried, refused}
 use Rattle.controller.specs.Records.{Answer, data_done, result_done}
-use Rattle.controller.specs.Machine.{byte_in, broken_in, tick_in, byte_call, broken_call, tick_call, taken_in, taken_call}
+use Rattle.controller.specs.Machine.{byte_in, broken_in, tick_in, byte_call, broken_call, tick_call, taken_in}
+use Rattle.controller.specs.Machine.{taken_call}
 use Rattle.controller.specs.Machine.{hand_in, hand_call, report_noted, report_call, reset_call, unchanged, data_for}
 use Rattle.controller.specs.Machine.{data_in, data_call, result_for, result_in, result_call, Call, step}
 use Rattle.controller.specs.Machine.Call.{byte, taken, broken, report, host_data, result, tick, reset, hand}
@@ -146,8 +148,8 @@ entry code clear listed all =
 
 not_listed : (operation : Operation) (code : ℕ)
     → eqb (answer_of operation code) 0 ≡ not (among code (codes_reported operation))
-unfolding answer_of clear_codes listed_codes codes_reported forward_codes codes_forward reverse_codes codes_reverse end_codes
-    codes_winding supplied_codes trailing_codes is_in
+unfolding answer_of clear_codes listed_codes codes_reported forward_codes codes_forward reverse_codes codes_reverse
+    end_codes codes_winding supplied_codes trailing_codes is_in
 not_listed Read code = entry code (clear_codes Read) (listed_codes Read) refl
 not_listed CheckBytes code = entry code (clear_codes CheckBytes) (listed_codes CheckBytes) refl
 not_listed SuppliedCount code = entry code (clear_codes SuppliedCount) (listed_codes SuppliedCount) refl
@@ -508,8 +510,8 @@ answer_or_1 false a c space check = refl
 
 module _ (c : Controller) where
   pub steps_refused_by_lowest : (call : Call) → RefusedByLowest c call (step c call)
-  unfolding step conditions_of own_conditions byte_call taken_call broken_call report_call data_call result_call tick_call
-      reset_call hand_call
+  unfolding step conditions_of own_conditions byte_call taken_call broken_call report_call data_call result_call
+      tick_call reset_call hand_call
   steps_refused_by_lowest (byte value) =
       damage_first c _ _ _ (byte_tells c c.body value c.phase) (reply_or_1 _ _ c)
   steps_refused_by_lowest taken = damage_first c _ _ _ (taken_tells c c.body c.phase) (reply_or_1 _ _ c)

@@ -31,11 +31,13 @@ use Rattle.link.proofs.PhaseLaws.{by_collecting, by_ack_offered, by_data_awaited
 use Rattle.link.specs.declared.state.Body.{Body}
 use Rattle.link.specs.declared.state.Action.{Action}
 use Rattle.link.specs.declared.state.Transition.{Transition}
-use Rattle.link.specs.State.{store_of, offered, nothing_collected, current_drive, review, idle, reset_state, when_collecting}
+use Rattle.link.specs.State.{store_of, offered, nothing_collected, current_drive, review, idle, reset_state}
+use Rattle.link.specs.State.{when_collecting}
 use Rattle.link.specs.State.{when_ack_offered}
 use Rattle.link.specs.Bytes.{ack, nack, load_lead, store_lead, most_noes}
 use Rattle.link.specs.Completion.{send_word, send_interrupt, complete}
-use Rattle.link.specs.Link.{whole_length, append_byte, load_xor, is_good_string, first_byte, last_byte, next_byte, yes_to_send}
+use Rattle.link.specs.Link.{whole_length, append_byte, load_xor, is_good_string, first_byte, last_byte, next_byte}
+use Rattle.link.specs.Link.{yes_to_send}
 use Rattle.link.specs.Link.{give_up, no_to_send, collect_byte, answer_to_send, tick_after_review, idle_tick}
 use Rattle.link.specs.Loads.{carry_out_load}
 use Rattle.link.specs.Damaged.{is_sound}
@@ -363,7 +365,8 @@ module _ (bytes : List ℕ) (b : Body) (phase : Phase) (before : Held bytes phas
 byte_in_lem : (bytes : List ℕ) (b : Body) (value : ℕ) (phase : Phase) → Held bytes phase
     → Goes bytes (stated b phase) (byte value) (byte_in (stated b phase) b value phase)
 unfolding byte_in ReceivedFor came_by Held
-byte_in_lem bytes b value (Collecting s) h = goes bytes b (Collecting s) h (byte value) _ tt (byte_held bytes b s value h)
+byte_in_lem bytes b value (Collecting s) h =
+    goes bytes b (Collecting s) h (byte value) _ tt (byte_held bytes b s value h)
 byte_in_lem bytes b value (AckOffered s) h = goes bytes b (AckOffered s) h (byte value) _ tt (idle_held _ b _)
 byte_in_lem bytes b value (Sending s) h = goes bytes b (Sending s) h (byte value) _ tt (answered_blank _ b value s)
 byte_in_lem bytes b value (GoOffered store) h = goes bytes b (GoOffered store) h (byte value) _ tt
@@ -382,7 +385,8 @@ broken_in_lem bytes b (AckOffered s) h = goes bytes b (AckOffered s) h broken _ 
 broken_in_lem bytes b (Sending s) h = goes bytes b (Sending s) h broken _ tt (given_up_blank _ b s.kind)
 broken_in_lem bytes b (GoOffered store) h = goes bytes b (GoOffered store) h broken _ tt (no_go_blank _ b store)
 broken_in_lem bytes b (DataAwaited store) h = refuses bytes b (DataAwaited store) h broken 2 refl
-broken_in_lem bytes b (ResultAwaited operation store) h = refuses bytes b (ResultAwaited operation store) h broken 2 refl
+broken_in_lem bytes b (ResultAwaited operation store) h =
+    refuses bytes b (ResultAwaited operation store) h broken 2 refl
 broken_in_lem bytes b (EndOffered interrupt) h = goes bytes b (EndOffered interrupt) h broken _ tt
     (completed_blank _ b interrupt)
 
@@ -443,8 +447,8 @@ module _ (bytes : List ℕ) (b : Body) where
         (λ some. refuses bytes b (ResultAwaited operation store) h (result r space check) _ some))
 
 each : (bytes : List ℕ) (c : Controller) (call : Call) → Held bytes c.phase → Goes bytes c call (step c call).reply
-unfolding step byte_call broken_call tick_call hand_call taken_call report_call reset_call data_call result_call reset_state
-    ReceivedFor came_by Held
+unfolding step byte_call broken_call tick_call hand_call taken_call report_call reset_call data_call result_call
+    reset_state ReceivedFor came_by Held
 each bytes c (byte value) h = sound bytes c.body c.phase h (byte value) _
     (byte_in_lem bytes c.body value c.phase h)
 each bytes c broken h = sound bytes c.body c.phase h broken _ (broken_in_lem bytes c.body c.phase h)

@@ -8,7 +8,7 @@ use mathlib.Core.List.{List, [], ◌∷◌}
 use lib.Dec.{eqb}
 use lib.ListN.{length}
 use Rattle.common.specs.Pick.{pick}
-use Rattle.common.proofs.PickLaws.{pick_by, pick_yes, pick_no}
+use Rattle.common.proofs.PickLaws.{pick_yes, pick_no}
 use Rattle.status.specs.declared.drives.Drive.{Drive}
 use Rattle.status.specs.declared.words.Outcome.{Outcome}
 use Rattle.status.specs.declared.words.ResultRecord.{ResultRecord}
@@ -17,7 +17,6 @@ use Rattle.operations.specs.declared.operation.Operation.{Operation}
 use Rattle.operations.specs.declared.decode.Decoded.{Decoded}
 use Rattle.operations.specs.declared.decode.Decoded.TheVariants.{Reset, Code, Track, Enable, Guard, Density, Operate}
 use Rattle.operations.specs.declared.store.Store.{Store}
-use Rattle.operations.specs.Operation.{offers_end}
 use Rattle.operations.specs.Codes.{illegal_drive, illegal_motion}
 use Rattle.operations.specs.Store.{asks_interrupt, names_drive, named_drive, names_unknown, asked_for, asked_in}
 use Rattle.operations.specs.Course.{course_of}
@@ -144,7 +143,8 @@ module _ (store : Store) where
   decoded_due b (Track track) = settled_due (with_current_drive b (with_track (current_drive b) track)) true refl
   decoded_due b (Enable enable) = settled_due (with_flags b b.changed enable) true refl
   decoded_due b (Guard guard) = settled_due (with_current_drive b (with_guard (current_drive b) guard)) true refl
-  decoded_due b (Density density) = settled_due (with_current_drive b (with_density (current_drive b) density)) true refl
+  decoded_due b (Density density) =
+      settled_due (with_current_drive b (with_density (current_drive b) density)) true refl
   decoded_due b (Operate operation) =
       by_test_of (λ (t : Transition). Due true (carried t) t.handed) b store operation (begun_due b operation)
       (coded_due b illegal_motion true refl)
@@ -174,7 +174,8 @@ module _ (store : Store) where
   unfolding carry_out resets_all names_unknown names_drive named_drive
   carried_due b =
       subst
-      (λ (t : Bool). Due (not (not (names_unknown store) && t)) (carried (carry_out b store)) (carry_out b store).handed)
+      (λ (t : Bool). Due (not (not (names_unknown store) && t)) (carried (carry_out b store))
+      (carry_out b store).handed)
       (reset_said store)
       (choose_due (names_unknown store) _ _ (coded_due (clear_outcome b) illegal_drive true refl)
       (selecting_due (clear_outcome b) _))

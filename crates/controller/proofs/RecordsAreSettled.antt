@@ -19,7 +19,8 @@ use Rattle.operations.specs.declared.operation.Operation.TheVariants.{Read, Chec
 use Rattle.operations.specs.declared.operation.Operation.TheVariants.{Rewind, FastForward, SkipForward, SkipReverse}
 use Rattle.operations.specs.declared.operation.Operation.TheVariants.{SearchForward, SearchReverse, WriteMark}
 use Rattle.operations.specs.declared.store.Store.{Store}
-use Rattle.operations.specs.Answers.{forward_codes, reverse_codes, end_codes, supplied_codes, listed_codes, trailing_codes}
+use Rattle.operations.specs.Answers.{forward_codes, reverse_codes, end_codes, supplied_codes, listed_codes}
+use Rattle.operations.specs.Answers.{trailing_codes}
 use Rattle.operations.specs.Answers.{clear_codes, is_in, answer_of}
 use Rattle.operations.specs.Store.{asked_for}
 use Rattle.link.specs.declared.state.Phase.{Phase}
@@ -255,7 +256,8 @@ writes_case b held host space check =
 -- ---- a result
 
 never_four : (operation : Operation) → eqb (answer_of operation 4) 0 ≡ true
-unfolding answer_of listed_codes forward_codes reverse_codes end_codes supplied_codes clear_codes trailing_codes is_in pick
+unfolding answer_of listed_codes forward_codes reverse_codes end_codes supplied_codes clear_codes trailing_codes is_in
+    pick
 never_four Read = refl
 never_four CheckBytes = refl
 never_four SuppliedCount = refl
@@ -289,8 +291,8 @@ module _ (b : Body) (operation : Operation) (held : Store) (r : Result) (space c
     (good : result_refusal (current_drive b) operation held r (length check) ≡ 0) where
   ended : HandsBy (stated b (ResultAwaited operation held))
       (exchanged (result r space check) (result_done b (current_drive b) operation held r space check))
-  unfolding result_done ledger_after ledger_call ledger_ended not_refused words_ended words_left retry_ended bits_ended InHand
-      HeldIn SettledBy pick
+  unfolding result_done ledger_after ledger_call ledger_ended not_refused words_ended words_left retry_ended bits_ended
+      InHand HeldIn SettledBy pick
   ended s kept before =
       let t = s.ledger.tape s.ledger.selected in
       let drive = current s.ledger b (ResultAwaited operation held) kept in

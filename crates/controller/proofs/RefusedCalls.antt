@@ -5,7 +5,7 @@ use Rattle.controller.specs.declared.controller.Controller.{Controller}
 use Rattle.controller.specs.Records.{data_done, result_done}
 use Rattle.controller.specs.Machine.{Call, Exchange, data_in, result_in, step}
 use Rattle.controller.specs.Refused.{RefusedUnchanged}
-use Rattle.controller.proofs.Steps.{exchanged, OfRefusals, OfData, OfResults, Kinds, data_for_lem, result_for_lem}
+use Rattle.controller.proofs.Steps.{OfRefusals, OfData, OfResults, Kinds, data_for_lem, result_for_lem}
 use Rattle.controller.proofs.Steps.{by_step}
 
 abbrev Unmoved : Controller → Exchange → Type 0

@@ -27,7 +27,8 @@ use Rattle.link.specs.declared.state.Transition.{Transition}
 use Rattle.link.specs.State.{current_drive, review, idle}
 use Rattle.link.specs.Completion.{send_word, send_interrupt, complete}
 use Rattle.link.specs.Damaged.{is_sound}
-use Rattle.transfers.specs.Results.{Result, result_refusal, findings_read, verdict_of, result_bits, with_retry, result_words}
+use Rattle.transfers.specs.Results.{Result, result_refusal, findings_read, verdict_of, result_bits, with_retry}
+use Rattle.transfers.specs.Results.{result_words}
 use Rattle.transfers.specs.Results.{settle_result}
 use Rattle.controller.specs.declared.controller.Controller.{Controller}
 use Rattle.controller.specs.Stores.{settle, end_operation}

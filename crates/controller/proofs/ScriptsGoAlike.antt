@@ -22,7 +22,8 @@ use Rattle.controller.proofs.GoesAlike.Phases.{ending}
 use Rattle.controller.proofs.AnyOrder.{start_alike, drive_same}
 
 module _ (script : Script) where
-  answers_alike : {d n m : ℕ} {k l : Bool} {p q : Phase} → Phases d n m k l p q → answer_in script p ≡ answer_in script q
+  answers_alike : {d n m : ℕ} {k l : Bool} {p q : Phase} → Phases d n m k l p q
+      → answer_in script p ≡ answer_in script q
   unfolding answer_in
   answers_alike (idling s t none nothing) = refl
   answers_alike (collecting s) = refl

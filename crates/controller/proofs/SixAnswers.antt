@@ -33,7 +33,8 @@ use Rattle.controller.specs.Controller.{is_idle_in, is_idle, refused}
 use Rattle.controller.specs.Stores.{settle, end_with, end_operation, order_move, begin, follow, carry_out_on, carry_out}
 use Rattle.controller.specs.Stores.{no_to_go, yes_to_go, answer_to_go}
 use Rattle.controller.specs.Records.{Answer, data_done, result_done}
-use Rattle.controller.specs.Machine.{byte_in, data_for, data_in, result_for, result_in, byte_call, data_call, result_call}
+use Rattle.controller.specs.Machine.{byte_in, data_for, data_in, result_for, result_in, byte_call, data_call}
+use Rattle.controller.specs.Machine.{result_call}
 use Rattle.controller.specs.Machine.{hand_call, unchanged, Call, Exchange, plain, step, run}
 use Rattle.controller.specs.Machine.Call.{hand}
 use Rattle.controller.specs.Lists.{not_refused, after}
@@ -170,8 +171,8 @@ accept_low b Change n most = any n
 module _ (script : Script) where
   answer_low : (b : Body) (phase : Phase) (n : ℕ) → rank phase ≤ suc n → suc n ≤ 6 → is_idle_in phase ≡ false
       → Low n (step (stated b phase) (answer_in script phase))
-  unfolding step byte_call data_call result_call byte_in data_in result_in answer_in answer_to_send answer_to_go yes_to_go no_to_go
-      data_for data_done result_for result_done end_operation order_move rank is_idle_in Low
+  unfolding step byte_call data_call result_call byte_in data_in result_in answer_in answer_to_send answer_to_go
+      yes_to_go no_to_go data_for data_done result_for result_done end_operation order_move rank is_idle_in Low
   answer_low b (Collecting s) n most few busy =
       let seven : 7 ≤ suc n = subst (λ (k : ℕ). k ≤ suc n) (pick_no 0 7 busy) most in
       λ none. never 7 6 (omega arith) (omega (arith, seven, few))

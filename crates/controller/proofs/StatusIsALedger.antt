@@ -35,7 +35,8 @@ use Rattle.link.specs.State.{store_of, offered, start_body, current_drive, reset
 use Rattle.link.specs.Bytes.{ack, nack, load_lead, store_lead, most_noes}
 use Rattle.link.specs.Damaged.{is_sound}
 use Rattle.link.specs.Completion.{send_word}
-use Rattle.link.specs.Link.{whole_length, append_byte, is_good_string, first_byte, last_byte, next_byte, yes_to_send, give_up}
+use Rattle.link.specs.Link.{whole_length, append_byte, is_good_string, first_byte, last_byte, next_byte, yes_to_send}
+use Rattle.link.specs.Link.{give_up}
 use Rattle.link.specs.Link.{no_to_send, collect_byte, answer_to_send, tick_after_review, idle_tick}
 use Rattle.link.specs.Loads.{carry_out_load}
 use Rattle.transfers.specs.declared.after.Words.{Words}
@@ -46,7 +47,8 @@ use Rattle.controller.specs.declared.controller.Reply.{Reply}
 use Rattle.controller.specs.Controller.{fresh, refused}
 use Rattle.controller.specs.Stores.{settle, end_operation, order_move, carry_out, yes_to_go, no_to_go}
 use Rattle.controller.specs.Records.{words_of, with_after, data_done, result_done}
-use Rattle.controller.specs.Machine.{byte_in, broken_in, tick_in, taken_in, byte_call, broken_call, tick_call, taken_call}
+use Rattle.controller.specs.Machine.{byte_in, broken_in, tick_in, taken_in, byte_call, broken_call, tick_call}
+use Rattle.controller.specs.Machine.{taken_call}
 use Rattle.controller.specs.Machine.{carry_out_string, data_in, result_in, Call, Exchange, step, run}
 use Rattle.controller.specs.Machine.Call.{byte, broken, host_data, result, tick}
 use Rattle.controller.specs.Lists.{not_refused, holds_store, after}
@@ -282,7 +284,8 @@ reports_case c n r within still s kept before =
     record { words = before.words; go = before.go; held = before.held }
 
 yes_case : OfYes ShownBy
-unfolding shown_after words_call words_answered go_call says_no ledger_after ledger_call not_refused yes_to_go HeldIn pick
+unfolding shown_after words_call words_answered go_call says_no ledger_after ledger_call not_refused yes_to_go HeldIn
+    pick
 yes_case b held value accepts still s kept before =
     record {
       words =
@@ -341,8 +344,8 @@ written :
     (b : Body) (held : Store) (host : Host) (space check : List ℕ)
     → ShownBy (stated b (DataAwaited held))
     (exchanged (host_data host space check) (data_done b (current_drive b) held host space check))
-unfolding data_done settle_data data_words order_move shown_after words_call go_call ledger_after ledger_call not_refused HeldIn
-    pick
+unfolding data_done settle_data data_words order_move shown_after words_call go_call ledger_after ledger_call
+    not_refused HeldIn pick
 written b held host space check still s kept before =
     let same = current s.ledger b (DataAwaited held) kept in
     record {
@@ -375,7 +378,8 @@ module _ (b : Body) (operation : Operation) (held : Store) (r : Result) (space c
       (w : Words) (t : Tape) (store : Store) → asked_for store ≡ Operate operation
       → words_left w t (order_byte operation) (count_asked store)
       (final_left (order_byte operation) (count_asked store) t.report r)
-      (motion_of (move_of operation) (final_left (order_byte operation) (count_asked store) t.report r)) r (length space)
+      (motion_of (move_of operation) (final_left (order_byte operation) (count_asked store) t.report r))
+      r (length space)
       ≡ words_ended w t store r (length space)
   unfolding words_ended
   by_order w t store asks =
@@ -435,7 +439,8 @@ results_case b operation held r space check =
     (λ good. ended b operation held r space check good)
 
 resets_case : OfResets ShownBy
-unfolding reset_state start_body no_outcome shown_after words_call go_call ledger_after ledger_call not_refused HeldIn pick
+unfolding reset_state start_body no_outcome shown_after words_call go_call ledger_after ledger_call not_refused HeldIn
+    pick
 resets_case c still s kept before = record { words = refl; go = refl; held = tt }
 
 -- ---- every call, and every list

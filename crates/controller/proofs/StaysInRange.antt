@@ -364,8 +364,8 @@ module _ (c : Controller) (fine : InRange c) where
       }
 
   pub stays_in_range : (call : Call) → BytesIn call → AnswerInRange call (step c call)
-  unfolding step byte_call broken_call tick_call taken_call hand_call report_call reset_call data_call result_call BytesIn
-      lent_space
+  unfolding step byte_call broken_call tick_call taken_call hand_call report_call reset_call data_call result_call
+      BytesIn lent_space
   stays_in_range (byte value) low =
       plainly _ _ (passes Kept _ _ (byte_kept c.body fine.body value c.phase low fine.phase))
   stays_in_range taken none = plainly _ _ (passes Kept _ _ (taken_kept c.body fine.body c.phase fine.phase))

@@ -216,7 +216,8 @@ module _ (P : Claim) (kinds : Kinds P) where
         (eqb value ack) (λ yes. kinds.yes b held value yes)
         (λ no. kinds.no b held (byte value) (byte_refused value no))
     byte_in_lem value (DataAwaited held) = refuses (stated b (DataAwaited held)) _ 2 refl refl refl
-    byte_in_lem value (ResultAwaited operation held) = refuses (stated b (ResultAwaited operation held)) _ 2 refl refl refl
+    byte_in_lem value (ResultAwaited operation held) =
+        refuses (stated b (ResultAwaited operation held)) _ 2 refl refl refl
     byte_in_lem value (EndOffered interrupt) =
         kinds.link (stated b (EndOffered interrupt)) _ _ (byte_came value) tt (completed_rests b interrupt)
         (λ held. completed_strings b interrupt) (completed_unhanded b interrupt)
@@ -272,10 +273,12 @@ module _ (P : Claim) (kinds : Kinds P) where
 
     data_in_lem :
         (host : Host) (space check : List ℕ) (phase : Phase)
-        → P (stated b phase) (exchanged (host_data host space check) (data_in (stated b phase) b host space check phase))
+        → P (stated b phase)
+        (exchanged (host_data host space check) (data_in (stated b phase) b host space check phase))
     unfolding lent_space lent_check data_in
     data_in_lem host space check =
-        by_data_awaited (λ (phase : Phase) (a : Answer). P (stated b phase) (exchanged (host_data host space check) a)) _
+        by_data_awaited (λ (phase : Phase) (a : Answer). P (stated b phase) (exchanged (host_data host space check) a))
+        _
         (λ phase. kinds.refusals (stated b phase) (host_data host space check) 3 space check refl refl refl) _
         (λ held. kinds.writes b held host space check)
 
@@ -308,8 +311,8 @@ module _ (P : Claim) (kinds : Kinds P) where
         (λ few. let below = leb-false 4 n few in kinds.reports c n r (omega arith))
 
     pub by_step : (call : Call) → P c (exchanged call (step c call))
-    unfolding lent_space lent_check step byte_call broken_call tick_call hand_call taken_call report_call reset_call data_call
-        result_call
+    unfolding lent_space lent_check step byte_call broken_call tick_call hand_call taken_call report_call reset_call
+        data_call result_call
     by_step (byte value) = by_soundness (byte value) _ refl refl (byte_in_lem c.body value c.phase)
     by_step broken = by_soundness broken _ refl refl (broken_in_lem c.body c.phase)
     by_step tick = by_soundness tick _ refl refl (tick_in_lem c.body c.phase)

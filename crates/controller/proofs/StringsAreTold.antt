@@ -106,9 +106,10 @@ module _ (f : Wire) (bytes : List ℕ) (l later : Ledger) (w : Words) where
 
   module _ (b : Body) where
     -- a byte and a broken link, by what waits for an answer
-    byte_in_lem : (value : ℕ) (phase : Phase) → Goes (stated b phase) (byte value) (byte_in (stated b phase) b value phase)
-    unfolding byte_in answer_to_go yes_to_go no_to_go wire_call byte_comes awaited_in strings_of asks_interrupt HeldIn HeldChecks
-        AllCheck
+    byte_in_lem : (value : ℕ) (phase : Phase)
+        → Goes (stated b phase) (byte value) (byte_in (stated b phase) b value phase)
+    unfolding byte_in answer_to_go yes_to_go no_to_go wire_call byte_comes awaited_in strings_of asks_interrupt HeldIn
+        HeldChecks AllCheck
     byte_in_lem value (Collecting s) =
         goes (stated b (Collecting s)) (byte value) (collect_byte b s value)
         (λ before received.
@@ -301,7 +302,8 @@ module _ (f : Wire) (bytes : List ℕ) (l later : Ledger) (w : Words) where
       })
 
   each : (c : Controller) (call : Call) → Goes c call (step c call).reply
-  unfolding step byte_call broken_call tick_call hand_call taken_call report_call reset_call data_call result_call wire_call
+  unfolding step byte_call broken_call tick_call hand_call taken_call report_call reset_call data_call result_call
+      wire_call
   each c (byte value) = sound c (byte value) _ (byte_in_lem c.body value c.phase)
   each c broken = sound c broken _ (broken_in_lem c.body c.phase)
   each c tick = sound c tick _ (tick_in_lem c.body c.phase)

@@ -182,7 +182,7 @@ all_rest c (scheduled ∷ scripts) = (
       (pauses c.body here.string here.empty
       (both_hold (sound_body c.body) (sound_phase c.phase) sound).0))
       (λ no. nothing_more c is sound),
-  all_rest _ scripts,
+  all_rest (after_entry c (entry_of scheduled)) scripts,
 )
 
 pub all_done : (c : Controller) (scripts : List Scheduled) → is_idle c ≡ true → Sound c → AllScriptsDone c scripts
@@ -210,7 +210,8 @@ unfolding own_transactions entries_of own_scripts transactions_of pick
 own_transactions_lem d [] = refl
 own_transactions_lem d (scheduled ∷ scripts) =
     by_test (eqb (named_drive scheduled.script.store) d)
-    (λ own. rw own (ap (λ (l : List Transaction). transaction_of scheduled.script ∷ l) (own_transactions_lem d scripts)))
+    (λ own.
+    rw own (ap (λ (l : List Transaction). transaction_of scheduled.script ∷ l) (own_transactions_lem d scripts)))
     (λ other. rw other (own_transactions_lem d scripts))
 
 pub scripts_in_any_order : (c : Controller) (scripts others : List Scheduled) → ScriptsInAnyOrder c scripts others
@@ -241,7 +242,8 @@ nothing_after : (c : Controller) → after_calls c [] ≡ c
 unfolding run after
 nothing_after c = refl
 
-pub all_calls_after : (c : Controller) (entries : List Entry) → after_calls c (all_calls c entries) ≡ after_all c entries
+pub all_calls_after : (c : Controller) (entries : List Entry)
+    → after_calls c (all_calls c entries) ≡ after_all c entries
 unfolding all_calls after_all
 all_calls_after c [] = nothing_after c
 all_calls_after c (entry ∷ entries) =

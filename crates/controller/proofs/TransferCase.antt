@@ -18,7 +18,8 @@ use Rattle.operations.specs.declared.store.Store.{Store}
 use Rattle.operations.specs.Operation.{is_search, takes_mark}
 use Rattle.operations.specs.Decode.{read_of, decode_of, in_density}
 use Rattle.operations.specs.Test.{may_move}
-use Rattle.operations.specs.Answers.{forward_codes, end_codes, listed_codes, trailing_codes, clear_codes, is_in, answer_of}
+use Rattle.operations.specs.Answers.{forward_codes, end_codes, listed_codes, trailing_codes, clear_codes, is_in}
+use Rattle.operations.specs.Answers.{answer_of}
 use Rattle.operations.specs.Store.{names_drive, named_drive, names_unknown, selected_by, asked_for}
 use Rattle.operations.specs.Course.{test_of, course_of}
 use Rattle.link.specs.State.{start_body}
@@ -61,14 +62,14 @@ abbrev awaiting : Controller
 awaiting = (step (step fresh (report 0 0x22)).reply.controller (hand store)).reply.controller
 
 pub five_bytes_are_read : Delivered five (replicate 7 9) 5 0 (step awaiting its)
-unfolding pick legal_marks unrotated count_of has_blockettes image_length mark_count layout_refusal whole_refusal reports
-    drive_of with_drive with_report fresh_drives no_outcome is_search takes_mark read_of decode_of in_density may_move forward_codes
-    end_codes listed_codes trailing_codes clear_codes is_in answer_of names_drive named_drive names_unknown selected_by asked_for
-    test_of course_of start_body sound_drive sound_drives sound_body sound_part sound_phase is_sound whole_code expected_whole
-    expected_of image_refusal mark_against result_refusal fresh past_test order_move begin follow clear_outcome carry_out_on
-    carry_out result_done hand_in hand_call report_call result_for result_in result_call step run not_refused entered
-    tape_reported tape_stored ledger_stored ledger_carried ledger_call ledger_after EachFrom count_on_tape body_on_tape
-    image_on_tape
+unfolding pick legal_marks unrotated count_of has_blockettes image_length mark_count layout_refusal whole_refusal
+    reports drive_of with_drive with_report fresh_drives no_outcome is_search takes_mark read_of decode_of in_density
+    may_move forward_codes end_codes listed_codes trailing_codes clear_codes is_in answer_of names_drive named_drive
+    names_unknown selected_by asked_for test_of course_of start_body sound_drive sound_drives sound_body sound_part
+    sound_phase is_sound whole_code expected_whole expected_of image_refusal mark_against result_refusal fresh past_test
+    order_move begin follow clear_outcome carry_out_on carry_out result_done hand_in hand_call report_call result_for
+    result_in result_call step run not_refused entered tape_reported tape_stored ledger_stored ledger_carried
+    ledger_call ledger_after EachFrom count_on_tape body_on_tape image_on_tape
 five_bytes_are_read =
     (((reads_deliver calls).1.1.0 refl).read refl refl).held refl five (omega arith) refl
     (λ place bad. omega (arith, bad.0))

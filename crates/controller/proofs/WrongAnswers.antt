@@ -7,7 +7,7 @@ use mathlib.Core.List.{List}
 use Prim.Native.Nat.{ℕ, ◌+◌, ◌≤◌, ◌<◌}
 use native.Mathlib.Omega.{arith}
 use lib.Dec.{leb, ltb, eqb}
-use lib.ListN.{length, length-take}
+use lib.ListN.{length}
 use borrow.Author.Tests.{eqb-false, eqb-true, ne_eqb, not-false, le-leb, le-ltb, leb-false}
 use Rattle.common.specs.Pick.{pick}
 use Rattle.common.proofs.PickLaws.{pick_by, not_refused_lem}
@@ -28,8 +28,10 @@ use Rattle.operations.specs.Store.{supplied_count}
 use Rattle.records.specs.Place.{is_place}
 use Rattle.records.proofs.ImageLaws.{image_length_lem, image_holds}
 use Rattle.records.proofs.PlaceLaws.{written_length}
-use Rattle.transfers.specs.Data.{Host, record_bytes, data_refusal, needed_bytes, bad_byte, runs_short, data_words, settle_data}
-use Rattle.transfers.specs.Results.{result_of, result_refusal, is_gone, marks_read, code_reported, final_code, verdict_of}
+use Rattle.transfers.specs.Data.{Host, record_bytes, data_refusal, needed_bytes, bad_byte, runs_short, data_words}
+use Rattle.transfers.specs.Data.{settle_data}
+use Rattle.transfers.specs.Results.{result_of, result_refusal, is_gone, marks_read, code_reported, final_code}
+use Rattle.transfers.specs.Results.{verdict_of}
 use Rattle.transfers.specs.Results.{wrote_well, result_bits, with_retry, result_words, settle_result}
 use Rattle.link.specs.declared.state.Collected.{Collected}
 use Rattle.link.specs.declared.state.Kind.{Kind}
@@ -46,7 +48,8 @@ use Rattle.link.proofs.PhaseLaws.{each_phase}
 use Rattle.link.specs.State.{when_ack_offered, store_of, start_body, reset_state, review, idle}
 use Rattle.link.specs.Bytes.{ack, nack, load_lead, store_lead}
 use Rattle.link.specs.Completion.{send_word, send_interrupt, complete}
-use Rattle.link.specs.Link.{whole_length, append_byte, is_good_string, first_byte, last_byte, next_byte, give_up, collect_byte}
+use Rattle.link.specs.Link.{whole_length, append_byte, is_good_string, first_byte, last_byte, next_byte, give_up}
+use Rattle.link.specs.Link.{collect_byte}
 use Rattle.link.specs.Link.{tick_after_review, idle_tick}
 use Rattle.link.specs.Damaged.{is_sound}
 use Rattle.controller.specs.declared.controller.Controller.{Controller}
@@ -55,7 +58,7 @@ use Rattle.controller.specs.Controller.{fresh}
 use Rattle.controller.specs.Stores.{settle, end_with, order_move, end_operation, carry_out}
 use Rattle.controller.specs.Records.{Answer, data_done, result_done}
 use Rattle.controller.specs.Machine.{byte_in, broken_in, tick_in, hand_in, byte_call, broken_call, tick_call, hand_call}
-use Rattle.controller.specs.Machine.{carry_out_string, taken_in, taken_call, report_noted, report_call, reset_call}
+use Rattle.controller.specs.Machine.{carry_out_string, taken_in, taken_call, report_call, reset_call}
 use Rattle.controller.specs.Machine.{data_for, data_in, data_call, result_for, result_in, result_call, Call, step}
 use Rattle.controller.specs.Machine.Call.{byte, taken, broken, report, host_data, result, tick, reset, hand}
 use Rattle.controller.proofs.controller.fresh_controller.Reads as fresh-reads
@@ -97,7 +100,8 @@ unfolding step byte_call byte_in collect_byte first_byte pick
 byte_nack_to_a_load b s empty =
     excluded _ _ _
     (pick_by (λ (r : Reply). r.action ≡ Byte nack → ⊥) (is_sound b (Collecting s))
-    (λ sane. subst (λ (n : ℕ). (pick (eqb n 0) (first_byte b s load_lead) (next_byte b s load_lead)).action ≡ Byte nack → ⊥)
+    (λ sane. subst (λ (n : ℕ). (pick (eqb n 0) (first_byte b s load_lead) (next_byte b s load_lead)).action ≡ Byte nack
+    → ⊥)
     (sym empty) (another refl))
     (λ hurt. another refl))
 

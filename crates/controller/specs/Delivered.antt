@@ -2,7 +2,8 @@
 -- in the papers' own words and numbers. The last store carried out, and the drive's report and density, are those of
 -- the ledger. Over every list of calls from Fresh.
 -- Assumes nothing.
-use Rattle.std.specs.Prelude.{◌≡◌, ℕ, ◌+◌, ◌*◌, ◌/◌, ◌%◌, ◌≤◌, min, true, List, [], ◌∷◌, ◌++◌, ltb, length, take, drop, replicate}
+use Rattle.std.specs.Prelude.{◌≡◌, ℕ, ◌+◌, ◌*◌, ◌/◌, ◌%◌, ◌≤◌, min, true, List, [], ◌∷◌, ◌++◌, ltb, length, take, drop}
+use Rattle.std.specs.Prelude.{replicate}
 use Rattle.operations.specs.declared.store.Store.{Store}
 use Rattle.status.specs.declared.words.Outcome.{Outcome}
 use Rattle.transfers.specs.Results.{Result}

@@ -4,9 +4,11 @@
 -- was before (document 02, request 3: "Raise the limit to 65,535, for write stores, supplied counts, a held count,
 -- images"). All else is the machine's.
 -- Assumes nothing.
-use Rattle.std.specs.Prelude.{◌≡◌, ℕ, ◌+◌, ◌*◌, ◌/◌, ◌%◌, ◌≤◌, ◌<◌, Bool, true, false, not, ◌&&◌, ◌||◌, List, leb, ltb, eqb, length, get_or}
+use Rattle.std.specs.Prelude.{◌≡◌, ℕ, ◌+◌, ◌*◌, ◌/◌, ◌%◌, ◌≤◌, ◌<◌, Bool, true, false, not, ◌&&◌, ◌||◌, List, leb, ltb}
+use Rattle.std.specs.Prelude.{eqb, length, get_or}
 use Rattle.common.specs.Pick.{pick}
-use Rattle.common.specs.Refusals.{done, state_damaged, link_not_awaited, transfer_not_awaited, not_idle, check_store_length}
+use Rattle.common.specs.Refusals.{done, state_damaged, link_not_awaited, transfer_not_awaited, not_idle}
+use Rattle.common.specs.Refusals.{check_store_length}
 use Rattle.common.specs.Refusals.{code_not_listed, flags_against_rule}
 use Rattle.records.specs.Count.{count_of}
 use Rattle.records.specs.Whole.{layout_refusal}
@@ -31,7 +33,8 @@ use Rattle.link.specs.declared.state.Transition.{Transition}
 use Rattle.link.specs.Bytes.{load_lead}
 use Rattle.link.specs.Damaged.{is_sound}
 use Rattle.link.specs.Loads.{carry_out_load}
-use Rattle.link.specs.State.{store_of, current_drive, with_selected, when_collecting, when_ack_offered, when_result_awaited}
+use Rattle.link.specs.State.{store_of, current_drive, with_selected, when_collecting, when_ack_offered}
+use Rattle.link.specs.State.{when_result_awaited}
 use Rattle.transfers.specs.declared.expected.Expected.{Expected}
 use Rattle.transfers.specs.declared.expected.Expected.TheVariants.{Whole, Supplied, Count, Nothing}
 use Rattle.transfers.specs.Data.{check_store}

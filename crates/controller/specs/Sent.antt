@@ -4,7 +4,8 @@
 -- the list shows. No definition of the machine says here when a string goes out or what it says. Over every list of
 -- calls from Fresh.
 -- Assumes nothing.
-use Rattle.std.specs.Prelude.{◌≡◌, ℕ, ◌+◌, ◌*◌, ◌/◌, ◌%◌, Bool, true, false, not, ◌&&◌, ◌||◌, List, [], ◌∷◌, ◌++◌, leb, eqb}
+use Rattle.std.specs.Prelude.{◌≡◌, ℕ, ◌+◌, ◌*◌, ◌/◌, ◌%◌, Bool, true, false, not, ◌&&◌, ◌||◌, List, [], ◌∷◌, ◌++◌, leb}
+use Rattle.std.specs.Prelude.{eqb}
 use Rattle.std.specs.Int.Bits.{bit_xor}
 use Rattle.common.specs.Pick.{pick}
 use Rattle.operations.specs.declared.store.Store.{Store}
@@ -168,7 +169,8 @@ asks store = leb 128 store.address
 
 -- "An idle tick (nothing collected) reviews; with changed and enable set it sends primary as an interrupt"
 unfoldable pub ticks : Wire → Ledger → Words → Wire
-ticks f l w = pick ((reviewed f l).changed && (reviewed f l).enable) (interrupts (reviewed f l) l w Change) (reviewed f l)
+ticks f l w =
+    pick ((reviewed f l).changed && (reviewed f l).enable) (interrupts (reviewed f l) l w Change) (reviewed f l)
 
 -- a load's reply, #66; "6, 7 no reply, review."
 unfoldable pub replies : Wire → Ledger → Words → ℕ → Wire
@@ -300,7 +302,8 @@ followed_by before x = before ++ (x ∷ [])
 -- after one call more, by what the list gave before it and gives with it
 unfoldable pub wire_next : Wire → List Exchange → Exchange → Wire
 wire_next f before x =
-    wire_after f (came_from [] before) (ledger before).store (ledger (followed_by before x)) (shown (followed_by before x))
+    wire_after f (came_from [] before) (ledger before).store (ledger (followed_by before x))
+    (shown (followed_by before x))
     (after fresh before) x
 
 -- after the calls of a list that follow these

@@ -6,7 +6,7 @@ use link::body::start_body;
 use link::state::{Action, Body, Handed, Phase, Transition, nothing_collected};
 use status::drives::fresh_drives;
 
-#[derive(Drop)]
+#[derive(Clone, Copy)]
 pub struct Controller {
     pub body: Body,
     pub phase: Phase,
@@ -14,7 +14,7 @@ pub struct Controller {
 
 // What a call hands back. The refusal is document 01's number, 0 where the call is carried out; the record is that of a
 // store whose code the call settled.
-#[derive(Drop)]
+#[derive(Clone, Copy)]
 pub struct Reply {
     pub controller: Controller,
     pub action: Action,
@@ -24,13 +24,14 @@ pub struct Reply {
 
 // What a data or result call hands back: the reply, and how many bytes of the lent space it gives (the image's, or
 // those delivered).
-#[derive(Drop)]
+#[derive(Clone, Copy)]
 pub struct Transfer {
     pub reply: Reply,
     pub bytes: usize,
 }
 
 // A fresh controller.
+#[tactic(auto, unfolding(crate::specs::Controller::fresh))]
 pub fn fresh_controller() -> Controller
     ensures { result ≡ fresh }
 {
@@ -43,6 +44,7 @@ pub fn fresh_controller() -> Controller
 }
 
 // Whether nothing is collected, and nothing offered, sent or awaited either.
+#[tactic(auto, unfolding(crate::specs::Controller::is_idle_in))]
 pub fn is_idle(c: Controller) -> bool
     ensures { result ≡ is_idle c }
 {

@@ -27,6 +27,7 @@ pub fn is_damaged(c: Controller) -> bool
 }
 
 // The string whose ACK is taken is carried out: a load or a store, by its lead.
+#[tactic(auto, unfolding(crate::specs::Machine::carry_out_string, common::specs::Pick::pick))]
 fn carry_out_string(b: Body, s: Collected) -> Transition
     ensures { result ≡ carry_out_string b s }
 {
@@ -39,6 +40,7 @@ fn carry_out_string(b: Body, s: Collected) -> Transition
 
 impl Controller {
     // A byte from the host.
+    #[tactic(auto, using(link::proofs::SoundLaws::collecting_short, link::proofs::SoundLaws::noes_few, crate::proofs::DamageLaws::damaged, crate::proofs::DamageLaws::undamaged), unfolding(crate::specs::Machine::byte_in, crate::specs::Machine::byte_call, common::specs::Pick::pick))]
     pub fn byte(self, byte: u8) -> Reply
         ensures { result ≡ byte_call self byte }
     {
@@ -61,6 +63,7 @@ impl Controller {
     }
 
     // The link is broken.
+    #[tactic(auto, using(crate::proofs::DamageLaws::damaged, crate::proofs::DamageLaws::undamaged), unfolding(crate::specs::Machine::broken_in, crate::specs::Machine::broken_call, common::specs::Pick::pick))]
     pub fn broken(self) -> Reply
         ensures { result ≡ broken_call self }
     {
@@ -85,6 +88,7 @@ impl Controller {
     }
 
     // A tick, while idle.
+    #[tactic(auto, using(crate::proofs::DamageLaws::damaged, crate::proofs::DamageLaws::undamaged, crate::proofs::IdleLaws::tick_by_idle), unfolding(crate::specs::Machine::tick_call, common::specs::Pick::pick))]
     pub fn tick(self) -> Reply
         ensures { result ≡ tick_call self }
     {
@@ -99,6 +103,7 @@ impl Controller {
     }
 
     // A store is handed over, while idle, and carried out.
+    #[tactic(auto, using(crate::proofs::DamageLaws::damaged, crate::proofs::DamageLaws::undamaged, crate::proofs::IdleLaws::hand_by_idle), unfolding(crate::specs::Machine::hand_call, common::specs::Pick::pick))]
     pub fn hand(self, store: Store) -> Reply
         ensures { result ≡ hand_call self store }
     {
@@ -112,6 +117,7 @@ impl Controller {
     }
 
     // The ACK that was offered is taken.
+    #[tactic(auto, using(crate::proofs::DamageLaws::damaged, crate::proofs::DamageLaws::undamaged), unfolding(crate::specs::Machine::taken_in, crate::specs::Machine::taken_call, common::specs::Pick::pick))]
     pub fn taken(self) -> Reply
         ensures { result ≡ taken_call self }
     {
@@ -126,6 +132,7 @@ impl Controller {
     }
 
     // A drive reports.
+    #[tactic(auto, using(crate::proofs::DamageLaws::damaged, crate::proofs::DamageLaws::undamaged), unfolding(crate::specs::Machine::report_call, common::specs::Pick::pick))]
     pub fn report(self, drive: u8, report: u8) -> Reply
         ensures { result ≡ report_call self drive report }
     {
@@ -140,6 +147,7 @@ impl Controller {
     }
 
     // A reset.
+    #[tactic(auto, using(crate::proofs::DamageLaws::damaged, crate::proofs::DamageLaws::undamaged), unfolding(crate::specs::Machine::reset_call, common::specs::Pick::pick))]
     pub fn reset(self) -> Reply
         ensures { result ≡ reset_call self }
     {

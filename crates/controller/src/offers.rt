@@ -23,6 +23,7 @@ pub fn offer_end(b: Body, store: Store) -> Transition
 }
 
 // GO is answered by a no: EOR is offered.
+#[tactic(auto, unfolding(crate::specs::Stores::no_to_go))]
 pub fn no_to_go(mut b: Body, store: Store) -> Transition
     ensures { result ≡ no_to_go b store }
 {
@@ -32,6 +33,7 @@ pub fn no_to_go(mut b: Body, store: Store) -> Transition
 }
 
 // GO is answered by a yes: the data call is awaited.
+#[tactic(auto, unfolding(crate::specs::Stores::yes_to_go))]
 fn yes_to_go(b: Body, store: Store) -> Transition
     ensures { result ≡ yes_to_go b store }
 {
@@ -44,6 +46,7 @@ fn yes_to_go(b: Body, store: Store) -> Transition
 }
 
 // A byte that answers GO.
+#[tactic(auto, unfolding(crate::specs::Stores::answer_to_go, common::specs::Pick::pick))]
 pub fn answer_to_go(b: Body, byte: u8, store: Store) -> Transition
     ensures { result ≡ answer_to_go b byte store }
 {

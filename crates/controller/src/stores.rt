@@ -35,6 +35,7 @@ fn hand_back(transition: Transition, res: ResultRecord) -> Transition
 }
 
 // The store is done: its record is handed back, and it is completed.
+#[tactic(auto, unfolding(crate::specs::Stores::settle))]
 fn settle(b: Body, store: Store) -> Transition
     ensures { result ≡ settle b store }
 {
@@ -43,6 +44,7 @@ fn settle(b: Body, store: Store) -> Transition
 }
 
 // A code ends the store.
+#[tactic(auto, unfolding(crate::specs::Stores::end_with))]
 fn end_with(mut b: Body, store: Store, code: u8) -> Transition
     ensures { result ≡ end_with b store code }
 {
@@ -52,6 +54,7 @@ fn end_with(mut b: Body, store: Store, code: u8) -> Transition
 }
 
 // The end of an operation with a result: EOR is offered, or the store is completed at once.
+#[tactic(auto, unfolding(crate::specs::Stores::end_operation, common::specs::Pick::pick))]
 pub fn end_operation(b: Body, operation: Operation, store: Store) -> Transition
     ensures { result ≡ end_operation b operation store }
 {
@@ -62,6 +65,7 @@ pub fn end_operation(b: Body, operation: Operation, store: Store) -> Transition
 }
 
 // The order of an operation for the selected drive.
+#[tactic(auto, unfolding(crate::specs::Stores::motion_order))]
 fn motion_order(b: Body, operation: Operation, store: Store) -> Frame
     ensures { result ≡ motion_order b operation store }
 {
@@ -78,6 +82,7 @@ fn motion_order(b: Body, operation: Operation, store: Store) -> Frame
 }
 
 // The move is ordered, and its result awaited.
+#[tactic(auto, unfolding(crate::specs::Stores::order_move))]
 pub fn order_move(b: Body, operation: Operation, store: Store) -> Transition
     ensures { result ≡ order_move b operation store }
 {
@@ -115,6 +120,7 @@ fn await_check_bytes(b: Body, store: Store) -> Transition
 }
 
 // Secondary is set to 0 for a read, a skip and a write.
+#[tactic(auto, unfolding(crate::specs::Stores::past_test, common::specs::Pick::pick))]
 fn past_test(mut b: Body, operation: Operation) -> Body
     ensures { result ≡ past_test b operation }
 {
@@ -126,6 +132,7 @@ fn past_test(mut b: Body, operation: Operation) -> Body
 }
 
 // An operation begins.
+#[tactic(auto, unfolding(crate::specs::Stores::begin, common::specs::Pick::pick))]
 fn begin(b: Body, operation: Operation, store: Store) -> Transition
     ensures { result ≡ begin b operation store }
 {
@@ -138,6 +145,7 @@ fn begin(b: Body, operation: Operation, store: Store) -> Transition
 }
 
 // A store's course is followed.
+#[tactic(auto, unfolding(crate::specs::Stores::follow))]
 fn follow(b: Body, store: Store, course: Course) -> Transition
     ensures { result ≡ follow b store course }
 {
@@ -151,6 +159,7 @@ fn follow(b: Body, store: Store, course: Course) -> Transition
 }
 
 // Bits 2 and 8-22 of primary cleared; secondary stays.
+#[tactic(auto, unfolding(crate::specs::Stores::clear_outcome))]
 fn clear_outcome(mut b: Body) -> Body
     ensures { result ≡ clear_outcome b }
 {
@@ -160,6 +169,7 @@ fn clear_outcome(mut b: Body) -> Body
 }
 
 // A store that selects this drive.
+#[tactic(auto, unfolding(crate::specs::Stores::carry_out_on))]
 fn carry_out_on(mut b: Body, store: Store, selected: u8) -> Transition
     ensures { result ≡ carry_out_on b store selected }
 {
@@ -171,6 +181,7 @@ fn carry_out_on(mut b: Body, store: Store, selected: u8) -> Transition
 }
 
 // A store is carried out.
+#[tactic(auto, unfolding(crate::specs::Stores::carry_out, common::specs::Pick::pick))]
 pub fn carry_out(b: Body, store: Store) -> Transition
     ensures { result ≡ carry_out b store }
 {

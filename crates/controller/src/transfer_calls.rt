@@ -59,6 +59,7 @@ fn with_after(b: Body, after: After) -> Body
 }
 
 // The data call, carried out.
+#[tactic(auto, using(crate::proofs::AnswerLaws::answer_alike), unfolding(crate::specs::Records::data_done))]
 fn data_done(
     b: Body,
     drive: Drive,
@@ -83,6 +84,7 @@ fn data_done(
 }
 
 // The result, carried out.
+#[tactic(auto, using(crate::proofs::AnswerLaws::answer_alike), unfolding(crate::specs::Records::result_done))]
 fn result_done(
     b: Body,
     drive: Drive,
@@ -122,6 +124,7 @@ fn refused_transfer(number: u32, c: Controller) -> Transfer
 impl Controller {
     // The host's bytes for a write, and the place of the one that came with bad parity, or NO_PLACE. The image stands
     // at the start of the space afterwards.
+    #[tactic(auto, using(crate::proofs::DamageLaws::damaged, crate::proofs::DamageLaws::undamaged), unfolding(crate::specs::Machine::data_in, crate::specs::Machine::data_call, common::specs::Pick::pick, crate::specs::Machine::data_for))]
     pub fn data(self, host: &[u8], place: usize, space: &mut [u8], check: &mut [u8]) -> Transfer
         ensures { answered result space.new check.new
             ≡ data_call self (host_of host.now place) space.old check.old }
@@ -142,6 +145,7 @@ impl Controller {
     }
 
     // What came of an operation. The bytes that are delivered stand at the start of the host space afterwards.
+    #[tactic(auto, using(crate::proofs::DamageLaws::damaged, crate::proofs::DamageLaws::undamaged), unfolding(crate::specs::Machine::result_in, crate::specs::Machine::result_call, common::specs::Pick::pick, crate::specs::Machine::result_for))]
     pub fn result(
         self,
         code: u8,

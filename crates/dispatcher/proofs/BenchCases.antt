@@ -30,7 +30,8 @@ use Rattle.controller.specs.Stores.{carry_out_on, carry_out}
 use Rattle.controller.specs.Machine as machine
 use Rattle.controller.specs.Separation.{asks_reset}
 use Rattle.queues.specs.Jobs.{fresh_queues, queue_of, with_queue, are_sound, waits, turn_of, queued, next_store, served}
-use Rattle.dispatcher.specs.Dispatcher.{fresh_dispatcher, is_whole, is_reset_store, queue_refusal, queue_call, hand_over}
+use Rattle.dispatcher.specs.Dispatcher.{fresh_dispatcher, is_whole, is_reset_store, queue_refusal, queue_call}
+use Rattle.dispatcher.specs.Dispatcher.{hand_over}
 use Rattle.dispatcher.specs.Dispatcher.{hand_turn, hand_call, passed_answer}
 use Rattle.dispatcher.specs.Lists.{Call, Exchange, step, run}
 use Rattle.dispatcher.specs.Lists.Call.{queue, hand, passed}
@@ -114,15 +115,16 @@ pub record BenchCases : Type 0 where
       ≡ 0 ∷ 0 ∷ 0 ∷ 0 ∷ 4 ∷ []
 
 pub bench_cases : BenchCases
-unfolding pick reports with_track drive_of with_drive with_report any_differs copy_reports fresh_drives reset_drives no_outcome
-    moves_tape control_of read_of decode_of in_density may_move loses_tape motion_of own_retry code_retry retry_of asks_interrupt
-    names_drive named_drive names_unknown selected_by asked_for test_of course_of order_of start_body reset_state review idle
-    complete whole_length append_byte first_byte next_byte collect_byte sound_drive sound_drives sound_body sound_lead
-    sound_part sound_string sound_phase is_sound fresh is_idle_in end_with settle motion_order past_test order_move begin follow
-    clear_outcome carry_out_on carry_out machine.byte_in machine.broken_in machine.byte_call machine.broken_call
-    machine.report_call machine.reset_call machine.hand_in machine.hand_call machine.step asks_reset fresh_queues queue_of
-    with_queue are_sound waits turn_of queued next_store served fresh_dispatcher is_whole is_reset_store queue_refusal
-    queue_call hand_over hand_turn hand_call passed_answer step run
+unfolding pick reports with_track drive_of with_drive with_report any_differs copy_reports fresh_drives reset_drives
+    no_outcome moves_tape control_of read_of decode_of in_density may_move loses_tape motion_of own_retry code_retry
+    retry_of asks_interrupt names_drive named_drive names_unknown selected_by asked_for test_of course_of order_of
+    start_body reset_state review idle complete whole_length append_byte first_byte next_byte collect_byte sound_drive
+    sound_drives sound_body sound_lead sound_part sound_string sound_phase is_sound fresh is_idle_in end_with settle
+    motion_order past_test order_move begin follow clear_outcome carry_out_on carry_out machine.byte_in
+    machine.broken_in machine.byte_call machine.broken_call machine.report_call machine.reset_call machine.hand_in
+    machine.hand_call machine.step asks_reset fresh_queues queue_of with_queue are_sound waits turn_of queued next_store
+    served fresh_dispatcher is_whole is_reset_store queue_refusal queue_call hand_over hand_turn hand_call passed_answer
+    step run
 bench_cases =
     record {
       in_turn_lem = refl;

@@ -29,7 +29,7 @@ use Rattle.dispatcher.specs.Dispatcher.{is_reset_store, queue_refusal, hand_over
 use Rattle.dispatcher.specs.Lists.{Call, Exchange, plain, step, run, not_refused}
 use Rattle.dispatcher.specs.Lists.Call.{hand, passed}
 use Rattle.dispatcher.specs.JobLedger.{JobLedger, fresh_ledger, ledger_after}
-use Rattle.dispatcher.specs.Separation.{own_answer, sent_by, sent_from, sent, admits_own}
+use Rattle.dispatcher.specs.Separation.{own_answer, sent_by, sent_from, admits_own}
 use Rattle.dispatcher.specs.Separation.{admitted_from, admitted, Separate}
 use Rattle.dispatcher.proofs.Laws.{neither, queue_room, queue_low}
 use Rattle.dispatcher.proofs.Steps.{exchanged, OfRefusals, OfPassed, OfQueueing, OfNothing, OfHandings}
@@ -221,7 +221,8 @@ fresh_fit : Waiting fresh_queues
 unfolding AllFit
 fresh_fit job low = subst AllFit (sym (fresh_waiting job low)) tt
 
-pub drives_are_separate : (calls others : List Call) → Separate (run fresh_dispatcher calls) (run fresh_dispatcher others)
+pub drives_are_separate : (calls others : List Call)
+    → Separate (run fresh_dispatcher calls) (run fresh_dispatcher others)
 unfolding fresh_dispatcher
 drives_are_separate calls others drive low admitted_one admitted_two same =
     let start = agrees fresh_dispatcher.queues fresh_ledger fresh_is_ledger in

@@ -18,14 +18,16 @@ use Rattle.controller.specs.Controller.{fresh, is_idle_in}
 use Rattle.controller.specs.Stores.{end_with, settle, follow, clear_outcome, carry_out_on, carry_out}
 use Rattle.controller.specs.Machine as machine
 use Rattle.controller.specs.Lists as lists
-use Rattle.controller.specs.Separation.{is_of, store_event, event_of, events_of, history_from, asks_reset, resets, is_reset}
+use Rattle.controller.specs.Separation.{is_of, store_event, event_of, events_of, history_from, asks_reset, resets}
+use Rattle.controller.specs.Separation.{is_reset}
 use Rattle.controller.specs.Separation.{admits, admitted_from}
 use Rattle.controller.specs.JobOrder.{stores_from, first_of, is_report, reports_fixed, without_length, without_lengths}
 use Rattle.controller.specs.JobOrder.{completed_by, all_of, AllComplete, completed_stores, own_stores, SameOwnOrder}
 use Rattle.controller.specs.Ledger.{entered}
 use Rattle.controller.proofs.OrderIsFree.{runs}
 use Rattle.queues.specs.Jobs.{fresh_queues, queue_of, with_queue, are_sound, waits, turn_of, queued, next_store, served}
-use Rattle.dispatcher.specs.Dispatcher.{fresh_dispatcher, is_whole, is_reset_store, queue_refusal, queue_call, hand_over}
+use Rattle.dispatcher.specs.Dispatcher.{fresh_dispatcher, is_whole, is_reset_store, queue_refusal, queue_call}
+use Rattle.dispatcher.specs.Dispatcher.{hand_over}
 use Rattle.dispatcher.specs.Dispatcher.{hand_turn, hand_call}
 use Rattle.dispatcher.specs.Lists.{Exchange, step, run, after, not_refused}
 use Rattle.dispatcher.specs.Lists.Call.{queue, hand}
@@ -53,22 +55,24 @@ pub record JobOrderCase : Type 0 where
   pub completed : Completes fresh_ledger fresh_dispatcher (jobs_of on_zero on_one) (stores_of on_zero on_one)
   pub completed_too : Completes fresh_ledger fresh_dispatcher (jobs_of on_one on_zero) (stores_of on_one on_zero)
   pub own_order :
-      SameOwnOrder (completed_stores fresh (stores_of on_zero on_one)) (completed_stores fresh (stores_of on_one on_zero))
+      SameOwnOrder (completed_stores fresh (stores_of on_zero on_one))
+      (completed_stores fresh (stores_of on_one on_zero))
   -- both drives were changed
   pub zero : (drive_left 0 fresh_dispatcher (jobs_of on_one on_zero)).track ≡ 1
   pub one : (drive_left 1 fresh_dispatcher (jobs_of on_one on_zero)).track ≡ 2
 
 pub job_order_case : JobOrderCase
-unfolding pick reports with_track drive_of with_drive any_differs copy_reports fresh_drives no_outcome control_of decode_of
-    in_density asks_interrupt names_drive named_drive names_unknown selected_by asked_for test_of course_of start_body review idle
-    complete sound_drive sound_drives sound_body sound_part sound_phase is_sound fresh is_idle_in end_with settle follow
-    clear_outcome carry_out_on carry_out machine.hand_in machine.hand_call machine.step machine.run lists.after
-    lists.not_refused lists.brings_store lists.store_brought lists.carries_out lists.last_store is_of store_event event_of
-    events_of history_from asks_reset resets is_reset admits admitted_from stores_from first_of is_report reports_fixed
-    without_length without_lengths completed_by all_of AllComplete completed_stores own_stores entered runs fresh_queues
-    queue_of with_queue are_sound waits turn_of queued next_store served fresh_dispatcher is_whole is_reset_store queue_refusal
-    queue_call hand_over hand_turn hand_call step run after not_refused ledger.first_waiting ledger.first_of
-    ledger.ledger_served ledger.ledger_call ledger.ledger_after sent_at sent_by sent_from
+unfolding pick reports with_track drive_of with_drive any_differs copy_reports fresh_drives no_outcome control_of
+    decode_of in_density asks_interrupt names_drive named_drive names_unknown selected_by asked_for test_of course_of
+    start_body review idle complete sound_drive sound_drives sound_body sound_part sound_phase is_sound fresh is_idle_in
+    end_with settle follow clear_outcome carry_out_on carry_out machine.hand_in machine.hand_call machine.step
+    machine.run lists.after lists.not_refused lists.brings_store lists.store_brought lists.carries_out lists.last_store
+    is_of store_event event_of events_of history_from asks_reset resets is_reset admits admitted_from stores_from
+    first_of is_report reports_fixed without_length without_lengths completed_by all_of AllComplete completed_stores
+    own_stores entered runs fresh_queues queue_of with_queue are_sound waits turn_of queued next_store served
+    fresh_dispatcher is_whole is_reset_store queue_refusal queue_call hand_over hand_turn hand_call step run after
+    not_refused ledger.first_waiting ledger.first_of ledger.ledger_served ledger.ledger_call ledger.ledger_after sent_at
+    sent_by sent_from
 job_order_case =
     record {
       completed =

@@ -1,12 +1,10 @@
 -- A refused call changes nothing: the dispatcher's own leave all as it is, and those that are passed on are refused as
 -- the controller's are, or for the queues alone.
 -- Assumes nothing.
-use mathlib.Core.Path.{◌≡◌, refl, sym, ap, ◌∙◌}
-use mathlib.Core.Bool.{Bool}
+use mathlib.Core.Path.{refl, ap}
 use borrow.Author.Tests.{eqb-true}
 use Rattle.common.proofs.PickLaws.{pick_by}
 use Rattle.controller.specs.declared.controller.Controller.{Controller}
-use Rattle.controller.specs.Machine as machine
 use Rattle.controller.proofs.RefusedCalls as controller-refused
 use Rattle.queues.specs.Jobs.{are_sound}
 use Rattle.dispatcher.specs.declared.dispatcher.Dispatcher.{Dispatcher}

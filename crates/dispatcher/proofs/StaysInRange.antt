@@ -19,7 +19,6 @@ use Rattle.controller.specs.InRange as controller-range
 use Rattle.controller.specs.InRange.{StoreInRange, ActionInRange, HandedInRange}
 use Rattle.controller.specs.Controller.{is_idle}
 use Rattle.controller.specs.Machine as machine
-use Rattle.controller.specs.Refused as controller-refused
 use Rattle.controller.proofs.StaysInRange as controller-stays
 use Rattle.queues.specs.declared.queue.Queue.{Queue}
 use Rattle.queues.specs.declared.jobs.Queues.{Queues}

@@ -1,32 +1,27 @@
 -- The kinds of the dispatcher's calls: refused, passed on, a store queued, nothing to hand over, and a store handed
 -- over.
 -- Assumes nothing.
-use mathlib.Core.Path.{◌≡◌, refl, sym, ap, subst, ◌∙◌}
-use mathlib.Core.Bool.{Bool, true, false}
-use mathlib.Core.List.{List, [], ◌∷◌}
-use Prim.Native.Nat.{ℕ, ◌≤◌, ◌<◌}
-use native.Mathlib.Omega.{arith}
-use lib.Dec.{eqb, leb}
-use borrow.Author.Tests.{eqb-true, eqb-false, leb-false}
-use Rattle.common.specs.Pick.{pick}
-use Rattle.common.proofs.PickLaws.{pick_by, not_refused_lem}
+use mathlib.Core.Path.{◌≡◌, refl}
+use mathlib.Core.Bool.{true, false}
+use Prim.Native.Nat.{ℕ}
+use lib.Dec.{eqb}
+use borrow.Author.Tests.{eqb-true}
+use Rattle.common.proofs.PickLaws.{pick_by}
 use Rattle.operations.specs.declared.store.Store.{Store}
 use Rattle.controller.specs.Machine as machine
-use Rattle.controller.specs.Refused.{lent_space, lent_check}
-use Rattle.queues.specs.declared.jobs.Queues.{Queues}
 use Rattle.queues.specs.declared.jobs.Turn.{Turn}
 use Rattle.queues.specs.declared.jobs.Turn.TheVariants.{Nobody, Job}
-use Rattle.queues.specs.Jobs.{are_sound, turn_of, queue_of, queued, waits, served}
+use Rattle.queues.specs.Jobs.{are_sound, turn_of, queued}
 use Rattle.queues.proofs.JobLaws.{Served, turn_served}
 use Rattle.dispatcher.specs.declared.dispatcher.Dispatcher.{Dispatcher}
 use Rattle.dispatcher.specs.declared.dispatcher.Dispatched.{Dispatched}
-use Rattle.dispatcher.specs.Dispatcher.{Answer, unchanged, with_queues, answer_with_queues, answered}
-use Rattle.dispatcher.specs.Dispatcher.{unchanged_transfer, is_whole, queue_refusal, queue_call, hand_over, hand_turn}
+use Rattle.dispatcher.specs.Dispatcher.{Answer, unchanged}
+use Rattle.dispatcher.specs.Dispatcher.{is_whole, queue_refusal, queue_call, hand_over, hand_turn}
 use Rattle.dispatcher.specs.Dispatcher.{hand_call, passed_answer}
 use Rattle.controller.specs.Controller.{is_idle}
-use Rattle.dispatcher.specs.Lists.{Call, Exchange, plain, step, not_refused}
+use Rattle.dispatcher.specs.Lists.{Call, Exchange, plain, step}
 use Rattle.dispatcher.specs.Lists.Call.{queue, hand, passed}
-use Rattle.dispatcher.proofs.Laws.{whole_ranges, queue_room}
+use Rattle.dispatcher.proofs.Laws.{whole_ranges}
 
 -- what is claimed of a call in a state, with its answer
 abbrev pub Claim : Type 1

@@ -10,7 +10,6 @@ use Rattle.link.specs.declared.state.Action.TheVariants.{Nothing}
 use Rattle.link.specs.declared.state.Handed.TheVariants.{NoneHanded}
 use Rattle.transfers.specs.Data.{Host}
 use Rattle.transfers.specs.Results.{Result}
-use Rattle.controller.specs.declared.controller.Controller.{Controller}
 use Rattle.controller.specs.declared.controller.Reply.{Reply}
 use Rattle.controller.specs.declared.controller.Transfer.{Transfer}
 use Rattle.controller.specs.Controller.{fresh, is_idle}

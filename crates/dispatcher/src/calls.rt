@@ -16,6 +16,7 @@ use controller::controller::Reply;
 use queues::jobs::are_sound;
 
 // The controller's own reply, beside the queues as they are.
+#[tactic(auto, using(common::proofs::PickLaws::pick_yes, common::proofs::PickLaws::pick_no), unfolding(crate::specs::Dispatcher::pass_on))]
 pub fn pass_on(d: Dispatcher, reply: Reply) -> Dispatched
     ensures { result ≡ pass_on d reply }
 {
@@ -62,6 +63,7 @@ impl Dispatcher {
         pass_on(self, self.controller.reset())
     }
 
+    #[tactic(auto, using(common::proofs::PickLaws::pick_yes, common::proofs::PickLaws::pick_no), unfolding(crate::specs::Dispatcher::passed_answer))]
     pub fn data(
         self,
         host: &[u8],
@@ -79,6 +81,7 @@ impl Dispatcher {
         transfer_with_queues(self.queues, controller.data(host, place, space, check))
     }
 
+    #[tactic(auto, using(common::proofs::PickLaws::pick_yes, common::proofs::PickLaws::pick_no), unfolding(crate::specs::Dispatcher::passed_answer))]
     pub fn result(
         self,
         code: u8,

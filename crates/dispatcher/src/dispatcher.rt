@@ -7,7 +7,7 @@ use controller::controller::{Controller, Reply, Transfer, fresh_controller};
 use link::state::{Action, Handed};
 use queues::jobs::{Queues, fresh_queues};
 
-#[derive(Drop)]
+#[derive(Clone, Copy)]
 pub struct Dispatcher {
     pub controller: Controller,
     pub queues: Queues,
@@ -15,7 +15,7 @@ pub struct Dispatcher {
 
 // What a call hands back: the next state, what is to be done, the refusal or 0, and the record of a store whose code
 // the call settled.
-#[derive(Drop)]
+#[derive(Clone, Copy)]
 pub struct Dispatched {
     pub dispatcher: Dispatcher,
     pub action: Action,
@@ -24,13 +24,14 @@ pub struct Dispatched {
 }
 
 // What a data or result call hands back: the same, and how many bytes of the lent space it gives.
-#[derive(Drop)]
+#[derive(Clone, Copy)]
 pub struct DispatchedTransfer {
     pub reply: Dispatched,
     pub bytes: usize,
 }
 
 // Nothing is queued, and the controller is fresh.
+#[tactic(auto, unfolding(crate::specs::Dispatcher::fresh_dispatcher))]
 pub fn fresh_dispatcher() -> Dispatcher
     ensures { result ≡ fresh_dispatcher }
 {

@@ -1,7 +1,8 @@
 // The dispatcher's own calls: a job queues a store, and the store whose turn it is is handed over.
 ghost use Rattle.std.specs.Prelude.{true, ◌≡◌, ◌<◌};
 ghost use Rattle.queues.specs.Jobs.{waits};
-ghost use Rattle.dispatcher.specs.Dispatcher.{is_whole, is_reset_store, queue_refusal, queue_call, hand_over, hand_call};
+ghost use Rattle.dispatcher.specs.Dispatcher.{is_whole, is_reset_store, queue_refusal, queue_call, hand_over};
+ghost use Rattle.dispatcher.specs.Dispatcher.{hand_call};
 
 use crate::dispatcher::{Dispatched, Dispatcher, unchanged, with_queues};
 use common::refusals::{DONE, NOT_IDLE, QUEUE_FULL, STATE_DAMAGED, STORE_NOT_TAKEN};
@@ -13,6 +14,7 @@ use queues::jobs::{JOBS, Turn, are_sound, next_store, queue_of, queued, served, 
 use queues::queue::QUEUE_LIMIT;
 
 // Whether every field is in range, those of the controller and those of the queues.
+#[tactic(auto, unfolding(crate::specs::Dispatcher::is_whole))]
 fn is_whole(d: Dispatcher) -> bool
     ensures { result ≡ is_whole d }
 {
@@ -20,6 +22,7 @@ fn is_whole(d: Dispatcher) -> bool
 }
 
 // Whether a store is one of operation 0.
+#[tactic(auto, unfolding(controller::specs::Separation::asks_reset, crate::specs::Dispatcher::is_reset_store))]
 fn is_reset_store(store: Store) -> bool
     ensures { result ≡ is_reset_store store }
 {
@@ -31,6 +34,7 @@ fn is_reset_store(store: Store) -> bool
 }
 
 // 1, 16 or 17, or 0.
+#[tactic(auto, unfolding(crate::specs::Dispatcher::queue_refusal, common::specs::Pick::pick))]
 fn queue_refusal(d: Dispatcher, job: u8, store: Store) -> u32
     ensures { result ≡ queue_refusal d job store }
 {
@@ -47,6 +51,7 @@ fn queue_refusal(d: Dispatcher, job: u8, store: Store) -> u32
 }
 
 // The store of the job whose turn it is goes to the controller, and its place is free.
+#[tactic(auto, unfolding(crate::specs::Dispatcher::hand_over))]
 fn hand_over(d: Dispatcher, job: u8) -> Dispatched
     requires { waits d.queues job ≡ true }
     ensures { result ≡ hand_over d job }
@@ -59,6 +64,7 @@ fn hand_over(d: Dispatcher, job: u8) -> Dispatched
 
 impl Dispatcher {
     // A job queues a store.
+    #[tactic(auto, using(common::proofs::PickLaws::pick_yes, common::proofs::PickLaws::pick_no, crate::proofs::Laws::queue_room), unfolding(crate::specs::Dispatcher::queue_call))]
     pub fn queue(self, job: u8, store: Store) -> Dispatched
         ensures { result ≡ queue_call self job store }
     {
@@ -72,6 +78,7 @@ impl Dispatcher {
     }
 
     // The next store is handed over; where nothing is queued, nothing is done.
+    #[tactic(auto, using(common::proofs::PickLaws::pick_yes, common::proofs::PickLaws::pick_no, queues::proofs::JobLaws::turn_served, crate::proofs::Laws::whole_ranges), unfolding(crate::specs::Dispatcher::hand_call, crate::specs::Dispatcher::hand_turn))]
     pub fn hand(self) -> Dispatched
         ensures { result ≡ hand_call self }
     {

@@ -77,7 +77,8 @@ module _ (call : machine.Call) (state answer : List ℕ) where
   unfolding has_sound_queues step dispatcher.passed_answer state_of lent_space lent_check
   passed_on_none none =
       by_test (is_state state)
-      (λ is. let hurt : are_sound (queues_of state) ≡ false = sym (ap (λ (b : Bool). b && are_sound (queues_of state)) is)
+      (λ is. let hurt : are_sound (queues_of state) ≡ false =
+      sym (ap (λ (b : Bool). b && are_sound (queues_of state)) is)
       ∙ none in
       ap (λ (e : Ended). left e (lent_space (passed call)) (lent_check (passed call))) (sym refused_answer)
       ∙ called_on_state (passed call) state answer _ is (sym (pick_no _ _ hurt)))

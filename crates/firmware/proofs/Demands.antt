@@ -170,7 +170,8 @@ module _ (d : Dispatcher) (fine : InRange d) (call : Call) (bytes : BytesIn call
   -- What is seen of a function is the dispatcher's own answer.
   pub functions_answer_as_the_dispatcher : seen_answer l ≡ step d call
   functions_answer_as_the_dispatcher =
-      ap seen_answer (answers_are_called (state_bytes d) call answer l allowed) ∙ seen_is_answer d fine call answer bytes
+      ap seen_answer (answers_are_called (state_bytes d) call answer l allowed)
+      ∙ seen_is_answer d fine call answer bytes
 
   seen_allowed : contracts.Allows d call (seen_answer l)
   seen_allowed =

@@ -17,6 +17,7 @@ use operations::store::Store;
 
 // A fresh state, whatever stood there.
 #[unsafe(no_mangle)]
+#[tactic(auto, unfolding(crate::specs::Calls::ctc_fresh))]
 pub extern "C" fn ctc_fresh(state: &mut [u8; STATE_LENGTH]) -> u32
     ensures answered { result ≡ 0 }
     ensures written { state.new ≡ ctc_fresh }

@@ -9,6 +9,7 @@ use layout::places::{ANSWER_LENGTH, STATE_LENGTH};
 use layout::writing::put_controller_bytes;
 
 // A refused call leaves state and answer as they were; any other leaves the next controller and its answer.
+#[tactic(auto, using(common::proofs::PickLaws::pick_yes, common::proofs::PickLaws::pick_no), unfolding(crate::specs::Calls::end_call, layout::specs::Writing::controller_bytes))]
 pub fn end_passed(
     reply: Reply,
     given: usize,

@@ -6,7 +6,7 @@ use mathlib.Core.Path.{◌≡◌, refl, sym, ap, ◌∙◌}
 use mathlib.Core.Bool.{Bool, true}
 use mathlib.Core.List.{List}
 use contract.Lifetimes.{Lfts}
-use denote.Ref.{MutBor, at_last}
+use denote.Ref.{Bor, MutBor, at_last}
 use Prim.Native.Nat.{ℕ, ◌≤◌}
 use native.Mathlib.Omega.{arith}
 use Rattle.link.specs.declared.state.Action.{Action}
@@ -55,28 +55,28 @@ pub record Written (d : Dispatcher) (bytes : List ℕ) : Type 0 where
 -- a state is read from these bytes, wherever they lie
 pub record Read (bytes : List ℕ) (d : Dispatcher) : Type 0 where
   pub lifetimes : Lfts 1
-  pub slice : MutBor (List ℕ)
+  pub slice : Bor (List ℕ)
   pub holds : slice.now ≡ bytes
   pub promise : state-reads.Post lifetimes (slice, tt) d (slice, tt)
 
 -- whether these bytes are a state's is told
 pub record Told (bytes : List ℕ) (told : Bool) : Type 0 where
   pub lifetimes : Lfts 1
-  pub slice : MutBor (List ℕ)
+  pub slice : Bor (List ℕ)
   pub holds : slice.now ≡ bytes
   pub promise : told-reads.Post lifetimes (slice, tt) told (slice, tt)
 
 -- the controller alone is read
 pub record ReadController (bytes : List ℕ) (c : Controller) : Type 0 where
   pub lifetimes : Lfts 1
-  pub slice : MutBor (List ℕ)
+  pub slice : Bor (List ℕ)
   pub holds : slice.now ≡ bytes
   pub promise : controller-reads.Post lifetimes (slice, tt) c (slice, tt)
 
 -- whether they are a state's with sound queues is told
 pub record ToldSound (bytes : List ℕ) (told : Bool) : Type 0 where
   pub lifetimes : Lfts 1
-  pub slice : MutBor (List ℕ)
+  pub slice : Bor (List ℕ)
   pub holds : slice.now ≡ bytes
   pub promise : sound-reads.Post lifetimes (slice, tt) told (slice, tt)
 

@@ -62,7 +62,8 @@ unfoldable pub action_of : List ℕ → Action
 action_of s =
     let kind = byte_at s action_place in
     pick (eqb kind 0) Nothing
-    (pick (eqb kind 1) (Byte (byte_at s (action_place + 1))) (pick (eqb kind 2) (Text (frame_of s)) (Order (frame_of s))))
+    (pick (eqb kind 1) (Byte (byte_at s (action_place + 1)))
+    (pick (eqb kind 2) (Text (frame_of s)) (Order (frame_of s))))
 
 -- the record of a settled store
 unfoldable pub handed_of : List ℕ → Handed

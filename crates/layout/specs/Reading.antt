@@ -11,7 +11,6 @@ use Rattle.operations.specs.declared.operation.Operation.{Operation}
 use Rattle.operations.specs.declared.operation.Operation.TheVariants.{Read, CheckBytes, SuppliedCount, Write, Erase}
 use Rattle.operations.specs.declared.operation.Operation.TheVariants.{Rewind, FastForward, SkipForward, SkipReverse}
 use Rattle.operations.specs.declared.operation.Operation.TheVariants.{SearchForward, SearchReverse, WriteMark}
-use Rattle.link.specs.declared.frames.Frame.{Frame}
 use Rattle.link.specs.declared.state.Collected.{Collected}
 use Rattle.link.specs.declared.state.Kind.{Kind}
 use Rattle.link.specs.declared.state.Kind.TheVariants.{Load, Secondary, Completion, Change}
@@ -172,7 +171,8 @@ phase_of s =
     (pick (eqb number sending) (Sending (send_of s))
     (pick (eqb number go_offered) (GoOffered (store_at s held_place))
     (pick (eqb number data_awaited) (DataAwaited (store_at s held_place))
-    (pick (eqb number result_awaited) (ResultAwaited (operation_of (byte_at s held_place)) (store_at s (held_place + 1)))
+    (pick (eqb number result_awaited)
+    (ResultAwaited (operation_of (byte_at s held_place)) (store_at s (held_place + 1)))
     (EndOffered (flag_at s held_place)))))))
 
 -- ---- the queues
@@ -244,7 +244,8 @@ is_phase number first =
 
 -- bytes of a state, whether its fields are in range or not
 unfoldable pub is_state : List ℕ → Bool
-is_state s = (eqb (byte_at s layout_place) layout && are_flags s) && is_phase (byte_at s phase_place) (byte_at s held_place)
+is_state s = (eqb (byte_at s layout_place) layout && are_flags s)
+    && is_phase (byte_at s phase_place) (byte_at s held_place)
 
 -- bytes of a state whose queues are in range, which every call of the controller asks before it is passed on
 unfoldable pub has_sound_queues : List ℕ → Bool

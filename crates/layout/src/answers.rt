@@ -7,6 +7,7 @@ use link::frames::Frame;
 use link::state::{Action, Handed};
 use status::words::ResultRecord;
 
+#[tactic(auto, unfolding(crate::specs::Answers::action_kind))]
 fn action_kind(action: Action) -> u8
     ensures { result ≡ action_kind action }
 {
@@ -19,6 +20,7 @@ fn action_kind(action: Action) -> u8
 }
 
 // The six bytes of an action; a byte that is offered stands first.
+#[tactic(auto, unfolding(crate::specs::Answers::action_frame))]
 fn action_frame(action: Action) -> Frame
     ensures { result ≡ action_frame action }
 {
@@ -41,6 +43,7 @@ fn action_frame(action: Action) -> Frame
     }
 }
 
+#[tactic(auto, unfolding(crate::specs::Answers::is_settled))]
 fn is_settled(handed: Handed) -> bool
     ensures { result ≡ is_settled handed }
 {
@@ -51,6 +54,7 @@ fn is_settled(handed: Handed) -> bool
 }
 
 // The record of a settled store, zeros where none is.
+#[tactic(auto, unfolding(crate::specs::Answers::settled_record))]
 fn settled_record(handed: Handed) -> ResultRecord
     ensures { result ≡ settled_record handed }
 {
@@ -65,6 +69,7 @@ fn settled_record(handed: Handed) -> ResultRecord
 }
 
 // A whole answer, with how many bytes of the lent space are given.
+#[tactic(auto, unfolding(crate::specs::Answers::answer_bytes))]
 pub fn answer_bytes(action: Action, handed: Handed, given: usize) -> [u8; ANSWER_LENGTH]
     ensures { result ≡ answer_bytes action handed given }
 {

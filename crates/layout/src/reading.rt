@@ -38,6 +38,7 @@ fn drive_at(s: &[u8; STATE_LENGTH], place: usize) -> Drive
     }
 }
 
+#[tactic(auto, unfolding(crate::specs::Reading::drives_of))]
 fn drives_of(s: &[u8; STATE_LENGTH]) -> Drives
     ensures { result ≡ drives_of s.now }
 {
@@ -65,6 +66,7 @@ fn count_at(s: &[u8; STATE_LENGTH], place: usize) -> u32
     byte(s[place]) * 256 + byte(s[place + 1])
 }
 
+#[tactic(auto, unfolding(crate::specs::Reading::outcome_of))]
 fn outcome_of(s: &[u8; STATE_LENGTH]) -> Outcome
     ensures { result ≡ outcome_of s.now }
 {
@@ -100,6 +102,7 @@ fn word_at(s: &[u8; STATE_LENGTH], place: usize) -> Word
     }
 }
 
+#[tactic(auto, unfolding(crate::specs::Reading::body_of))]
 fn body_of(s: &[u8; STATE_LENGTH]) -> Body
     ensures { result ≡ body_of s.now }
 {
@@ -147,6 +150,7 @@ fn collected_of(s: &[u8; STATE_LENGTH]) -> Collected
     }
 }
 
+#[tactic(auto, unfolding(crate::specs::Reading::kind_of, common::specs::Pick::pick))]
 fn kind_of(number: u8) -> Kind
     ensures { result ≡ kind_of number }
 {
@@ -158,6 +162,7 @@ fn kind_of(number: u8) -> Kind
     }
 }
 
+#[tactic(auto, unfolding(crate::specs::Reading::send_of))]
 fn send_of(s: &[u8; STATE_LENGTH]) -> Send
     ensures { result ≡ send_of s.now }
 {
@@ -177,6 +182,7 @@ fn send_of(s: &[u8; STATE_LENGTH]) -> Send
     }
 }
 
+#[tactic(auto, unfolding(crate::specs::Reading::operation_of, common::specs::Pick::pick))]
 fn operation_of(number: u8) -> Operation
     ensures { result ≡ operation_of number }
 {
@@ -196,6 +202,7 @@ fn operation_of(number: u8) -> Operation
     }
 }
 
+#[tactic(auto, unfolding(crate::specs::Reading::phase_of, common::specs::Pick::pick))]
 fn phase_of(s: &[u8; STATE_LENGTH]) -> Phase
     ensures { result ≡ phase_of s.now }
 {
@@ -213,6 +220,7 @@ fn phase_of(s: &[u8; STATE_LENGTH]) -> Phase
     }
 }
 
+#[tactic(auto, unfolding(crate::specs::Reading::queue_at))]
 fn queue_at(s: &[u8; STATE_LENGTH], place: usize) -> Queue
     requires { place + queue_length ≤ state_length }
     ensures { result ≡ queue_at s.now place }
@@ -233,6 +241,7 @@ fn queue_at(s: &[u8; STATE_LENGTH], place: usize) -> Queue
     }
 }
 
+#[tactic(auto, unfolding(crate::specs::Reading::queues_of))]
 fn queues_of(s: &[u8; STATE_LENGTH]) -> Queues
     ensures { result ≡ queues_of s.now }
 {
@@ -259,6 +268,7 @@ pub fn controller_of(s: &[u8; STATE_LENGTH]) -> Controller
 }
 
 // The whole state.
+#[tactic(auto, unfolding(crate::specs::Reading::state_of))]
 pub fn state_of(s: &[u8; STATE_LENGTH]) -> Dispatcher
     ensures { result ≡ state_of s.now }
 {
@@ -268,6 +278,7 @@ pub fn state_of(s: &[u8; STATE_LENGTH]) -> Dispatcher
 }
 
 // Whether each flag is 0 or 1.
+#[tactic(auto, unfolding(crate::specs::Reading::are_flags))]
 fn are_flags(s: &[u8; STATE_LENGTH]) -> bool
     ensures { result ≡ are_flags s.now }
 {
@@ -289,6 +300,7 @@ fn are_flags(s: &[u8; STATE_LENGTH]) -> bool
 }
 
 // Whether a phase has this number, and what it holds first is a kind, an operation or a flag where it should be.
+#[tactic(auto, unfolding(crate::specs::Reading::is_phase, common::specs::Pick::pick))]
 fn is_phase(number: u8, first: u8) -> bool
     ensures { result ≡ is_phase number first }
 {
@@ -301,6 +313,7 @@ fn is_phase(number: u8, first: u8) -> bool
 }
 
 // Whether bytes are those of a state, whose fields may be out of range.
+#[tactic(auto, unfolding(crate::specs::Reading::is_state))]
 pub fn is_state(s: &[u8; STATE_LENGTH]) -> bool
     ensures { result ≡ is_state s.now }
 {
@@ -308,6 +321,7 @@ pub fn is_state(s: &[u8; STATE_LENGTH]) -> bool
 }
 
 // The same, and whether the lengths of the queues and the last job served are in range: by these five bytes of them.
+#[tactic(auto, unfolding(crate::specs::Reading::has_sound_queues, queues::specs::Jobs::are_sound, crate::specs::Reading::queues_of, crate::specs::Reading::queue_at))]
 pub fn has_sound_queues(s: &[u8; STATE_LENGTH]) -> bool
     ensures { result ≡ has_sound_queues s.now }
 {

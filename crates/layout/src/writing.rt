@@ -18,6 +18,7 @@ use operations::store::Store;
 use queues::queue::Queue;
 
 // The layout's number and the body.
+#[tactic(auto, unfolding(crate::specs::Writing::head_bytes))]
 fn head_bytes(b: Body) -> [u8; HEAD_LENGTH]
     ensures { result ≡ head_bytes b }
 {
@@ -108,6 +109,7 @@ fn held_bytes(number: u8, store: Store) -> [u8; PHASE_LENGTH]
     ]
 }
 
+#[tactic(auto, unfolding(crate::specs::Writing::kind_number))]
 fn kind_number(kind: Kind) -> u8
     ensures { result ≡ kind_number kind }
 {
@@ -126,6 +128,7 @@ fn number_of(operation: Operation) -> u8
     operations::operation::number_of(operation) as u8
 }
 
+#[tactic(auto, unfolding(crate::specs::Writing::phase_bytes))]
 fn phase_bytes(phase: Phase) -> [u8; PHASE_LENGTH]
     ensures { result ≡ phase_bytes phase }
 {
@@ -166,6 +169,7 @@ fn phase_bytes(phase: Phase) -> [u8; PHASE_LENGTH]
     }
 }
 
+#[tactic(auto, unfolding(crate::specs::Writing::queue_bytes))]
 fn queue_bytes(queue: Queue) -> [u8; QUEUE_LENGTH]
     ensures { result ≡ queue_bytes queue }
 {
@@ -224,6 +228,7 @@ fn queue_bytes(queue: Queue) -> [u8; QUEUE_LENGTH]
 }
 
 // Puts bytes at a place.
+#[tactic(auto, using(common::proofs::SpaceLaws::overwritten_all), unfolding(crate::specs::Writing::placed))]
 fn put_placed(bytes: &[u8], place: usize, space: &mut [u8])
     requires { place + length bytes.now ≤ length space.old }
     ensures { space.new ≡ placed bytes.now place space.old }
@@ -233,6 +238,7 @@ fn put_placed(bytes: &[u8], place: usize, space: &mut [u8])
 }
 
 // Puts the controller's part of a state, and leaves the queues as they stand.
+#[tactic(auto, using(crate::proofs::PlacedLaws::nothing_put, crate::proofs::PlacedLaws::put_behind, crate::proofs::Lengths::head_length_lem, crate::proofs::Lengths::phase_length_lem, crate::proofs::QueueLaws::queues_stay))]
 pub fn put_controller_bytes(c: Controller, space: &mut [u8; STATE_LENGTH])
     ensures { space.new ≡ controller_bytes c space.old }
 {
@@ -244,6 +250,7 @@ pub fn put_controller_bytes(c: Controller, space: &mut [u8; STATE_LENGTH])
 }
 
 // Puts a whole state.
+#[tactic(auto, using(crate::proofs::PlacedLaws::nothing_put, crate::proofs::PlacedLaws::put_behind, crate::proofs::PlacedLaws::all_put, crate::proofs::Lengths::head_length_lem, crate::proofs::Lengths::phase_length_lem, crate::proofs::Lengths::queue_length_lem), unfolding(crate::specs::Writing::state_bytes))]
 pub fn put_state_bytes(d: Dispatcher, space: &mut [u8; STATE_LENGTH])
     ensures { space.new ≡ state_bytes d }
 {

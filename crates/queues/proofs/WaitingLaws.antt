@@ -3,12 +3,12 @@
 use mathlib.Core.Path.{◌≡◌, refl, sym, ap, subst, ◌∙◌}
 use mathlib.Core.Bool.{true}
 use mathlib.Core.List.{List, [], ◌∷◌, ◌++◌}
-use Prim.Native.Nat.{ℕ, zero, suc, ◌+◌, ◌-◌, ◌≤◌, ◌<◌}
+use Prim.Native.Nat.{ℕ, zero, suc, ◌-◌, ◌≤◌, ◌<◌}
 use native.Mathlib.Nat.{le_of_suc-le-suc}
 use native.Mathlib.Numerals.{add-one}
 use native.Mathlib.Omega.{arith}
-use lib.Dec.{ltb, eqb}
-use lib.ListN.{length, take, drop, set, get_or, length-take, length-set, drop_of_length-le}
+use lib.Dec.{eqb}
+use lib.ListN.{length, take, drop, get_or, length-take, length-set, drop_of_length-le}
 use lib.Seq.{take-suc-set, take-append-le, drop-cons}
 use borrow.Author.Tests.{le-leb, lt-ltb, ltb-true, eqb-true, eqb-false}
 use Rattle.common.specs.Pick.{pick}
@@ -33,7 +33,8 @@ pub record Kept (queue : Queue) : Type 0 where
 
 -- eight elements moved up by one, the last one left standing
 moved_up : {A : Type 0} (xs : List A) (d : A) → length xs ≡ 8
-    → get_or xs 1 d ∷ get_or xs 2 d ∷ get_or xs 3 d ∷ get_or xs 4 d ∷ get_or xs 5 d ∷ get_or xs 6 d ∷ get_or xs 7 d ∷ get_or xs 7 d ∷ []
+    → get_or xs 1 d ∷ get_or xs 2 d ∷ get_or xs 3 d ∷ get_or xs 4 d ∷ get_or xs 5 d ∷ get_or xs 6 d
+    ∷ get_or xs 7 d ∷ get_or xs 7 d ∷ []
     ≡ drop 1 xs ++ (get_or xs 7 d ∷ [])
 moved_up xs d eight =
     rw (

@@ -14,7 +14,7 @@ pub const JOBS: u8 = 4;
 const LAST_JOB: u8 = JOBS - 1;
 
 // A queue for each job, and the job that was served last.
-#[derive(Drop)]
+#[derive(Clone, Copy)]
 pub struct Queues {
     pub q0: Queue,
     pub q1: Queue,
@@ -24,13 +24,14 @@ pub struct Queues {
 }
 
 // Whose turn it is: a job's, or nobody's where nothing is queued.
-#[derive(Drop)]
+#[derive(Clone, Copy)]
 pub enum Turn {
     Nobody,
     Job(u8),
 }
 
 // Nothing is queued, and job 0 comes first.
+#[tactic(auto, unfolding(crate::specs::Jobs::fresh_queues))]
 pub fn fresh_queues() -> Queues
     ensures { result ≡ fresh_queues }
 {
@@ -45,6 +46,7 @@ pub fn fresh_queues() -> Queues
 }
 
 // The queue of a job; any number above 2 is job 3.
+#[tactic(auto, unfolding(crate::specs::Jobs::queue_of, common::specs::Pick::pick))]
 pub fn queue_of(queues: Queues, job: u8) -> Queue
     ensures { result ≡ queue_of queues job }
 {
@@ -57,6 +59,7 @@ pub fn queue_of(queues: Queues, job: u8) -> Queue
 }
 
 // The queues with another one for a job.
+#[tactic(auto, unfolding(crate::specs::Jobs::with_queue, common::specs::Pick::pick))]
 fn with_queue(mut queues: Queues, job: u8, queue: Queue) -> Queues
     ensures { result ≡ with_queue queues job queue }
 {
@@ -70,6 +73,7 @@ fn with_queue(mut queues: Queues, job: u8, queue: Queue) -> Queues
 }
 
 // Whether each length and the last job served are in range.
+#[tactic(auto, unfolding(crate::specs::Jobs::are_sound))]
 pub fn are_sound(queues: Queues) -> bool
     ensures { result ≡ are_sound queues }
 {
@@ -81,6 +85,7 @@ pub fn are_sound(queues: Queues) -> bool
 }
 
 // Whether a job has a store queued.
+#[tactic(auto, unfolding(crate::specs::Jobs::waits))]
 fn waits(queues: Queues, job: u8) -> bool
     ensures { result ≡ waits queues job }
 {
@@ -88,6 +93,7 @@ fn waits(queues: Queues, job: u8) -> bool
 }
 
 // The first job with a store queued, from the one after the last served.
+#[tactic(auto, unfolding(crate::specs::Jobs::turn_of, common::specs::Pick::pick))]
 pub fn turn_of(queues: Queues) -> Turn
     requires { queues.last < jobs }
     ensures { result ≡ turn_of queues }
@@ -111,6 +117,7 @@ pub fn turn_of(queues: Queues) -> Turn
 }
 
 // The queues with a store more for a job.
+#[tactic(auto, unfolding(crate::specs::Jobs::queued))]
 pub fn queued(queues: Queues, job: u8, store: Store) -> Queues
     requires { (queue_of queues job).length < queue_limit }
     ensures { result ≡ queued queues job store }
@@ -120,6 +127,7 @@ pub fn queued(queues: Queues, job: u8, store: Store) -> Queues
 }
 
 // The store that a job hands over next.
+#[tactic(auto, unfolding(crate::specs::Jobs::next_store))]
 pub fn next_store(queues: Queues, job: u8) -> Store
     ensures { result ≡ next_store queues job }
 {
@@ -127,6 +135,7 @@ pub fn next_store(queues: Queues, job: u8) -> Store
 }
 
 // The queues once it is handed over.
+#[tactic(auto, unfolding(crate::specs::Jobs::waits, crate::specs::Jobs::served))]
 pub fn served(queues: Queues, job: u8) -> Queues
     requires { waits queues job ≡ true }
     ensures { result ≡ served queues job }

@@ -8,7 +8,7 @@ use operations::store::Store;
 pub const QUEUE_LIMIT: u8 = 8;
 
 // The stores stand in order from place 0; what stands behind the length waits no more.
-#[derive(Drop)]
+#[derive(Clone, Copy)]
 pub struct Queue {
     pub stores: [Store; QUEUE_LIMIT as usize],
     pub length: u8,

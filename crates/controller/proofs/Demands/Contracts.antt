@@ -4,14 +4,13 @@
 use mathlib.Core.Path.{◌≡◌, refl, ap, ap₂, ◌∙◌}
 use mathlib.Core.List.{List, []}
 use contract.Lifetimes.{Lfts}
-use denote.Ref.{MutBor, at_last}
+use denote.Ref.{Bor, MutBor, at_last}
 use Prim.Native.Nat.{ℕ}
 use Rattle.transfers.specs.Results.{Result, result_of}
 use Rattle.transfers.specs.Data.{Host, host_of}
 use Rattle.controller.specs.declared.controller.Controller.{Controller}
 use Rattle.controller.specs.declared.controller.Reply.{Reply}
 use Rattle.controller.specs.declared.controller.Transfer.{Transfer}
-use Rattle.controller.specs.Controller.{fresh}
 use Rattle.controller.specs.Records.{Answer, answered}
 use Rattle.controller.specs.Machine.{byte_call, taken_call, broken_call, report_call, data_call, result_call, tick_call}
 use Rattle.controller.specs.Machine.{reset_call, hand_call, Call, plain, step}
@@ -57,7 +56,7 @@ pub record Plainly (Promise : Reply → Type 0) (answer : Answer) : Type 0 where
 -- the answer of a call that is lent space: three slices of the data call, four of the result, wherever they lie
 pub record DataLent (c : Controller) (host : Host) (space check : List ℕ) (answer : Answer) : Type 0 where
   pub lifetimes : Lfts 3
-  pub host_slice : MutBor (List ℕ)
+  pub host_slice : Bor (List ℕ)
   pub space_slice : MutBor (List ℕ)
   pub check_slice : MutBor (List ℕ)
   pub transfer : Transfer
@@ -71,8 +70,8 @@ pub record DataLent (c : Controller) (host : Host) (space check : List ℕ) (ans
 
 pub record ResultLent (c : Controller) (r : Result) (space check : List ℕ) (answer : Answer) : Type 0 where
   pub lifetimes : Lfts 4
-  pub image_slice : MutBor (List ℕ)
-  pub marks_slice : MutBor (List ℕ)
+  pub image_slice : Bor (List ℕ)
+  pub marks_slice : Bor (List ℕ)
   pub space_slice : MutBor (List ℕ)
   pub check_slice : MutBor (List ℕ)
   pub transfer : Transfer
@@ -99,6 +98,9 @@ pub record ResultLent (c : Controller) (r : Result) (space check : List ℕ) (an
         ),
       )
   pub same : answer ≡ answered transfer answer.space answer.check
+
+abbrev shown : List ℕ → Bor (List ℕ)
+shown bytes = record { ref_ptr = (0, 0); now = bytes }
 
 abbrev somewhere : List ℕ → MutBor (List ℕ)
 somewhere bytes = record { ref_ptr = (0, 0); ghost_name = 0; now = bytes }
@@ -152,7 +154,7 @@ steps_are_allowed c (report drive bits) = record { reply = report_call c drive b
 steps_are_allowed c (host_data host space check) =
     record {
       lifetimes = ([], ([], ([], tt)));
-      host_slice = somewhere host.bytes;
+      host_slice = shown host.bytes;
       space_slice = somewhere space;
       check_slice = somewhere check;
       transfer = handed_back (data_call c host space check);
@@ -165,8 +167,8 @@ steps_are_allowed c (host_data host space check) =
 steps_are_allowed c (result r space check) =
     record {
       lifetimes = ([], ([], ([], ([], tt))));
-      image_slice = somewhere r.image;
-      marks_slice = somewhere r.marks;
+      image_slice = shown r.image;
+      marks_slice = shown r.marks;
       space_slice = somewhere space;
       check_slice = somewhere check;
       transfer = handed_back (result_call c r space check);

@@ -117,7 +117,8 @@ module _ (l : Ledger) (host : Host) (space : List ℕ) (answer : Answer) (record
   unfolding limit overwrite
   given_back gcr few image marks spoiled out refusal after room restores =
       let low : length sent ≤ limit = rw sent_length few in
-      let long : image_length (length sent) density ≡ length (image_of sent density) = sym (image_length_lem sent density) in
+      let long : image_length (length sent) density ≡ length (image_of sent density) =
+      sym (image_length_lem sent density) in
       let fits : image_length (length sent) density ≤ length space =
       subst (λ (n : ℕ). n ≤ length space) (ap length (image_is sent density) ∙ sym long) recorded.room in
       let made = builds_within sent density 65791 space low fits (none_is_a_place (length sent)) in

@@ -16,23 +16,23 @@ use Rattle.operations.specs.declared.operation.Operation.TheVariants.{Read, Chec
 use Rattle.operations.specs.declared.operation.Operation.TheVariants.{Rewind, FastForward, SkipForward, SkipReverse}
 use Rattle.operations.specs.declared.operation.Operation.TheVariants.{SearchForward, SearchReverse, WriteMark}
 use Rattle.operations.specs.declared.decode.Decoded.{Decoded}
-use Rattle.operations.specs.Operation.{order_byte, same_operation, is_read}
+use Rattle.operations.specs.Operation.{is_read}
 use Rattle.records.specs.Image.{image_of}
 use Rattle.records.specs.Place.{written_bytes}
 use Rattle.status.specs.declared.drives.Drive.{Drive}
 use Rattle.status.specs.Drives.{drive_of, with_report, copy_report}
-use Rattle.link.specs.Frames.{order_of}
 use Rattle.operations.specs.declared.store.Store.{Store}
 use Rattle.link.specs.declared.state.Phase.TheVariants.{GoOffered, DataAwaited, ResultAwaited}
 use Rattle.link.specs.declared.state.Body.{Body}
 use Rattle.controller.specs.declared.controller.Controller.{Controller}
 use Rattle.link.specs.State.{with_selected, current_drive}
-use Rattle.operations.specs.Store.{asked_for, thrown_away, held_count, supplied_count}
+use Rattle.operations.specs.Store.{asked_for, thrown_away, held_count}
 use Rattle.link.specs.Bytes.{ack}
 use Rattle.controller.specs.Controller.{carried}
 use Rattle.controller.specs.Stores.{order_move, yes_to_go, no_to_go}
 use Rattle.transfers.specs.Data.{Host, record_bytes, write_image, settle_data}
-use Rattle.transfers.specs.Results.{Result, is_gone, code_reported, record_count, used_count, verdict_of, delivered_bytes}
+use Rattle.transfers.specs.Results.{Result, is_gone, code_reported, record_count, used_count, verdict_of}
+use Rattle.transfers.specs.Results.{delivered_bytes}
 use Rattle.transfers.specs.Results.{delivered, fitting, result_gap, settle_result}
 use Rattle.controller.specs.Records.{words_of, with_status, with_after, data_done, result_done}
 use Rattle.controller.specs.Machine.{report_noted, Call, plain}
@@ -40,8 +40,8 @@ use Rattle.controller.specs.Machine.Call.{byte, report, host_data, result}
 use Rattle.controller.specs.Lists.{asks_for, asks_read}
 use Rattle.controller.specs.Separation.{Output, is_of, awaits_go, event_of, orders_for, bytes_given, transfer_of}
 use Rattle.controller.specs.Separation.Event.{report_came, go_answered, data_came, result_came}
-use Rattle.controller.specs.Separation.Output.{motion, image, delivery}
-use Rattle.controller.proofs.DrivesAreSeparate.OneDrive.{Hand, View, resting, hand_after_go, hand_after_data}
+use Rattle.controller.specs.Separation.Output.{image, delivery}
+use Rattle.controller.proofs.DrivesAreSeparate.OneDrive.{Hand, resting, hand_after_go, hand_after_data}
 use Rattle.controller.proofs.DrivesAreSeparate.OneDrive.{given_at_data, moved, drive_after_result, given_at_result}
 use Rattle.controller.proofs.DrivesAreSeparate.OneDrive.{told, gives}
 use Rattle.controller.proofs.DrivesAreSeparate.OneDrive.Hand.{empty, go_offered, data_awaited, result_awaited}
@@ -58,7 +58,8 @@ module _ (d : ℕ) (low : d ≤ 3) (last : Store) (c : Controller) (n r : ℕ) w
   pub report_follows :
       n ≤ 3
       → InHand last c.body.selected c.phase
-      → Follows d (view_of d last c) last c (record { call = report n r; answer = plain (carried (report_noted c n r)) })
+      → Follows d (view_of d last c)
+      last c (record { call = report n r; answer = plain (carried (report_noted c n r)) })
   unfolding event_of transfer_of orders_for told gives with_report
   report_follows within held =
       by_test (eqb n d)
@@ -217,8 +218,8 @@ module _ (d : ℕ) (low : d ≤ 3) (last : Store) (b : Body) (operation : Operat
       Held last b.selected operation store
       → Follows d (view_of d last moving) last moving
       (record { call = result r space check; answer = result_done b (current_drive b) operation store r space check })
-  unfolding event_of transfer_of bytes_given told gives result_done settle_result verdict_of result_gap is_gone code_reported
-      held_count hand_in drive_after_result given_at_result asks_for asks_read
+  unfolding event_of transfer_of bytes_given told gives result_done settle_result verdict_of result_gap is_gone
+      code_reported held_count hand_in drive_after_result given_at_result asks_for asks_read
   result_follows held =
       let bytes = delivered (current_drive b) operation store r check in
       let body = with_after b (settle_result (words_of b) (current_drive b) operation store r (length space) check) in

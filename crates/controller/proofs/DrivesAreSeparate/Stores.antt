@@ -9,8 +9,7 @@ use mathlib.Core.List.{List, [], ◌∷◌}
 use lib.Dec.{leb, eqb}
 use borrow.Author.Tests.{eqb-true, eqb-false, eq-eqb, ne_eqb, leb-false, leb-true}
 use Rattle.common.specs.Pick.{pick}
-use Rattle.common.specs.Space.{overwrite}
-use Rattle.common.proofs.PickLaws.{by_test, pick_by, pick_yes, pick_no}
+use Rattle.common.proofs.PickLaws.{by_test, pick_yes, pick_no}
 use Rattle.operations.specs.declared.operation.Operation.{Operation}
 use Rattle.operations.specs.declared.course.Course.{Course}
 use Rattle.operations.specs.declared.decode.Decoded.{Decoded}
@@ -36,7 +35,7 @@ use Rattle.controller.specs.Controller.{carried}
 use Rattle.controller.specs.Stores.{end_with, motion_order, order_move, begin, follow, clear_outcome, carry_out_on}
 use Rattle.controller.specs.Stores.{carry_out}
 use Rattle.controller.specs.Machine.{Call, plain}
-use Rattle.controller.specs.Machine.Call.{taken, report}
+use Rattle.controller.specs.Machine.Call.{taken}
 use Rattle.controller.specs.Lists.{holds_store}
 use Rattle.controller.specs.Separation.{Output, is_of, store_event, event_of, orders_for, transfer_of, asks_reset}
 use Rattle.controller.specs.Separation.{resets}
@@ -94,7 +93,8 @@ order_own :
 unfolding orders_for order_of
 order_own d drives n code third fourth e =
     subst
-    (λ (m : ℕ). orders_for d (Order (order_of code m (drive_of drives m).track (drive_of drives m).density third fourth))
+    (λ (m : ℕ).
+    orders_for d (Order (order_of code m (drive_of drives m).track (drive_of drives m).density third fourth))
     ≡ motion (order_of code d (drive_of drives d).track (drive_of drives d).density third fourth) ∷ [])
     (sym e) (pick_yes _ [] (eq-eqb d d refl))
 
@@ -127,7 +127,8 @@ module _ (d : ℕ) (store : Store) where
         by_beginning
         (λ operation t. Starts d (record { drive = seen d b; hand = hand_for operation (bare store) })
         (first_order d (seen d b) (bare store) operation) t)
-        (with_selected b n) store (λ o same. record { view = refl; given = refl }) (record { view = refl; given = refl })
+        (with_selected b n) store (λ o same. record { view = refl; given = refl })
+        (record { view = refl; given = refl })
         (λ operation o same ordered.
         subst₂ (λ (hand : Hand) (out : List Output). Starts d (record { drive = seen d b; hand = hand }) out
         (order_move (with_outcome (with_selected b n) o) operation store))
@@ -135,7 +136,8 @@ module _ (d : ℕ) (store : Store) where
         (sym (pick_no _ _ (ap₂ (λ (s t : Bool). s || t) ordered.other ordered.moving)))
         (ordered_own (with_outcome (with_selected b n) o) operation e))
 
-    begun_other : (n ≡ d → ⊥) → (operation : Operation) → Leaves d (seen d b) (begin (with_selected b n) operation store)
+    begun_other : (n ≡ d → ⊥) → (operation : Operation)
+        → Leaves d (seen d b) (begin (with_selected b n) operation store)
     unfolding orders_for
     begun_other other =
         by_beginning (λ operation t. Leaves d (seen d b) t) (with_selected b n) store
@@ -301,7 +303,8 @@ unfolding is_of
 own_number d store names own =
     eqb-true (named_drive store) d (subst (λ (t : Bool). (t && eqb (named_drive store) d) ≡ true) names own)
 
-pub other_number : (d : ℕ) (store : Store) → names_drive store ≡ true → is_of d store ≡ false → named_drive store ≡ d → ⊥
+pub other_number : (d : ℕ) (store : Store) → names_drive store ≡ true → is_of d store ≡ false
+    → named_drive store ≡ d → ⊥
 unfolding is_of
 other_number d store names other =
     eqb-false (named_drive store) d (subst (λ (t : Bool). (t && eqb (named_drive store) d) ≡ false) names other)
@@ -346,7 +349,8 @@ module _ (d : ℕ) (low : d ≤ 3) (c : Controller) (store : Store) (call : Call
   decoded_follows :
       named_drive store ≤ 3
       → asks_reset (asked_for store) ≡ false
-      → answered (decoded (with_selected (clear_outcome c.body) (named_drive store)) store (asked_on (named_drive store)))
+      → answered
+      (decoded (with_selected (clear_outcome c.body) (named_drive store)) store (asked_on (named_drive store)))
   unfolding clear_outcome transfer_of told gives store_event asked_for asks_reset
   decoded_follows within keeps =
       let b = clear_outcome c.body in

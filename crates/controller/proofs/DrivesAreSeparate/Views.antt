@@ -7,7 +7,6 @@ use mathlib.Core.List.{List, [], ◌∷◌, ◌++◌, append-nil}
 use lib.Dec.{eqb}
 use borrow.Author.Tests.{eq-eqb}
 use Rattle.common.specs.Pick.{pick}
-use Rattle.common.specs.Space.{overwrite}
 use Rattle.common.proofs.PickLaws.{by_test, pick_both, pick_yes, pick_no}
 use Rattle.operations.specs.declared.operation.Operation.{Operation}
 use Rattle.operations.specs.declared.operation.Operation.TheVariants.{Write}

@@ -362,8 +362,8 @@ module _ (store : Store) where
     operates operation f l asked some ordered known = operated_turns operation f l some asked ordered (known some)
 
     all_begin : Asks Begins
-    unfolding words_begun order_asked passes_test count_begun among in_density follow course_of reset_state start_body no_outcome
-        clear_outcome offers_go HeldIn pick
+    unfolding words_begun order_asked passes_test count_begun among in_density follow course_of reset_state start_body
+        no_outcome clear_outcome offers_go HeldIn pick
     all_begin =
         record {
           resets = λ f l known. record { words = refl; go = refl; held = tt };
@@ -378,10 +378,12 @@ module _ (store : Store) where
           enables = λ f known.
               quiet_turns 3 f 0x09 refl (with_flags b b.changed true) refl (known refl) refl refl;
           unguards = λ f known.
-              quiet_turns 3 f 0x0A refl (with_current_drive b (with_guard (current_drive b) false)) refl (known refl) refl
+              quiet_turns 3 f 0x0A refl (with_current_drive b (with_guard (current_drive b) false))
+              refl (known refl) refl
               refl;
           guards = λ f known.
-              quiet_turns 3 f 0x0B refl (with_current_drive b (with_guard (current_drive b) true)) refl (known refl) refl
+              quiet_turns 3 f 0x0B refl (with_current_drive b (with_guard (current_drive b) true))
+              refl (known refl) refl
               refl;
           mfm = λ f known.
               quiet_turns 3 f 0x0C refl (with_current_drive b (with_density (current_drive b) 0)) refl (known refl) refl
@@ -415,7 +417,8 @@ module _ (store : Store) where
 
 pub carried_turns : (l : Ledger) (b : Body) (store : Store) → Agreeing l b
     → Turns (words_carried l (words_of b) store) store (carry_out b store)
-unfolding words_carried carry_out carry_out_on names_unknown selected_by names_drive named_drive asked_for clear_outcome no_outcome
+unfolding words_carried carry_out carry_out_on names_unknown selected_by names_drive named_drive asked_for clear_outcome
+    no_outcome
 carried_turns l b store agrees =
     let named = eqb (store.address / 8 % 2) 1 in
     let number = store.address % 8 in

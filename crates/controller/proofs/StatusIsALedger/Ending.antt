@@ -27,8 +27,10 @@ use Rattle.operations.specs.After.{motion_of, retry_of}
 use Rattle.operations.specs.Store.{held_count, supplied_count}
 use Rattle.transfers.specs.declared.verdict.Verdict.{Verdict}
 use Rattle.transfers.specs.declared.after.Words.{Words}
-use Rattle.transfers.specs.Results.{Result, result_refusal, is_gone, marks_read, findings_read, code_reported, final_code}
-use Rattle.transfers.specs.Results.{reads_gcr, record_count, used_count, verdict_of, read_count, read_bytes, delivered_bytes}
+use Rattle.transfers.specs.Results.{Result, result_refusal, is_gone, marks_read, findings_read, code_reported}
+use Rattle.transfers.specs.Results.{final_code}
+use Rattle.transfers.specs.Results.{reads_gcr, record_count, used_count, verdict_of, read_count, read_bytes}
+use Rattle.transfers.specs.Results.{delivered_bytes}
 use Rattle.transfers.specs.Results.{delivered, result_tertiary, result_quintary, wrote_well, result_count}
 use Rattle.transfers.specs.Results.{result_bits, with_retry, result_words}
 use Rattle.transfers.proofs.ReadLaws.{read_length}
@@ -219,8 +221,8 @@ module _ (drive : Drive) (operation : Operation) (store : Store) (r : Result) wh
       → result_words w (verdict_of drive operation store r) operation store r.mark r.late
       (length (delivered drive operation store r check)) space
       ≡ words_left w t order count final motion r space
-  unfolding result_words words_left result_tertiary result_quintary tertiary_ended quintary_ended tertiary_of quintary_of
-      digits_of
+  unfolding result_words words_left result_tertiary result_quintary tertiary_ended quintary_ended tertiary_of
+      quintary_of digits_of
   ended_words w t motion space check good reported dense moved =
       let tertiary = tertiary_ended order drive.density gone scan w.tertiary in
       let quintary = quintary_ended order drive.density gone scan w.quintary in

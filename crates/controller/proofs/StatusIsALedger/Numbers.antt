@@ -16,9 +16,11 @@ use Rattle.operations.specs.declared.operation.Operation.{Operation}
 use Rattle.operations.specs.declared.operation.Operation.TheVariants.{Read, CheckBytes, SuppliedCount, Write, Erase}
 use Rattle.operations.specs.declared.operation.Operation.TheVariants.{Rewind, FastForward, SkipForward, SkipReverse}
 use Rattle.operations.specs.declared.operation.Operation.TheVariants.{SearchForward, SearchReverse, WriteMark}
-use Rattle.operations.specs.Operation.{order_byte, move_of, moves_tape, counts_bytes, same_operation, supplies_count, is_read}
+use Rattle.operations.specs.Operation.{order_byte, move_of, moves_tape, counts_bytes, same_operation, supplies_count}
+use Rattle.operations.specs.Operation.{is_read}
 use Rattle.operations.specs.Operation.{brings_record, is_skip}
-use Rattle.operations.specs.Answers.{forward_codes, reverse_codes, end_codes, supplied_codes, listed_codes, trailing_codes}
+use Rattle.operations.specs.Answers.{forward_codes, reverse_codes, end_codes, supplied_codes, listed_codes}
+use Rattle.operations.specs.Answers.{trailing_codes}
 use Rattle.operations.specs.Answers.{clear_codes, is_in, answer_of}
 use Rattle.operations.specs.After.{own_retry, code_retry}
 use Rattle.operations.specs.Test.{is_ready, is_ahead_free, is_behind_free, is_writable, may_move}

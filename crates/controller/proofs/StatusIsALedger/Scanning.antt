@@ -112,7 +112,8 @@ module _ (all : List ℕ) where
 pub scan_said : (marks : List ℕ) → as_findings (scanned marks 0 none_bad none_bad) ≡ findings_of marks
 unfolding findings_of scan_marks
 scan_said marks =
-    scan_from_lem marks marks 0 (length marks) (length marks) none_bad none_bad refl (omega arith) (sym (none_there marks))
+    scan_from_lem marks marks 0 (length marks) (length marks) none_bad none_bad refl (omega arith)
+    (sym (none_there marks))
     (sym (none_there marks))
 
 pub torn_said : (marks : List ℕ) → first_torn marks ≡ torn_marks marks

@@ -14,7 +14,8 @@ use Rattle.status.specs.declared.drives.Drive.{Drive}
 use Rattle.status.specs.declared.drives.Drives.{Drives}
 use Rattle.status.specs.declared.words.Outcome.{Outcome}
 use Rattle.status.specs.declared.words.Word.{Word}
-use Rattle.status.specs.Drives.{installed, reports, drive_of, with_drive, with_report, copy_report, copy_reports, fresh_with}
+use Rattle.status.specs.Drives.{installed, reports, drive_of, with_drive, with_report, copy_report, copy_reports}
+use Rattle.status.specs.Drives.{fresh_with}
 use Rattle.status.specs.Drives.{fresh_drives, reset_drives}
 use Rattle.status.specs.Words.{bit_of, no_outcome, primary_of, secondary_word, zero_word, reports_word}
 use Rattle.link.specs.declared.state.Collected.{Collected}
@@ -25,12 +26,14 @@ use Rattle.link.specs.declared.state.Phase.TheVariants.{Collecting}
 use Rattle.link.specs.declared.state.Body.{Body}
 use Rattle.link.specs.declared.state.Action.{Action}
 use Rattle.link.specs.declared.state.Transition.{Transition}
-use Rattle.link.specs.State.{nothing_collected, with_drives, with_flags, with_outcome, with_selected, with_current_drive}
+use Rattle.link.specs.State.{nothing_collected, with_drives, with_flags, with_outcome, with_selected}
+use Rattle.link.specs.State.{with_current_drive}
 use Rattle.link.specs.State.{current_drive, note_report, review, start_body, reset_state, keep_collecting, idle}
 use Rattle.link.specs.Bytes.{ack, nack, load_lead, store_lead, most_noes}
 use Rattle.link.specs.Frames.{string_of}
 use Rattle.link.specs.Completion.{primary_now, send_word, send_interrupt, complete}
-use Rattle.link.specs.Link.{whole_length, append_byte, is_good_string, first_byte, last_byte, next_byte, yes_to_send, give_up}
+use Rattle.link.specs.Link.{whole_length, append_byte, is_good_string, first_byte, last_byte, next_byte, yes_to_send}
+use Rattle.link.specs.Link.{give_up}
 use Rattle.link.specs.Link.{no_to_send, collect_byte, answer_to_send, tick_after_review, idle_tick}
 use Rattle.link.specs.Loads.{load_word, carry_out_load}
 use Rattle.controller.specs.InRange.{DriveInRange, DrivesInRange, ResultInRange, WordInRange, BodyInRange}
@@ -402,7 +405,8 @@ collecting_within : (b : Body) (s : Collected) → BodyInRange b → PartInRange
 unfolding PhaseInRange ActionInRange HandedInRange
 collecting_within b s whole part = record { body = whole; phase = part; action = tt; handed = tt }
 
-first_part : (byte : ℕ) → (eqb byte load_lead || eqb byte store_lead) ≡ true → IsPart (append_byte nothing_collected byte)
+first_part : (byte : ℕ) → (eqb byte load_lead || eqb byte store_lead) ≡ true
+    → IsPart (append_byte nothing_collected byte)
 unfolding append_byte pick
 first_part byte =
     by_either (eqb byte load_lead) (eqb byte store_lead) (λ load. of_load (eqb-true byte 0x62 load) (omega arith))

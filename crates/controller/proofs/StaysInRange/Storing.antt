@@ -27,7 +27,8 @@ use Rattle.operations.specs.Course.{test_of, course_of}
 use Rattle.operations.specs.Test.{may_move}
 use Rattle.operations.specs.After.{with_code}
 use Rattle.operations.specs.Codes.{no_go}
-use Rattle.operations.specs.Store.{asks_interrupt, names_drive, named_drive, names_unknown, selected_by, asked_for, asked_in}
+use Rattle.operations.specs.Store.{asks_interrupt, names_drive, named_drive, names_unknown, selected_by, asked_for}
+use Rattle.operations.specs.Store.{asked_in}
 use Rattle.link.specs.declared.state.Body.{Body}
 use Rattle.link.specs.declared.state.Transition.{Transition}
 use Rattle.link.specs.Bytes.{ack}
@@ -162,7 +163,8 @@ pub ending_within : (b : Body) (operation : Operation) (store : Store) → BodyI
     → Within (end_operation b operation store)
 unfolding end_operation
 ending_within b operation store whole =
-    pick_by Within (offers_end operation) (λ offers. offered_within b store whole) (λ ends. settled_within b store whole)
+    pick_by Within (offers_end operation) (λ offers. offered_within b store whole)
+    (λ ends. settled_within b store whole)
 
 -- ---- the answers to GO
 

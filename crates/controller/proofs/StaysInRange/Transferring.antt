@@ -32,7 +32,8 @@ use Rattle.operations.specs.declared.operation.Motion.{Motion}
 use Rattle.operations.specs.declared.operation.Motion.TheVariants.{Still, Forward, Reverse, Rewinding, Winding}
 use Rattle.operations.specs.declared.operation.Motion.TheVariants.{Writing, Erasing}
 use Rattle.operations.specs.declared.store.Store.{Store}
-use Rattle.operations.specs.Answers.{forward_codes, reverse_codes, end_codes, supplied_codes, listed_codes, trailing_codes}
+use Rattle.operations.specs.Answers.{forward_codes, reverse_codes, end_codes, supplied_codes, listed_codes}
+use Rattle.operations.specs.Answers.{trailing_codes}
 use Rattle.operations.specs.Answers.{clear_codes, is_in, answer_of}
 use Rattle.operations.specs.Operation.{same_operation, supplies_count, is_read, move_of}
 use Rattle.operations.specs.After.{loses_tape, usual_motion, motion_of, gap_of, gap_after}
@@ -44,10 +45,12 @@ use Rattle.transfers.specs.declared.expected.Expected.TheVariants.{Whole, Suppli
 use Rattle.transfers.specs.declared.verdict.Verdict.{Verdict}
 use Rattle.transfers.specs.Expected.{unmarked_refusal, image_refusal, expected_of}
 use Rattle.transfers.specs.Data.{check_store, Host, write_image, data_refusal, data_words}
-use Rattle.transfers.specs.Results.{Result, mark_against, result_refusal, code_reported, final_code, findings_read, is_gone}
+use Rattle.transfers.specs.Results.{Result, mark_against, result_refusal, code_reported, final_code, findings_read}
+use Rattle.transfers.specs.Results.{is_gone}
 use Rattle.transfers.specs.Results.{record_count, used_count, verdict_of, wrote_well, result_tertiary, result_quintary}
-use Rattle.transfers.specs.Results.{result_count, result_bits, with_retry, result_words, result_gap, read_count, read_bytes}
-use Rattle.transfers.specs.Results.{delivered_bytes, fitting, delivered, settle_result}
+use Rattle.transfers.specs.Results.{result_count, result_bits, with_retry, result_words, result_gap, read_count}
+use Rattle.transfers.specs.Results.{read_bytes}
+use Rattle.transfers.specs.Results.{delivered_bytes, fitting, settle_result}
 use Rattle.transfers.proofs.DataLaws.{data_ready, record_image_length}
 use Rattle.transfers.proofs.ReadLaws.{read_length}
 use Rattle.link.specs.declared.state.Body.{Body}

@@ -18,7 +18,8 @@ use Rattle.link.specs.declared.state.Transition.{Transition}
 use Rattle.link.specs.Bytes.{ack, nack, load_lead, store_lead, most_noes}
 use Rattle.link.specs.State.{review, idle}
 use Rattle.link.specs.Completion.{send_word, send_interrupt, complete}
-use Rattle.link.specs.Link.{whole_length, append_byte, is_good_string, first_byte, last_byte, next_byte, yes_to_send, give_up}
+use Rattle.link.specs.Link.{whole_length, append_byte, is_good_string, first_byte, last_byte, next_byte, yes_to_send}
+use Rattle.link.specs.Link.{give_up}
 use Rattle.link.specs.Link.{no_to_send, collect_byte, answer_to_send, tick_after_review, idle_tick}
 use Rattle.link.specs.Loads.{carry_out_load}
 

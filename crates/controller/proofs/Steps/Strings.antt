@@ -37,7 +37,8 @@ use Rattle.status.specs.declared.words.ResultRecord.{ResultRecord}
 use Rattle.link.specs.State.{with_flags, with_outcome, current_drive, review, idle}
 use Rattle.link.specs.Bytes.{ack, nack, load_lead, store_lead, load_reply, secondary_update, interrupt, most_noes}
 use Rattle.link.specs.Completion.{primary_now, send_word, send_interrupt, complete}
-use Rattle.link.specs.Link.{whole_length, append_byte, is_good_string, first_byte, last_byte, next_byte, yes_to_send, give_up}
+use Rattle.link.specs.Link.{whole_length, append_byte, is_good_string, first_byte, last_byte, next_byte, yes_to_send}
+use Rattle.link.specs.Link.{give_up}
 use Rattle.link.specs.Link.{no_to_send, collect_byte, answer_to_send, tick_after_review, idle_tick}
 use Rattle.link.specs.Loads.{carry_out_load, load_word}
 use Rattle.controller.specs.Stores.{hand_back, end_with, settle, end_operation, no_to_go}

@@ -38,7 +38,8 @@ use Rattle.link.specs.Bytes.{nack, load_lead, store_lead, interrupt}
 use Rattle.link.specs.Frames.{string_of}
 use Rattle.link.specs.State.{with_flags, with_outcome, current_drive, review, idle}
 use Rattle.link.specs.Completion.{primary_now, send_word, send_interrupt, complete}
-use Rattle.link.specs.Link.{whole_length, append_byte, is_good_string, first_byte, last_byte, next_byte, yes_to_send, give_up}
+use Rattle.link.specs.Link.{whole_length, append_byte, is_good_string, first_byte, last_byte, next_byte, yes_to_send}
+use Rattle.link.specs.Link.{give_up}
 use Rattle.link.specs.Link.{no_to_send, collect_byte, answer_to_send, tick_after_review, idle_tick}
 use Rattle.link.specs.Loads.{load_word, carry_out_load}
 use Rattle.link.proofs.FrameLaws.{string_checks}
@@ -54,7 +55,8 @@ use Rattle.controller.proofs.DrivesAreALedger.{told, Agrees, Agreeing, pick_pair
 -- ---- the list and the state
 
 -- the flags and the reviewed copies
-pub record FlagsAre (told_changed told_enable : Bool) (copies : ℕ → ℕ) (is_changed is_enabled : Bool) (drives : Drives) :
+pub record FlagsAre (told_changed told_enable : Bool) (copies : ℕ → ℕ) (is_changed is_enabled : Bool)
+    (drives : Drives) :
     Type 0 where
   pub changed : is_changed ≡ told_changed
   pub enable : is_enabled ≡ told_enable

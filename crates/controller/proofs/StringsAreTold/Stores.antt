@@ -277,7 +277,8 @@ module _ (l : Ledger) (w : Words) where
 
   pub carried_told : (f : Wire) (b : Body) (store : Store) → Flags f b → b.selected ≤ 3
       → Tells l w (stored f l w store) (carry_out b store)
-  unfolding stored carry_out carry_out_on names_unknown selected_by names_drive named_drive asked_for clear_outcome no_outcome
+  unfolding stored carry_out carry_out_on names_unknown selected_by names_drive named_drive asked_for clear_outcome
+      no_outcome
   carried_told f b store flags low =
       let named = eqb (store.address / 8 % 2) 1 in
       let number = store.address % 8 in

@@ -5,7 +5,7 @@ use mathlib.Core.Path.{◌≡◌, refl, sym, ap, ap₂, ◌∙◌}
 use mathlib.Core.Bool.{Bool, true, false}
 use mathlib.Core.List.{List, []}
 use contract.Lifetimes.{Lfts}
-use denote.Ref.{MutBor, at_last}
+use denote.Ref.{Bor, MutBor, at_last}
 use Prim.Native.Nat.{ℕ}
 use Rattle.common.specs.Pick.{pick}
 use Rattle.transfers.specs.Results.{Result, result_of}
@@ -65,7 +65,7 @@ pub record Plainly (Promise : Dispatched → Type 0) (answer : Answer) : Type 0 
 -- the answer of a call that is lent space: three slices of the data call, four of the result, wherever they lie
 pub record DataLent (d : Dispatcher) (host : Host) (space check : List ℕ) (answer : Answer) : Type 0 where
   pub lifetimes : Lfts 3
-  pub host_slice : MutBor (List ℕ)
+  pub host_slice : Bor (List ℕ)
   pub space_slice : MutBor (List ℕ)
   pub check_slice : MutBor (List ℕ)
   pub transfer : DispatchedTransfer
@@ -79,8 +79,8 @@ pub record DataLent (d : Dispatcher) (host : Host) (space check : List ℕ) (ans
 
 pub record ResultLent (d : Dispatcher) (r : Result) (space check : List ℕ) (answer : Answer) : Type 0 where
   pub lifetimes : Lfts 4
-  pub image_slice : MutBor (List ℕ)
-  pub marks_slice : MutBor (List ℕ)
+  pub image_slice : Bor (List ℕ)
+  pub marks_slice : Bor (List ℕ)
   pub space_slice : MutBor (List ℕ)
   pub check_slice : MutBor (List ℕ)
   pub transfer : DispatchedTransfer
@@ -107,6 +107,9 @@ pub record ResultLent (d : Dispatcher) (r : Result) (space check : List ℕ) (an
         ),
       )
   pub same : answer ≡ answered transfer answer.space answer.check
+
+abbrev shown : List ℕ → Bor (List ℕ)
+shown bytes = record { ref_ptr = (0, 0); now = bytes }
 
 abbrev somewhere : List ℕ → MutBor (List ℕ)
 somewhere bytes = record { ref_ptr = (0, 0); ghost_name = 0; now = bytes }
@@ -215,7 +218,7 @@ steps_are_allowed d (passed (machine.hand store)) is = absurd is
 steps_are_allowed d (passed (machine.host_data host space check)) is =
     record {
       lifetimes = ([], ([], ([], tt)));
-      host_slice = somewhere host.bytes;
+      host_slice = shown host.bytes;
       space_slice = somewhere space;
       check_slice = somewhere check;
       transfer = handed_back (dispatcher.data_call d host space check);
@@ -228,8 +231,8 @@ steps_are_allowed d (passed (machine.host_data host space check)) is =
 steps_are_allowed d (passed (machine.result r space check)) is =
     record {
       lifetimes = ([], ([], ([], ([], tt))));
-      image_slice = somewhere r.image;
-      marks_slice = somewhere r.marks;
+      image_slice = shown r.image;
+      marks_slice = shown r.marks;
       space_slice = somewhere space;
       check_slice = somewhere check;
       transfer = handed_back (dispatcher.result_call d r space check);

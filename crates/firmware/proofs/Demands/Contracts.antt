@@ -5,7 +5,7 @@ use mathlib.Core.Path.{◌≡◌, refl, sym, ap, ap₂, ◌∙◌}
 use mathlib.Core.Bool.{Bool, true, false}
 use mathlib.Core.List.{List, []}
 use contract.Lifetimes.{Lfts}
-use denote.Ref.{MutBor, at_last}
+use denote.Ref.{Bor, MutBor, at_last}
 use Prim.Native.Nat.{ℕ}
 use mir.Val.{bool_byte}
 use Rattle.common.proofs.PickLaws.{by_test}
@@ -78,7 +78,7 @@ pub record Plainly (Promise : Lfts 2 → Array → Array → ℕ → List ℕ �
 pub record DataLent (host : Host) (space check state answer : List ℕ) (l : Left) : Type 0 where
   pub lifetimes : Lfts 5
   pub state_array : Array
-  pub host_slice : Array
+  pub host_slice : Bor (List ℕ)
   pub space_slice : Array
   pub check_slice : Array
   pub answer_array : Array
@@ -108,8 +108,8 @@ pub record ResultLent (r : Result) (space check state answer : List ℕ) (l : Le
   pub lifetimes : Lfts 6
   pub state_array : Array
   pub mark : ℕ
-  pub image_slice : Array
-  pub marks_slice : Array
+  pub image_slice : Bor (List ℕ)
+  pub marks_slice : Bor (List ℕ)
   pub space_slice : Array
   pub check_slice : Array
   pub answer_array : Array
@@ -279,6 +279,9 @@ nothing_lent call state answer no_space no_check steps =
 plain_lent : (a : Answer) (reply : Dispatched) → plain reply ≡ a → (a.space ≡ []) × (a.check ≡ [])
 plain_lent a reply is = (sym (ap (λ (x : Answer). x.space) is), sym (ap (λ (x : Answer). x.check) is))
 
+abbrev shown : List ℕ → Bor (List ℕ)
+shown bytes = record { ref_ptr = (0, 0); now = bytes }
+
 abbrev somewhere : List ℕ → Array
 somewhere bytes = record { ref_ptr = (0, 0); ghost_name = 0; now = bytes }
 
@@ -390,7 +393,7 @@ called_is_allowed state (passed (machine.host_data host space check)) answer is 
     record {
       lifetimes = ([], ([], ([], ([], ([], tt)))));
       state_array = somewhere state;
-      host_slice = somewhere host.bytes;
+      host_slice = shown host.bytes;
       space_slice = somewhere space;
       check_slice = somewhere check;
       answer_array = somewhere answer;
@@ -406,8 +409,8 @@ called_is_allowed state (passed (machine.result r space check)) answer is =
       lifetimes = ([], ([], ([], ([], ([], ([], tt))))));
       state_array = somewhere state;
       mark = bool_byte r.mark;
-      image_slice = somewhere r.image;
-      marks_slice = somewhere r.marks;
+      image_slice = shown r.image;
+      marks_slice = shown r.marks;
       space_slice = somewhere space;
       check_slice = somewhere check;
       answer_array = somewhere answer;
