@@ -2,7 +2,7 @@
 -- enough; and which store then wins.
 -- Assumes nothing.
 use mathlib.Core.Path.{◌≡◌, refl, sym, ◌∙◌}
-use Prim.Native.Nat.{ℕ, zero, suc, ◌-◌, ◌≤◌, ◌<◌}
+use Prim.Native.Nat.{ℕ, zero, suc, ◌≤◌, ◌<◌}
 use native.Mathlib.Omega.{arith}
 use mathlib.Core.Bool.{Bool, true, false, not, ◌&&◌, ◌||◌, false≢true}
 use lib.Dec.{leb, ltb, eqb}
@@ -66,7 +66,8 @@ module _ (wins : Position → Bool) (w f : ℕ) where
   write_wins good spoiled =
       by_test (ltb 0 f) (λ may. rw (good, may, spoiled (ltb-true 0 f may))) (λ never. rw (good, never))
 
-  good_loses : wins (after_good (position_of Proper w f)) ≡ false → store_wins wins Write (position_of Proper w f) ≡ false
+  good_loses : wins (after_good (position_of Proper w f)) ≡ false
+      → store_wins wins Write (position_of Proper w f) ≡ false
   unfolding store_wins may_write
   good_loses good = rw good
 
@@ -100,11 +101,13 @@ module _ (n : ℕ) (less : (p : Position) → forces n p ≡ is_enough n p) (w f
   unfolding store_wins may_write
   no_write_wins = refl
 
-  skip_wins : (gap : Gap) → needed_stores Proper w f ≤ n → store_wins (forces n) SkipReverse (position_of gap w f) ≡ true
+  skip_wins : (gap : Gap) → needed_stores Proper w f ≤ n
+      → store_wins (forces n) SkipReverse (position_of gap w f) ≡ true
   unfolding store_wins after_skip
   skip_wins gap h = less _ ∙ enough_yes n _ _ _ h
 
-  skip_loses : (gap : Gap) → n < needed_stores Proper w f → store_wins (forces n) SkipReverse (position_of gap w f) ≡ false
+  skip_loses : (gap : Gap) → n < needed_stores Proper w f
+      → store_wins (forces n) SkipReverse (position_of gap w f) ≡ false
   unfolding store_wins after_skip
   skip_loses gap h = less _ ∙ enough_no n _ _ _ some h
 

@@ -26,7 +26,8 @@ module _ (κs : Lfts 0) (gap : Gap) (w n f : ℕ) (r : Answer)
     (allowed : answer-reads.Post κs (gap, (w, (n, (f, tt)))) r (gap, (w, (n, (f, tt))))) where
   -- yes to two writes with one store
   pub answer_yes_with_fewer_stores_than_writes : gap ≡ Proper → w ≡ 2 → n ≡ 1 → f ≡ 0 → is_yes r ≡ true → ⊥
-  unfolding solve is_above_limit forces store_wins may_write may_spoil after_good after_spoiled after_skip is_finished is_yes pick
+  unfolding solve is_above_limit forces store_wins may_write may_spoil after_good after_spoiled after_skip is_finished
+      is_yes pick
   answer_yes_with_fewer_stores_than_writes g e₁ e₂ e₃ wrong =
       let right : is_yes r ≡ false = ap is_yes allowed ∙ rw (g, e₁, e₂, e₃) in false≢true (sym right ∙ wrong)
 

@@ -36,4 +36,5 @@ answer_number (Yes first) = first_number first
 
 -- the number that C is answered
 unfoldable pub contest : ℕ → ℕ → ℕ → ℕ → ℕ
-contest gap w n f = pick (ltb gap_limit gap) above_limit (answer_number (solve (pick (eqb gap 0) Proper Improper) w n f))
+contest gap w n f =
+    pick (ltb gap_limit gap) above_limit (answer_number (solve (pick (eqb gap 0) Proper Improper) w n f))

@@ -20,6 +20,7 @@ const YES_WRITE: u32 = 2;
 const YES_SKIP_REVERSE: u32 = 3;
 
 // The number of a first store.
+#[tactic(auto, unfolding(crate::specs::Interface::move_number))]
 fn move_number(store: Move) -> u32
     ensures { result ≡ move_number store }
 {
@@ -30,6 +31,7 @@ fn move_number(store: Move) -> u32
 }
 
 // The number of a yes.
+#[tactic(auto, unfolding(crate::specs::Interface::first_number))]
 fn first_number(first: Opening) -> u32
     ensures { result ≡ first_number first }
 {
@@ -40,6 +42,7 @@ fn first_number(first: Opening) -> u32
 }
 
 // The number of an answer.
+#[tactic(auto, unfolding(crate::specs::Interface::answer_number))]
 fn answer_number(answer: Answer) -> u32
     ensures { result ≡ answer_number answer }
 {
@@ -52,6 +55,7 @@ fn answer_number(answer: Answer) -> u32
 
 // Driver against tape. A gap above its limit is refused as the other numbers are.
 #[unsafe(no_mangle)]
+#[tactic(auto, unfolding(crate::specs::Interface::contest, common::specs::Pick::pick))]
 pub extern "C" fn ctc_contest(gap: u32, writes: u32, stores: u32, spoilings: u32) -> u32
     ensures { result ≡ contest gap writes stores spoilings }
 {

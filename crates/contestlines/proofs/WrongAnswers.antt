@@ -6,6 +6,7 @@ use Prim.Native.Nat.{ℕ}
 use native.Mathlib.Omega.{arith}
 use mathlib.Core.List.{List, [], ◌∷◌}
 use contract.Lifetimes.{Lfts}
+use denote.Bor.{Bor}
 use denote.Ref.{MutBor, at_last}
 use lib.ListN.{take, get_or}
 use borrow.Author.Tests.{eqb-false}
@@ -20,7 +21,8 @@ use Rattle.text.specs.Fields.{part_of, after_field, after_fields}
 use Rattle.text.specs.Print.{digit_of, decimal_text}
 use Rattle.contestlines.specs.Characters.{proper_letter}
 use Rattle.contestlines.specs.Line.{numbers_line, fields_line, gap_line, question_of}
-use Rattle.contestlines.specs.Print.{refusal_of, contest_text, contest_unreadable_text, question_text, contest_line_text}
+use Rattle.contestlines.specs.Print.{refusal_of, contest_text, contest_unreadable_text, question_text}
+use Rattle.contestlines.specs.Print.{contest_line_text}
 use Rattle.contestlines.specs.declared.line.Question.{Question}
 use Rattle.contestlines.specs.declared.line.Question.TheVariants.{Unreadable, Asked}
 use Rattle.contestlines.proofs.line.read_question.Reads as read-reads
@@ -31,7 +33,7 @@ unreadable_is_not_asked e = let z : ◌≡◌ {A = ℕ} 0 1 = cc in omega arith
 
 -- ---- read_question
 
-module _ (κs : Lfts 1) (line : MutBor (List ℕ)) (r : Question) (allowed : read-reads.Post κs (line, tt) r (line, tt))
+module _ (κs : Lfts 1) (line : Bor (List ℕ)) (r : Question) (allowed : read-reads.Post κs (line, tt) r (line, tt))
     (gap : Gap) (w n f : ℕ) where
   -- a small letter is read: p,1,3,1
   pub read_question_reads_a_small_letter : line.now ≡ 112 ∷ comma ∷ 49 ∷ comma ∷ 51 ∷ comma ∷ 49 ∷ []
@@ -43,14 +45,14 @@ module _ (κs : Lfts 1) (line : MutBor (List ℕ)) (r : Question) (allowed : rea
   -- 256 is read: P,256,3,1
   pub read_question_reads_256 : line.now ≡ proper_letter ∷ comma ∷ 50 ∷ 53 ∷ 54 ∷ comma ∷ 51 ∷ comma ∷ 49 ∷ []
       → r ≡ Asked gap w n f → ⊥
-  unfolding question_of gap_line fields_line numbers_line part_of after_fields after_field is_decimal decimal_of decimal_from
-      all_digits is_digit digit_value pick
+  unfolding question_of gap_line fields_line numbers_line part_of after_fields after_field is_decimal decimal_of
+      decimal_from all_digits is_digit digit_value pick
   read_question_reads_256 says wrong =
       let right : r ≡ Unreadable = allowed ∙ ap question_of says in unreadable_is_not_asked (sym right ∙ wrong)
 
 -- ---- print_contest_line
 
-module _ (κs : Lfts 2) (line out : MutBor (List ℕ)) (r : ℕ) (out' : List ℕ)
+module _ (κs : Lfts 2) (line : Bor (List ℕ)) (out : MutBor (List ℕ)) (r : ℕ) (out' : List ℕ)
     (allowed : print-reads.Post κs (line, (out, tt)) r (line, (at_last out out', tt))) where
   -- no is printed for an unreadable line
   pub print_no_for_an_unreadable_line : question_of line.now ≡ Unreadable → take r out' ≡ contest_text No → ⊥
@@ -63,8 +65,8 @@ module _ (κs : Lfts 2) (line out : MutBor (List ℕ)) (r : ℕ) (out' : List �
   pub print_yes_above_a_limit : line.now ≡ proper_letter ∷ comma ∷ 57 ∷ comma ∷ 57 ∷ comma ∷ 48 ∷ [] → (first : Opening)
       → take r out' ≡ contest_text (Yes first) → ⊥
   unfolding contest_line_text question_text contest_text decimal_text refusal_of digit_of solve is_above_limit
-      question_of gap_line fields_line numbers_line part_of after_fields after_field is_decimal decimal_of decimal_from all_digits
-      is_digit digit_value pick
+      question_of gap_line fields_line numbers_line part_of after_fields after_field is_decimal decimal_of decimal_from
+      all_digits is_digit digit_value pick
   print_yes_above_a_limit says first wrong =
       let right = allowed.1 ∙ ap contest_line_text says in
       eqb-false 50 zero_digit refl (ap (λ (l : List ℕ). get_or l 0 0) (sym right ∙ wrong))

@@ -8,13 +8,14 @@ use text::fields::{after, field_of};
 use text::limits::BYTE_LIMIT;
 
 // A line that was read: the gap, the good writes, the stores and the writes that may be spoiled.
-#[derive(Drop)]
+#[derive(Clone, Copy)]
 pub enum Question {
     Unreadable,
     Asked(Gap, u32, u32, u32),
 }
 
 // The numbers of a question.
+#[tactic(auto, using(common::proofs::PickLaws::both_hold), unfolding(crate::specs::Line::numbers_line, common::specs::Pick::pick))]
 fn read_numbers(gap: Gap, writes: &[u8], stores: &[u8], spoilings: &[u8]) -> Question
     ensures { result ≡ numbers_line gap writes.now stores.now spoilings.now }
 {
@@ -32,6 +33,7 @@ fn read_numbers(gap: Gap, writes: &[u8], stores: &[u8], spoilings: &[u8]) -> Que
 }
 
 // The fields of a question, cut apart.
+#[tactic(auto, using(crate::proofs::LineLaws::numbers_cut, text::proofs::FieldLaws::field_fits))]
 fn read_fields(gap: Gap, s: &[u8]) -> Question
     ensures { result ≡ fields_line gap s.now }
 {
@@ -43,6 +45,7 @@ fn read_fields(gap: Gap, s: &[u8]) -> Question
 }
 
 // The gap's letter, and what comes after its comma.
+#[tactic(auto, unfolding(crate::specs::Line::gap_line, common::specs::Pick::pick))]
 fn read_gap(letter: u8, s: &[u8]) -> Question
     ensures { result ≡ gap_line letter s.now }
 {
@@ -54,6 +57,7 @@ fn read_gap(letter: u8, s: &[u8]) -> Question
 }
 
 // A line, without its #0A.
+#[tactic(auto, using(crate::proofs::LineLaws::rest_all), unfolding(crate::specs::Line::question_of, common::specs::Pick::pick))]
 pub fn read_question(line: &[u8]) -> Question
     ensures { result ≡ question_of line.now }
 {

@@ -11,6 +11,7 @@ use contest::contest::{Answer, Move, Opening, solve};
 use text::print::{put, put_refusal};
 
 // The refusal of an answer.
+#[tactic(auto, unfolding(crate::specs::Print::refusal_of))]
 fn refusal_of(answer: Answer) -> u32
     ensures { result ≡ refusal_of answer }
 {
@@ -22,6 +23,7 @@ fn refusal_of(answer: Answer) -> u32
 }
 
 // Whether it is yes or no.
+#[tactic(auto, unfolding(crate::specs::Print::verdict_sign))]
 fn verdict_sign(answer: Answer) -> u8
     ensures { result ≡ verdict_sign answer }
 {
@@ -33,6 +35,7 @@ fn verdict_sign(answer: Answer) -> u8
 }
 
 // A store.
+#[tactic(auto, unfolding(crate::specs::Print::move_sign))]
 fn move_sign(store: Move) -> u8
     ensures { result ≡ move_sign store }
 {
@@ -43,6 +46,7 @@ fn move_sign(store: Move) -> u8
 }
 
 // A store, or none.
+#[tactic(auto, unfolding(crate::specs::Print::store_sign))]
 fn store_sign(first: Opening) -> u8
     ensures { result ≡ store_sign first }
 {
@@ -53,6 +57,7 @@ fn store_sign(first: Opening) -> u8
 }
 
 // The first store of an answer.
+#[tactic(auto, unfolding(crate::specs::Print::opening_sign))]
 fn opening_sign(answer: Answer) -> u8
     ensures { result ≡ opening_sign answer }
 {
@@ -64,6 +69,7 @@ fn opening_sign(answer: Answer) -> u8
 }
 
 // An answer.
+#[tactic(auto, unfolding(crate::specs::Print::contest_text))]
 fn print_contest(answer: Answer, out: &mut [u8]) -> usize
     requires { contest_most ≤ length out.old }
     ensures ends { result ≤ contest_most }
@@ -89,6 +95,7 @@ pub fn print_contest_unreadable(out: &mut [u8]) -> usize
 }
 
 // The answer to a question.
+#[tactic(auto, unfolding(crate::specs::Print::question_text))]
 fn print_question(question: Question, out: &mut [u8]) -> usize
     requires { contest_most ≤ length out.old }
     ensures ends { result ≤ contest_most }
@@ -103,6 +110,7 @@ fn print_question(question: Question, out: &mut [u8]) -> usize
 }
 
 // A line, without its #0A.
+#[tactic(auto, unfolding(crate::specs::Print::contest_line_text))]
 pub fn print_contest_line(line: &[u8], out: &mut [u8]) -> usize
     requires { contest_most ≤ length out.old }
     ensures ends { result ≤ contest_most }

@@ -23,7 +23,8 @@ unfolding is_operand
 operand_length_lem s e = eqb-true _ _ (both_hold (eqb (length s) operand_length) _ e).0
 
 -- its bytes fill the space for them
-pub operand_bytes : (s space : List ℕ) → is_operand s ≡ true → length space ≡ 4 → overwrite (bytes_of s) space ≡ bytes_of s
+pub operand_bytes : (s space : List ℕ) → is_operand s ≡ true → length space ≡ 4
+    → overwrite (bytes_of s) space ≡ bytes_of s
 operand_bytes s space e four =
     let all : length space ≤ length (bytes_of s) = omega (arith, operand_length_lem s e, bytes_length s) in
     overwritten_all (bytes_of s) space all

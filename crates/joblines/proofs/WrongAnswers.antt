@@ -5,7 +5,7 @@ use mathlib.Core.Path.{◌≡◌, refl, sym, ap, ap₂, ◌∙◌}
 use mathlib.Core.Bool.{Bool, true, false, false≢true}
 use mathlib.Core.List.{List, [], ◌∷◌, ◌++◌}
 use contract.Lifetimes.{Lfts}
-use denote.Ref.{MutBor, at_last}
+use denote.Ref.{Bor, MutBor, at_last}
 use Prim.Native.Nat.{ℕ}
 use lib.ListN.{take, get_or}
 use borrow.Author.Tests.{eqb-false}
@@ -52,7 +52,7 @@ queue_of_zeros job address =
 
 module _
     (κs : Lfts 3)
-    (line bytes marks : MutBor (List ℕ))
+    (line : Bor (List ℕ)) (bytes marks : MutBor (List ℕ))
     (r : JobReading)
     (bytes' marks' : List ℕ)
     (allowed : read-reads.Post κs (line, (bytes, (marks, tt))) r
@@ -86,7 +86,7 @@ module _
 module _
     (κs : Lfts 6)
     (d : Dispatcher)
-    (line bytes marks space check out : MutBor (List ℕ))
+    (line : Bor (List ℕ)) (bytes marks space check out : MutBor (List ℕ))
     (r : JobAnswered)
     (bytes' marks' space' check' out' : List ℕ)
     (allowed : answer-reads.Post κs (d, (line, (bytes, (marks, (space, (check, (out, tt)))))))
@@ -113,12 +113,11 @@ module _
       → line.now ≡ queue_of_zeros (52 ∷ []) (51 ∷ 56 ∷ [])
       → take r.count out' ≡ job_answer_text 0 Nothing [] NoneHanded
       → ⊥
-  unfolding job_line_left reply_left dispatched_left job_line_of is_hand is_queue queue_line store_line part_of after_field
-      after_fields
-      is_decimal decimal_of decimal_from is_byte is_operand all_digits is_digit digit_value
-      fresh_dispatcher fresh_queues are_sound is_whole queue_refusal queue_call
-      fresh start_body fresh_drives is_sound sound_body sound_drives sound_drive no_outcome sound_phase sound_part
-      job_answer_text head_text decimal_text digit_of pick
+  unfolding job_line_left reply_left dispatched_left job_line_of is_hand is_queue queue_line store_line part_of
+      after_field after_fields is_decimal decimal_of decimal_from is_byte is_operand all_digits is_digit digit_value
+      fresh_dispatcher fresh_queues are_sound is_whole queue_refusal queue_call fresh start_body fresh_drives is_sound
+      sound_body sound_drives sound_drive no_outcome sound_phase sound_part job_answer_text head_text decimal_text
+      digit_of pick
   answer_job_line_takes_job_4 begins says wrong =
       let right : take r.count out' ≡ job_answer_text 16 Nothing [] NoneHanded =
       ap (λ (l : JobLeft). l.text) allowed.1

@@ -71,7 +71,8 @@ is_queue line = leb 2 (length line) && (eqb (get_or line 0 0) queue_letter && eq
 
 -- what a line says: one of the two, or what it says to the session program
 unfoldable pub job_line_of : List ℕ → JobLine
-job_line_of line = pick (is_hand line) handing (pick (is_queue line) (queue_line (drop 2 line)) (session_line (line_of line)))
+job_line_of line =
+    pick (is_hand line) handing (pick (is_queue line) (queue_line (drop 2 line)) (session_line (line_of line)))
 
 -- ---- what the code reads: a host string or an image stands in one buffer, marks in another
 

@@ -57,7 +57,8 @@ in_whole_space a rest = record {
 -- the answer to one of the session program's lines, with the same limits and spaces: an unreadable one changes nothing,
 -- a data call is lent the whole space and no place of a bad host byte, a result as much as it says
 unfoldable pub session_left : Dispatcher → Line → List ℕ → List ℕ → JobLeft
-session_left d unreadable space check = record { dispatcher = d; space = space; check = check; text = job_unreadable_text }
+session_left d unreadable space check =
+    record { dispatcher = d; space = space; check = check; text = job_unreadable_text }
 session_left d (byte b) space check = reply_left (byte_call d b) space check
 session_left d taken space check = reply_left (taken_call d) space check
 session_left d broken space check = reply_left (broken_call d) space check

@@ -14,7 +14,7 @@ use text::limits::BYTE_LIMIT;
 
 // A line that was read: a job queues a store, the next store is handed over, or it is one of the session program's
 // lines, readable or not.
-#[derive(Drop)]
+#[derive(Clone, Copy)]
 pub enum JobReading {
     Queueing(u8, Store),
     Handing,
@@ -22,6 +22,7 @@ pub enum JobReading {
 }
 
 // Whether a field is four bytes.
+#[tactic(auto, unfolding(crate::specs::Line::is_operand))]
 fn is_operand(s: &[u8]) -> bool
     ensures { result ≡ is_operand s.now }
 {
@@ -30,6 +31,7 @@ fn is_operand(s: &[u8]) -> bool
 }
 
 // The store of an address and an operand.
+#[tactic(auto, using(crate::proofs::LineLaws::operand_length_lem, crate::proofs::LineLaws::operand_bytes), unfolding(crate::specs::Line::store_of))]
 fn store_of(address: &[u8], operand: &[u8]) -> Store
     requires address_value { is_byte address.now ≡ true }
     requires operand_value { is_operand operand.now ≡ true }
@@ -47,6 +49,7 @@ fn store_of(address: &[u8], operand: &[u8]) -> Store
 }
 
 // The fields of a store that a job queues.
+#[tactic(auto, using(common::proofs::PickLaws::both_hold), unfolding(crate::specs::Line::store_line, crate::specs::Line::job_line_read, common::specs::Pick::pick, lines::specs::Line::line_read))]
 fn read_store(job: &[u8], address: &[u8], operand: &[u8]) -> JobReading
     ensures { JobReadAs result (store_line job.now address.now operand.now) }
 {
@@ -62,6 +65,7 @@ fn read_store(job: &[u8], address: &[u8], operand: &[u8]) -> JobReading
 }
 
 // A job queues a store.
+#[tactic(auto, using(text::proofs::FieldLaws::field_fits, crate::proofs::LineLaws::store_cut))]
 fn read_queue(s: &[u8]) -> JobReading
     ensures { JobReadAs result (queue_line s.now) }
 {
@@ -73,6 +77,7 @@ fn read_queue(s: &[u8]) -> JobReading
 }
 
 // Whether a line is H.
+#[tactic(auto, unfolding(crate::specs::Line::is_hand))]
 fn is_hand(line: &[u8]) -> bool
     ensures { result ≡ is_hand line.now }
 {
@@ -83,6 +88,7 @@ fn is_hand(line: &[u8]) -> bool
 }
 
 // Whether a line is Q and its fields.
+#[tactic(auto, unfolding(crate::specs::Line::is_queue))]
 fn is_queue(line: &[u8]) -> bool
     ensures { result ≡ is_queue line.now }
 {
@@ -93,6 +99,7 @@ fn is_queue(line: &[u8]) -> bool
 }
 
 // A line, without its #0A.
+#[tactic(auto, using(crate::proofs::LineLaws::queue_length_lem), unfolding(crate::specs::Line::job_line_of, crate::specs::Line::job_line_read, common::specs::Pick::pick))]
 pub fn read_job_line(
     line: &[u8],
     bytes: &mut [u8; IMAGE_LIMIT],

@@ -23,13 +23,14 @@ use lines::play::{LentCall, lent_answer, plain_reply};
 use queues::jobs::are_sound;
 
 // The next state, and how many bytes of text there are.
-#[derive(Drop)]
+#[derive(Clone, Copy)]
 pub struct JobAnswered {
     pub dispatcher: Dispatcher,
     pub count: usize,
 }
 
 // A call that is lent nothing, passed on.
+#[tactic(auto, unfolding(crate::specs::Play::plain_dispatched))]
 fn plain_dispatched(d: Dispatcher, call: PlainCall) -> Dispatched
     ensures { result ≡ plain_dispatched d call }
 {
@@ -38,6 +39,7 @@ fn plain_dispatched(d: Dispatcher, call: PlainCall) -> Dispatched
 }
 
 // A call that is lent space, passed on.
+#[tactic(auto, unfolding(crate::specs::Play::lent_dispatched, dispatcher::specs::Dispatcher::passed_answer, common::specs::Pick::pick))]
 fn lent_dispatched(
     d: Dispatcher,
     call: LentCall,
@@ -60,6 +62,7 @@ fn lent_dispatched(
 }
 
 // The answer to a call that gives no bytes.
+#[tactic(auto, unfolding(crate::specs::Play::reply_left, crate::specs::Play::dispatched_left))]
 fn answer_reply(reply: Dispatched, out: &mut [u8]) -> JobAnswered
     requires { job_reply_most ≤ length out.old }
     ensures counted { result.count ≤ job_reply_most }
@@ -74,6 +77,7 @@ fn answer_reply(reply: Dispatched, out: &mut [u8]) -> JobAnswered
 }
 
 // What a call answered: its reply, and the bytes that it gives at the start of the space.
+#[tactic(auto, using(crate::proofs::PlayLaws::dispatched_left_lem))]
 fn answer_dispatched(transfer: DispatchedTransfer, space: &[u8], out: &mut [u8]) -> JobAnswered
     requires { job_reply_most + 2 * length space.now ≤ length out.old }
     ensures counted { result.count ≤ job_reply_most + 2 * length space.now }
@@ -110,6 +114,7 @@ fn answer_lent(
 
 // A line of the session program's. As in `lines::play`, a call that is lent space is made out of line, of a copy of the
 // state.
+#[tactic(auto, using(crate::proofs::PlayLaws::plain_left_lem, crate::proofs::PlayLaws::lent_left_lem), unfolding(crate::specs::Play::session_left, lines::specs::Line::line_read, lines::specs::Line::call_read))]
 fn answer_session(
     d: Dispatcher,
     reading: Reading,
@@ -153,6 +158,7 @@ fn answer_session(
 }
 
 // A line, without its #0A.
+#[tactic(auto, unfolding(crate::specs::Play::job_line_left, crate::specs::Line::job_line_read))]
 pub fn answer_job_line(
     d: Dispatcher,
     line: &[u8],

@@ -10,6 +10,7 @@ use link::state::{Action, Handed};
 use text::print::{put, put_bytes, put_record};
 
 // What a call hands back of a store.
+#[tactic(auto, unfolding(crate::specs::Print::handed_text))]
 fn put_handed(handed: Handed, out: &mut [u8], at: usize) -> usize
     requires { at + record_most ≤ length out.old }
     ensures ends { result ≤ at + record_most }
@@ -24,6 +25,7 @@ fn put_handed(handed: Handed, out: &mut [u8], at: usize) -> usize
 }
 
 // The answer to a call that gives no bytes.
+#[tactic(auto, using(crate::proofs::TextLaws::job_reply_text_lem), unfolding(crate::specs::Print::job_answer_text, text::specs::Print::bytes_text))]
 pub fn print_job_reply(refusal: u32, action: Action, handed: Handed, out: &mut [u8]) -> usize
     requires { job_reply_most ≤ length out.old }
     ensures ends { result ≤ job_reply_most }
@@ -36,6 +38,7 @@ pub fn print_job_reply(refusal: u32, action: Action, handed: Handed, out: &mut [
 }
 
 // A call's answer, with the bytes that it gives, if any, and what it hands back.
+#[tactic(auto, using(crate::proofs::TextLaws::job_answer_text_lem), unfolding(crate::specs::Print::job_answer_text))]
 pub fn print_job_answer(
     refusal: u32,
     action: Action,
@@ -55,6 +58,7 @@ pub fn print_job_answer(
 }
 
 // The answer to an unreadable line.
+#[tactic(auto, using(common::proofs::SpaceLaws::overwritten_front), unfolding(crate::specs::Print::job_unreadable_text))]
 pub fn print_job_unreadable(out: &mut [u8]) -> usize
     requires { job_unreadable_length ≤ length out.old }
     ensures ends { result ≡ job_unreadable_length }

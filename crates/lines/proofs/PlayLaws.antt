@@ -15,7 +15,7 @@ use Rattle.controller.specs.Records.{Answer, answered}
 use Rattle.controller.specs.Machine.{result_call}
 use Rattle.lines.specs.Print.{answer_text}
 use Rattle.lines.specs.Line.{plain_line, call_read}
-use Rattle.lines.specs.Play.{left, reply_left, transfer_left, with_rest, line_left, plain_reply, in_whole_space}
+use Rattle.lines.specs.Play.{left, transfer_left, with_rest, line_left, plain_reply, in_whole_space}
 use Rattle.lines.specs.Play.{fields_answer, lent_answer, plain_left, lent_left}
 use Rattle.lines.specs.declared.line.ResultFields.{ResultFields}
 use Rattle.lines.specs.declared.line.PlainCall.{PlainCall}

@@ -5,7 +5,7 @@ use mathlib.Core.Path.{◌≡◌, refl, sym, ap, ap₂, ◌∙◌}
 use mathlib.Core.Bool.{Bool, true, false, false≢true}
 use mathlib.Core.List.{List, [], ◌∷◌}
 use contract.Lifetimes.{Lfts}
-use denote.Ref.{MutBor, at_last}
+use denote.Ref.{Bor, MutBor, at_last}
 use Prim.Native.Nat.{ℕ}
 use lib.ListN.{take, get_or}
 use borrow.Author.Tests.{eqb-false}
@@ -52,7 +52,7 @@ is_unreadable reset = false
 
 module _
     (κs : Lfts 3)
-    (line bytes marks : MutBor (List ℕ))
+    (line : Bor (List ℕ)) (bytes marks : MutBor (List ℕ))
     (r : Reading)
     (bytes' marks' : List ℕ)
     (allowed : read-reads.Post κs (line, (bytes, (marks, tt))) r
@@ -62,24 +62,26 @@ module _
       → r ≡ Readable (Plain (Byte b)) → ⊥
   unfolding line_read call_read plain_line line_of call_line byte_line is_byte all_digits is_digit digit_value pick
   read_line_reads_small_letters says b e =
-      false≢true (ap is_unreadable (sym (ap (λ (x : Reading). line_read x bytes' marks') e) ∙ allowed ∙ ap line_of says))
+      false≢true
+      (ap is_unreadable (sym (ap (λ (x : Reading). line_read x bytes' marks') e) ∙ allowed ∙ ap line_of says))
 
   -- drive 256 is read: S,256,22
   pub read_line_reads_drive_256 : line.now ≡ report_letter ∷ comma ∷ 50 ∷ 53 ∷ 54 ∷ comma ∷ 50 ∷ 50 ∷ []
       → (drive value : ℕ)
       → r ≡ Readable (Plain (Report drive value))
       → ⊥
-  unfolding line_read call_read plain_line line_of call_line report_line part_of after_field is_decimal decimal_of decimal_from
-      is_byte all_digits is_digit digit_value pick
+  unfolding line_read call_read plain_line line_of call_line report_line part_of after_field is_decimal decimal_of
+      decimal_from is_byte all_digits is_digit digit_value pick
   read_line_reads_drive_256 says drive value e =
-      false≢true (ap is_unreadable (sym (ap (λ (x : Reading). line_read x bytes' marks') e) ∙ allowed ∙ ap line_of says))
+      false≢true
+      (ap is_unreadable (sym (ap (λ (x : Reading). line_read x bytes' marks') e) ∙ allowed ∙ ap line_of says))
 
 -- ---- answer_line
 
 module _
     (κs : Lfts 6)
     (c : Controller)
-    (line bytes marks space check out : MutBor (List ℕ))
+    (line : Bor (List ℕ)) (bytes marks space check out : MutBor (List ℕ))
     (r : Answered)
     (bytes' marks' space' check' out' : List ℕ)
     (allowed : answer-reads.Post κs (c, (line, (bytes, (marks, (space, (check, (out, tt)))))))

@@ -62,7 +62,8 @@ fields_line code mark late image marks space =
     && (is_decimal flag_limit mark
     && (is_decimal byte_limit late
     && (is_bytes image_limit image && (is_bytes marks_limit marks && is_decimal host_limit space)))))
-    (result (byte_of code) (eqb (decimal_of mark) 1) (decimal_of late) (bytes_of image) (bytes_of marks) (decimal_of space))
+    (result (byte_of code) (eqb (decimal_of mark) 1) (decimal_of late) (bytes_of image) (bytes_of marks)
+    (decimal_of space))
     unreadable
 
 -- "R,code,mark,late,image,marks,space"

@@ -1,7 +1,7 @@
 -- What the session does with a line: the call that it makes, and the text that it prints (document 01, Loads, restorer,
 -- session).
 -- Assumes nothing.
-use Rattle.std.specs.Prelude.{ℕ, min, List, [], ◌++◌, length, take, drop}
+use Rattle.std.specs.Prelude.{ℕ, min, List, ◌++◌, length, take, drop}
 use Rattle.transfers.specs.Results.{result_of}
 use Rattle.controller.specs.declared.controller.Controller.{Controller}
 use Rattle.controller.specs.declared.controller.Reply.{Reply}

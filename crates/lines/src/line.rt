@@ -9,7 +9,7 @@ use text::fields::{after, field_of};
 use text::limits::BYTE_LIMIT;
 
 // A call that is lent nothing.
-#[derive(Drop)]
+#[derive(Clone, Copy)]
 pub enum PlainCall {
     Byte(u8),
     Taken,
@@ -20,7 +20,7 @@ pub enum PlainCall {
 }
 
 // The fields of a result. Its image stands in a lent buffer, and its marks in another; here are their lengths.
-#[derive(Drop)]
+#[derive(Clone, Copy)]
 pub struct ResultFields {
     pub code: u8,
     pub mark: bool,
@@ -31,7 +31,7 @@ pub struct ResultFields {
 }
 
 // A call. Host bytes stand in the buffer of an image; here is how many.
-#[derive(Drop)]
+#[derive(Clone, Copy)]
 pub enum Call {
     Plain(PlainCall),
     HostData(usize),
@@ -39,13 +39,14 @@ pub enum Call {
 }
 
 // A line that was read.
-#[derive(Drop)]
+#[derive(Clone, Copy)]
 pub enum Reading {
     Unreadable,
     Readable(Call),
 }
 
 // A line of one letter.
+#[tactic(auto, unfolding(crate::specs::Line::bare_line, crate::specs::Line::line_read, crate::specs::Line::call_read, crate::specs::Line::plain_line, common::specs::Pick::pick))]
 fn read_bare(letter: u8) -> Reading
     ensures { ReadAs result (bare_line letter) }
 {
@@ -59,6 +60,7 @@ fn read_bare(letter: u8) -> Reading
 }
 
 // A byte.
+#[tactic(auto, unfolding(crate::specs::Line::byte_line, crate::specs::Line::line_read, crate::specs::Line::call_read, crate::specs::Line::plain_line, common::specs::Pick::pick))]
 fn read_byte(s: &[u8]) -> Reading
     ensures { ReadAs result (byte_line s.now) }
 {
@@ -70,6 +72,7 @@ fn read_byte(s: &[u8]) -> Reading
 }
 
 // A report.
+#[tactic(auto, using(common::proofs::PickLaws::both_hold, text::proofs::FieldLaws::field_fits, text::proofs::FieldLaws::after_is), unfolding(crate::specs::Line::report_line, crate::specs::Line::line_read, crate::specs::Line::call_read, crate::specs::Line::plain_line, common::specs::Pick::pick))]
 fn read_report(s: &[u8]) -> Reading
     ensures { ReadAs result (report_line s.now) }
 {
@@ -85,6 +88,7 @@ fn read_report(s: &[u8]) -> Reading
 }
 
 // Host bytes.
+#[tactic(auto, using(text::proofs::DigitLaws::bytes_overwritten), unfolding(crate::specs::Line::data_line, crate::specs::Line::line_read, crate::specs::Line::call_read, common::specs::Pick::pick))]
 fn read_data(s: &[u8], bytes: &mut [u8; IMAGE_LIMIT]) -> Reading
     ensures { ReadWith result bytes.new (data_line s.now) }
 {
@@ -97,6 +101,7 @@ fn read_data(s: &[u8], bytes: &mut [u8; IMAGE_LIMIT]) -> Reading
 }
 
 // The fields of a result.
+#[tactic(auto, using(crate::proofs::LineLaws::and_six, text::proofs::DigitLaws::bytes_overwritten), unfolding(crate::specs::Line::fields_line, crate::specs::Line::line_read, crate::specs::Line::call_read, common::specs::Pick::pick))]
 fn read_fields(
     code: &[u8],
     mark: &[u8],
@@ -138,6 +143,7 @@ fn read_fields(
 }
 
 // A result.
+#[tactic(auto, using(text::proofs::FieldLaws::field_fits, crate::proofs::LineLaws::result_cut))]
 fn read_result(s: &[u8], bytes: &mut [u8; IMAGE_LIMIT], marks: &mut [u8; MARKS_LIMIT]) -> Reading
     ensures { line_read result bytes.new marks.new ≡ result_line s.now }
 {
@@ -155,6 +161,7 @@ fn read_result(s: &[u8], bytes: &mut [u8; IMAGE_LIMIT], marks: &mut [u8; MARKS_L
 }
 
 // A letter and a comma, and what comes after them.
+#[tactic(auto, unfolding(crate::specs::Line::call_line, common::specs::Pick::pick, crate::specs::Line::line_read))]
 fn read_call(
     letter: u8,
     s: &[u8],
@@ -173,6 +180,7 @@ fn read_call(
 }
 
 // A line, without its #0A.
+#[tactic(auto, unfolding(crate::specs::Line::line_of, common::specs::Pick::pick, crate::specs::Line::line_read))]
 pub fn read_line(
     line: &[u8],
     bytes: &mut [u8; IMAGE_LIMIT],

@@ -15,20 +15,21 @@ use controller::controller::{Controller, Reply, Transfer};
 use records::place::NO_PLACE;
 
 // A call that is lent space. Host bytes and an image stand in the buffer of an image; here is how many.
-#[derive(Drop)]
+#[derive(Clone, Copy)]
 pub enum LentCall {
     HostData(usize),
     Result(ResultFields),
 }
 
 // The next state, and how many bytes of text there are.
-#[derive(Drop)]
+#[derive(Clone, Copy)]
 pub struct Answered {
     pub controller: Controller,
     pub count: usize,
 }
 
 // A call that is lent nothing.
+#[tactic(auto, unfolding(crate::specs::Play::plain_reply))]
 pub fn plain_reply(c: Controller, call: PlainCall) -> Reply
     ensures { result ≡ plain_reply c call }
 {
@@ -43,6 +44,7 @@ pub fn plain_reply(c: Controller, call: PlainCall) -> Reply
 }
 
 // A result: it is handed as much of the buffers as they have for it, and lent as much of the space as it says.
+#[tactic(auto, using(crate::proofs::PlayLaws::in_whole, crate::proofs::PlayLaws::fields_cut))]
 fn fields_answer(
     c: Controller,
     fields: ResultFields,
@@ -74,6 +76,7 @@ fn fields_answer(
 }
 
 // A call that is lent space.
+#[tactic(auto, using(crate::proofs::PlayLaws::take_min), unfolding(crate::specs::Play::lent_answer))]
 pub fn lent_answer(
     c: Controller,
     call: LentCall,
@@ -95,6 +98,7 @@ pub fn lent_answer(
 }
 
 // The answer to a call that is lent nothing.
+#[tactic(auto, unfolding(crate::specs::Play::reply_left))]
 fn answer_plain(c: Controller, call: PlainCall, out: &mut [u8]) -> Answered
     requires { reply_most ≤ length out.old }
     ensures counted { result.count ≤ reply_most }
@@ -109,6 +113,7 @@ fn answer_plain(c: Controller, call: PlainCall, out: &mut [u8]) -> Answered
 }
 
 // What a call answered: its reply, and the bytes that it gives at the start of the space.
+#[tactic(auto, using(crate::proofs::PlayLaws::transfer_left_lem))]
 fn answer_transfer(transfer: Transfer, space: &[u8], out: &mut [u8]) -> Answered
     requires { reply_most + 2 * length space.now ≤ length out.old }
     ensures counted { result.count ≤ reply_most + 2 * length space.now }
@@ -144,6 +149,7 @@ fn answer_lent(
 
 // A line, without its #0A. A call that is lent space is made out of line, of a copy of the state, so that the state of
 // the others, which are short and many, can stay where the program's loop has it.
+#[tactic(auto, using(crate::proofs::PlayLaws::plain_left_lem, crate::proofs::PlayLaws::lent_left_lem), unfolding(crate::specs::Play::line_left, crate::specs::Line::line_read, crate::specs::Line::call_read))]
 pub fn answer_line(
     c: Controller,
     line: &[u8],

@@ -10,6 +10,7 @@ use link::state::Action;
 use text::print::{put, put_byte, put_bytes, put_refusal};
 
 // The letter of an action.
+#[tactic(auto, unfolding(crate::specs::Print::action_letter))]
 fn action_letter(action: Action) -> u8
     ensures { result ≡ action_letter action }
 {
@@ -22,6 +23,7 @@ fn action_letter(action: Action) -> u8
 }
 
 // Six bytes.
+#[tactic(auto, unfolding(crate::specs::Print::six_bytes))]
 fn put_six(six: Frame, out: &mut [u8], at: usize) -> usize
     requires { at + action_most ≤ length out.old }
     ensures ends { result ≤ at + action_most }
@@ -32,6 +34,7 @@ fn put_six(six: Frame, out: &mut [u8], at: usize) -> usize
 }
 
 // The bytes of an action.
+#[tactic(auto, using(text::proofs::TextLaws::bytes_text_one), unfolding(crate::specs::Print::action_bytes, text::specs::Print::bytes_text))]
 fn put_action(action: Action, out: &mut [u8], at: usize) -> usize
     requires { at + action_most ≤ length out.old }
     ensures ends { result ≤ at + action_most }
@@ -46,6 +49,7 @@ fn put_action(action: Action, out: &mut [u8], at: usize) -> usize
 }
 
 // Refusal, action and its bytes, each with a comma.
+#[tactic(auto, using(crate::proofs::TextLaws::head_text_lem), unfolding(crate::specs::Print::head_text))]
 pub fn print_head(refusal: u32, action: Action, out: &mut [u8]) -> usize
     requires { head_most ≤ length out.old }
     ensures ends { result ≤ head_most }
@@ -60,6 +64,7 @@ pub fn print_head(refusal: u32, action: Action, out: &mut [u8]) -> usize
 }
 
 // The answer to a call that gives no bytes.
+#[tactic(auto, using(crate::proofs::TextLaws::reply_text_lem), unfolding(crate::specs::Print::answer_text, text::specs::Print::bytes_text))]
 pub fn print_reply(refusal: u32, action: Action, out: &mut [u8]) -> usize
     requires { reply_most ≤ length out.old }
     ensures ends { result ≤ reply_most }
@@ -70,6 +75,7 @@ pub fn print_reply(refusal: u32, action: Action, out: &mut [u8]) -> usize
 }
 
 // A call's answer, with the bytes that it gives, if any.
+#[tactic(auto, using(crate::proofs::TextLaws::answer_text_lem), unfolding(crate::specs::Print::answer_text))]
 pub fn print_answer(refusal: u32, action: Action, bytes: &[u8], out: &mut [u8]) -> usize
     requires { reply_most + 2 * length bytes.now ≤ length out.old }
     ensures ends { result ≤ reply_most + 2 * length bytes.now }
@@ -81,6 +87,7 @@ pub fn print_answer(refusal: u32, action: Action, bytes: &[u8], out: &mut [u8]) 
 }
 
 // The answer to an unreadable line.
+#[tactic(auto, using(common::proofs::SpaceLaws::overwritten_front), unfolding(crate::specs::Print::unreadable_text))]
 pub fn print_unreadable(out: &mut [u8]) -> usize
     requires { unreadable_length ≤ length out.old }
     ensures ends { result ≡ unreadable_length }

@@ -8,7 +8,8 @@ use lib.Dec.{T, eqb, eqb→eq}
 use lib.ListN.{length}
 use Rattle.common.specs.Pick.{pick}
 use Rattle.operations.specs.declared.operation.Operation.{Operation}
-use Rattle.operations.specs.Answers.{forward_codes, reverse_codes, end_codes, supplied_codes, listed_codes, trailing_codes}
+use Rattle.operations.specs.Answers.{forward_codes, reverse_codes, end_codes, supplied_codes, listed_codes}
+use Rattle.operations.specs.Answers.{trailing_codes}
 use Rattle.operations.specs.Answers.{clear_codes, is_in, answer_of}
 use Rattle.operations.proofs.Table.{every, at}
 use Rattle.table.specs.Text.{comma, line_feed, zero_digit, line_order, digits_from, parted, line_text, lines_text}
@@ -35,7 +36,8 @@ whole = refl
 
 pub byte_there : (place : ℕ) → place < table_length → byte_at place ≡ byte_of place
 unfolding right
-byte_there place h = eqb→eq (byte_at place) (byte_of place) (at right 0 table_text every_byte place (omega (arith, whole)))
+byte_there place h =
+    eqb→eq (byte_at place) (byte_of place) (at right 0 table_text every_byte place (omega (arith, whole)))
 
 -- an answer is a digit
 picked : (clear listed : Bool) → pick clear 1 (pick listed 2 0) ≤ 2

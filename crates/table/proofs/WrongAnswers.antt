@@ -8,7 +8,8 @@ use lib.ListN.{get_or}
 use borrow.Author.Tests.{eqb-false}
 use Rattle.common.specs.Pick.{pick}
 use Rattle.operations.specs.declared.operation.Operation.TheVariants.{SkipForward, CheckBytes}
-use Rattle.operations.specs.Answers.{supplied_codes, listed_codes, trailing_codes, clear_codes, never_reported, asks_retry}
+use Rattle.operations.specs.Answers.{supplied_codes, listed_codes, trailing_codes, clear_codes, never_reported}
+use Rattle.operations.specs.Answers.{asks_retry}
 use Rattle.operations.specs.Answers.{is_in, answer_of}
 use Rattle.table.specs.Text.{comma, line_feed, line_order, digits_from, parted, line_text, lines_text, table_text}
 use Rattle.table.proofs.rules.answer_by_rules.Reads as answer-reads
@@ -39,7 +40,7 @@ module _ (text : List ℕ) (allowed : text-reads.Post tt tt text tt) where
 
   -- the third line is that of a write, which may report code B
   pub text_with_a_write_in_the_third_line : get_or text 150 0 ≡ 50 → ⊥
-  unfolding table_text lines_text line_text parted digits_from line_order answer_of listed_codes supplied_codes clear_codes
-      is_in pick
+  unfolding table_text lines_text line_text parted digits_from line_order answer_of listed_codes supplied_codes
+      clear_codes is_in pick
   text_with_a_write_in_the_third_line wrong =
       eqb-false 48 50 refl (sym (ap (λ (t : List ℕ). get_or t 150 0) allowed) ∙ wrong)

@@ -11,6 +11,7 @@ use operations::operation::Operation;
 const ASKS_NO_RETRY: u8 = 1;
 
 // Whether a code is in a list.
+#[tactic(auto, unfolding(operations::specs::Answers::is_in))]
 fn is_in(code: u8, codes: &[u8]) -> bool
     ensures { result ≡ is_in code codes.now }
 {
@@ -24,6 +25,7 @@ fn is_in(code: u8, codes: &[u8]) -> bool
 }
 
 // Whether an operation's list has a code. No list has 0, which is always reported.
+#[tactic(auto, unfolding(operations::specs::Answers::listed_codes, operations::specs::Answers::forward_codes, operations::specs::Answers::supplied_codes, operations::specs::Answers::end_codes, operations::specs::Answers::reverse_codes, operations::specs::Answers::is_in))]
 fn is_listed(operation: Operation, code: u8) -> bool
     ensures { result ≡ is_listed operation code }
 {
@@ -51,6 +53,7 @@ fn is_listed(operation: Operation, code: u8) -> bool
 }
 
 // Whether a code of an operation's list asks no retry.
+#[tactic(auto, unfolding(operations::specs::Answers::clear_codes, operations::specs::Answers::trailing_codes, operations::specs::Answers::is_in))]
 fn is_clear(operation: Operation, code: u8) -> bool
     ensures { result ≡ is_clear operation code }
 {
@@ -62,6 +65,7 @@ fn is_clear(operation: Operation, code: u8) -> bool
 }
 
 // The answer of an operation and a code, worked out.
+#[tactic(auto, unfolding(operations::specs::Answers::answer_of, common::specs::Pick::pick))]
 pub fn answer_by_rules(operation: Operation, code: u8) -> u8
     ensures { result ≡ answer_of operation code }
 {

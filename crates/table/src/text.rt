@@ -11,6 +11,7 @@ const LINE_LENGTH: usize = 64;
 pub const TABLE_LENGTH: usize = 768;
 
 // The operation of a line.
+#[tactic(auto, unfolding(crate::specs::Text::operation_at, crate::specs::Text::line_order))]
 fn operation_at(line: usize) -> Operation
     ensures { result ≡ operation_at line }
 {
@@ -31,6 +32,7 @@ fn operation_at(line: usize) -> Operation
 }
 
 // One byte of the text.
+#[tactic(auto, using(crate::proofs::TextLaws::byte_there, crate::proofs::TextLaws::small), unfolding(crate::proofs::TextLaws::byte_of, common::specs::Pick::pick))]
 fn byte_at(place: usize) -> u8
     requires { place < table_length }
     ensures { result ≡ byte_at place }

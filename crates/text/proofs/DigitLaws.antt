@@ -30,10 +30,12 @@ and_true false = refl
 
 -- one byte more is tested, and none is left
 pub digits_next : (base : ℕ) (s : List ℕ) (at : ℕ) (good : Bool) → at < length s
-    → ((good && is_digit base (get_or s at 0)) && all_digits base (drop (at + 1) s)) ≡ (good && all_digits base (drop at s))
+    → ((good && is_digit base (get_or s at 0)) && all_digits base (drop (at + 1) s))
+    ≡ (good && all_digits base (drop at s))
 unfolding all_digits
 digits_next base s at good below =
-    rw (add-one, drop-cons s at 0 below) (joined good (is_digit base (get_or s at 0)) (all_digits base (drop (suc at) s)))
+    rw (add-one, drop-cons s at 0 below)
+    (joined good (is_digit base (get_or s at 0)) (all_digits base (drop (suc at) s)))
 
 pub digits_end : (base : ℕ) (s : List ℕ) (at : ℕ) (good : Bool) → length s ≤ at
     → (good && all_digits base (drop at s)) ≡ good

@@ -4,17 +4,17 @@ use mathlib.Core.Path.{◌≡◌, refl, sym, ap, ◌∙◌}
 use Prim.Native.Nat.{ℕ, zero, suc, ◌+◌, ◌-◌, ◌*◌, ◌/◌, ◌%◌, ◌^◌, ◌≤◌, ◌<◌}
 use native.Mathlib.Nat.{pow-suc}
 use native.Mathlib.Omega.{arith}
-use mathlib.Core.Bool.{Bool, true, false, not, ◌&&◌, ◌||◌, false≢true}
+use mathlib.Core.Bool.{true, false, false≢true}
 use mathlib.Core.List.{List, [], ◌∷◌, ◌++◌}
-use lib.Dec.{eqb, ltb, leb}
-use lib.ListN.{length, drop, length-append}
+use lib.Dec.{eqb, ltb}
+use lib.ListN.{length, length-append}
 use lib.Seq.{drop-append-add}
 use borrow.Author.Tests.{lt-ltb, le-ltb, le-leb, lt-leb, ne_eqb, ltb-true, ltb-false}
 use Rattle.common.specs.Pick.{pick}
 use Rattle.common.proofs.PickLaws.{by_test, both_hold, pick_yes, pick_no}
 use Rattle.text.specs.Digits.{digit_value, is_digit, all_digits, byte_value, is_byte, byte_of, decimal_from, decimal_of}
 use Rattle.text.specs.Digits.{is_decimal}
-use Rattle.text.specs.Fields.{part_of, part_end, after}
+use Rattle.text.specs.Fields.{part_of, after}
 use Rattle.text.specs.Print.{digit_of, byte_text}
 use Rattle.text.specs.Characters.{colon}
 use Rattle.text.specs.Print.{decimal_text}
@@ -82,7 +82,8 @@ colon_is_none base = refl
 no_colon : (base d : ℕ) → is_digit base d ≡ true → eqb d colon ≡ false
 no_colon base d e = ne_eqb d colon (λ is. false≢true (sym (colon_is_none base) ∙ ap (is_digit base) (sym is) ∙ e))
 
-pub part_of_digits : (base : ℕ) (ds rest : List ℕ) → all_digits base ds ≡ true → part_of colon (ds ++ (colon ∷ rest)) ≡ ds
+pub part_of_digits : (base : ℕ) (ds rest : List ℕ) → all_digits base ds ≡ true
+    → part_of colon (ds ++ (colon ∷ rest)) ≡ ds
 unfolding part_of all_digits pick
 part_of_digits base [] rest e = refl
 part_of_digits base (d ∷ ds) rest e =
@@ -170,7 +171,8 @@ decimal_back (suc most) n l = by_test (ltb n 10)
 some_digit : (most n : ℕ) → 1 ≤ length (decimal_text (suc most) n)
 unfolding decimal_text
 some_digit most n = by_test (ltb n 10)
-    (λ t. omega (arith, ap length (pick_yes (digit_of n ∷ []) (decimal_text most (n / 10) ++ (digit_of (n % 10) ∷ [])) t)))
+    (λ t.
+    omega (arith, ap length (pick_yes (digit_of n ∷ []) (decimal_text most (n / 10) ++ (digit_of (n % 10) ∷ [])) t)))
     (λ t. omega (
       arith,
       ap length
@@ -179,7 +181,8 @@ some_digit most n = by_test (ltb n 10)
           (decimal_text most (n / 10)) (digit_of (n % 10) ∷ []),
     ))
 
-pub decimal_is : (limit most n : ℕ) → n < 10 ^ suc most → n ≤ limit → is_decimal limit (decimal_text (suc most) n) ≡ true
+pub decimal_is : (limit most n : ℕ) → n < 10 ^ suc most → n ≤ limit
+    → is_decimal limit (decimal_text (suc most) n) ≡ true
 unfolding is_decimal
 decimal_is limit most n l m =
     rw (

@@ -1,7 +1,8 @@
 -- Digits in text, and the numbers and bytes that they spell (document 01, Loads, restorer, session: "bytes and codes in
 -- hexadecimal. Each of these has two digits, letters capital. Drive, late .. mark .. and space are decimal.").
 -- Assumes nothing.
-use Rattle.std.specs.Prelude.{ℕ, ◌+◌, ◌*◌, ◌%◌, min, Bool, true, not, ◌&&◌, ◌||◌, List, [], ◌∷◌, leb, ltb, eqb, length, get_or}
+use Rattle.std.specs.Prelude.{ℕ, ◌+◌, ◌*◌, ◌%◌, min, Bool, true, not, ◌&&◌, ◌||◌, List, [], ◌∷◌, leb, ltb, eqb, length}
+use Rattle.std.specs.Prelude.{get_or}
 use Rattle.common.specs.Pick.{pick}
 use Rattle.text.specs.Limits.{field_cap}
 use Rattle.text.specs.Characters.{zero_digit, nine_digit, ten_digit, fifteen_digit}

@@ -2,13 +2,15 @@
 ghost use Rattle.std.specs.Prelude.{◌≡◌, ◌≤◌, ◌<◌, ◌/◌, true, length};
 ghost use Rattle.common.specs.Space.{overwrite};
 ghost use Rattle.text.specs.Limits.{field_cap};
-ghost use Rattle.text.specs.Digits.{digit_value, is_digit, all_digits, byte_value, is_byte, byte_of, is_bytes, bytes_of};
+ghost use Rattle.text.specs.Digits.{digit_value, is_digit, all_digits, byte_value, is_byte, byte_of, is_bytes};
+ghost use Rattle.text.specs.Digits.{bytes_of};
 ghost use Rattle.text.specs.Digits.{decimal_of, capped_decimal, is_decimal};
 
 use crate::limits::FIELD_CAP;
 use common::min;
 
 // The value of a digit: a letter has 9 more than its low half.
+#[tactic(auto, unfolding(crate::specs::Digits::digit_value, common::specs::Pick::pick))]
 fn digit_value(d: u8) -> u8
     ensures value { result ≡ digit_value d }
     ensures below { result < 16 }
@@ -20,6 +22,7 @@ fn digit_value(d: u8) -> u8
 }
 
 // Whether a byte is a digit of a base.
+#[tactic(auto, unfolding(crate::specs::Digits::is_digit))]
 fn is_digit(base: u8, d: u8) -> bool
     ensures { result ≡ is_digit base d }
 {
@@ -29,6 +32,7 @@ fn is_digit(base: u8, d: u8) -> bool
 
 // Whether every byte is. It does not stop at the first that is not: the loop over a long field is then made of wide
 // steps.
+#[tactic(auto, using(crate::proofs::DigitLaws::digits_next, crate::proofs::DigitLaws::digits_end))]
 pub fn all_digits(base: u8, s: &[u8]) -> bool
     ensures { result ≡ all_digits base s.now }
 {
@@ -44,6 +48,7 @@ pub fn all_digits(base: u8, s: &[u8]) -> bool
 }
 
 // The byte that two digits spell.
+#[tactic(auto, unfolding(crate::specs::Digits::byte_value))]
 fn byte_value(high: u8, low: u8) -> u8
     ensures { result ≡ byte_value high low }
 {
@@ -53,6 +58,7 @@ fn byte_value(high: u8, low: u8) -> u8
 }
 
 // Whether a field is one byte.
+#[tactic(auto, using(crate::proofs::DigitLaws::digits_two), unfolding(crate::specs::Digits::is_byte))]
 pub fn is_byte(s: &[u8]) -> bool
     ensures { result ≡ is_byte s.now }
 {
@@ -65,6 +71,7 @@ pub fn is_byte(s: &[u8]) -> bool
 }
 
 // The byte of such a field.
+#[tactic(auto, unfolding(crate::specs::Digits::byte_of))]
 pub fn byte_of(s: &[u8]) -> u8
     requires { is_byte s.now ≡ true }
     ensures { result ≡ byte_of s.now }
@@ -73,6 +80,7 @@ pub fn byte_of(s: &[u8]) -> u8
 }
 
 // Whether a field is a string of at most so many bytes.
+#[tactic(auto, unfolding(crate::specs::Digits::is_bytes))]
 pub fn is_bytes(limit: usize, s: &[u8]) -> bool
     requires { limit ≤ field_cap }
     ensures { result ≡ is_bytes limit s.now }
@@ -109,6 +117,7 @@ fn capped_decimal(s: &[u8]) -> usize
 }
 
 // Whether a field is a decimal up to a limit.
+#[tactic(auto, using(crate::proofs::DigitLaws::limit_capped), unfolding(crate::specs::Digits::is_decimal))]
 pub fn is_decimal(limit: usize, s: &[u8]) -> bool
     requires { limit < field_cap }
     ensures { result ≡ is_decimal limit s.now }
@@ -119,6 +128,7 @@ pub fn is_decimal(limit: usize, s: &[u8]) -> bool
 }
 
 // The number of such a field.
+#[tactic(auto, using(crate::proofs::DigitLaws::is_decimal_limit))]
 pub fn decimal_of(limit: usize, s: &[u8]) -> usize
     requires limit_lt_field_cap { limit < field_cap }
     requires s_value { is_decimal limit s.now ≡ true }

@@ -6,6 +6,7 @@ ghost use Rattle.text.specs.Fields.{has_sign, part_of, part_end, part_end_from, 
 const PIECE: usize = 64;
 
 // Whether a sign is among the bytes. It does not stop at the first: the loop over a piece is then made of wide steps.
+#[tactic(auto, using(crate::proofs::FieldLaws::sign_next, crate::proofs::FieldLaws::sign_end))]
 fn has_sign(sign: u8, s: &[u8]) -> bool
     ensures { result ≡ has_sign sign s.now }
 {
@@ -20,6 +21,7 @@ fn has_sign(sign: u8, s: &[u8]) -> bool
 }
 
 // The place of the first sign of a kind from a place on, or the end.
+#[tactic(auto, using(crate::proofs::FieldLaws::end_stop, crate::proofs::FieldLaws::end_pass, crate::proofs::FieldLaws::end_all))]
 fn part_end_from(sign: u8, s: &[u8], from: usize) -> usize
     requires { from ≤ length s.now }
     ensures { result ≡ part_end_from sign s.now from }
@@ -36,6 +38,7 @@ fn part_end_from(sign: u8, s: &[u8], from: usize) -> usize
 }
 
 // The place of the first of all, or the end: pieces without the sign are passed whole.
+#[tactic(auto, using(crate::proofs::FieldLaws::piece_pass))]
 fn part_end(sign: u8, s: &[u8]) -> usize
     ensures { result ≡ part_end sign s.now }
 {
@@ -52,6 +55,7 @@ fn part_end(sign: u8, s: &[u8]) -> usize
 }
 
 // What stands before it.
+#[tactic(auto, using(crate::proofs::FieldLaws::part_within, crate::proofs::FieldLaws::part_front))]
 pub fn part_of(sign: u8, s: &[u8]) -> &[u8]
     ensures { result.now ≡ part_of sign s.now }
 {

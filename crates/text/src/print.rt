@@ -7,6 +7,7 @@ ghost use Rattle.text.specs.Print.{digit_of, byte_text, bytes_text, decimal_text
 use crate::limits::DECIMAL_MOST;
 
 // A digit below 16.
+#[tactic(auto, unfolding(crate::specs::Print::digit_of, common::specs::Pick::pick))]
 fn digit_of(n: u8) -> u8
     requires { n < 16 }
     ensures { result ≡ digit_of n }
@@ -18,6 +19,7 @@ fn digit_of(n: u8) -> u8
 }
 
 // One byte of text.
+#[tactic(auto, using(crate::proofs::TextLaws::put_one))]
 pub fn put(byte: u8, out: &mut [u8], at: usize) -> usize
     requires { at < length out.old }
     ensures ends { result ≡ at + 1 }
@@ -28,6 +30,7 @@ pub fn put(byte: u8, out: &mut [u8], at: usize) -> usize
 }
 
 // A byte in hexadecimal.
+#[tactic(auto, unfolding(crate::specs::Print::byte_text))]
 pub fn put_byte(byte: u8, out: &mut [u8], at: usize) -> usize
     requires { at + 2 ≤ length out.old }
     ensures ends { result ≡ at + 2 }
@@ -38,6 +41,7 @@ pub fn put_byte(byte: u8, out: &mut [u8], at: usize) -> usize
 }
 
 // Bytes in hexadecimal.
+#[tactic(auto, using(crate::proofs::TextLaws::bytes_text_next))]
 pub fn put_bytes(bytes: &[u8], out: &mut [u8], at: usize) -> usize
     requires { at + 2 * length bytes.now ≤ length out.old }
     ensures ends { result ≡ at + 2 * length bytes.now }
@@ -52,6 +56,7 @@ pub fn put_bytes(bytes: &[u8], out: &mut [u8], at: usize) -> usize
 }
 
 // The number of a refusal.
+#[tactic(auto, using(crate::proofs::TextLaws::one_digit, crate::proofs::TextLaws::two_digits))]
 pub fn put_refusal(number: u32, out: &mut [u8], at: usize) -> usize
     requires { at + refusal_most ≤ length out.old }
     ensures ends { result ≤ at + refusal_most }
@@ -67,6 +72,7 @@ pub fn put_refusal(number: u32, out: &mut [u8], at: usize) -> usize
 }
 
 // A number in decimal, of at most so many digits.
+#[tactic(auto, using(crate::proofs::TextLaws::decimal_none, crate::proofs::TextLaws::decimal_one, crate::proofs::TextLaws::decimal_more))]
 pub fn put_decimal(most: usize, n: u32, out: &mut [u8], at: usize) -> usize
     requires { at + most ≤ length out.old }
     ensures ends { result ≤ at + most }
@@ -84,6 +90,7 @@ pub fn put_decimal(most: usize, n: u32, out: &mut [u8], at: usize) -> usize
 }
 
 // A record.
+#[tactic(auto, unfolding(crate::specs::Print::record_text))]
 pub fn put_record(code: u8, motion: u8, count: u32, out: &mut [u8], at: usize) -> usize
     requires { at + record_most ≤ length out.old }
     ensures ends { result ≤ at + record_most }

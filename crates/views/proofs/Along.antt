@@ -17,7 +17,6 @@ use Rattle.common.proofs.PickLaws.{by_test, both_hold, not_refused_lem, pick_yes
 use Rattle.status.specs.declared.words.ResultRecord.{ResultRecord}
 use Rattle.views.specs.declared.window.Window.{Window}
 use Rattle.views.specs.declared.view.View.{View}
-use Rattle.views.specs.declared.view.First.{First}
 use Rattle.views.specs.declared.view.First.TheVariants.{None, At}
 use Rattle.views.specs.View.{codes_of, stretches, stretches_bytes, unrecoverables, greatest, place_of, first_most}
 use Rattle.views.specs.View.{stretch_count, view_refusal, moving_view, moving_view_into, counts_of}

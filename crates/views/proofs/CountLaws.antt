@@ -1,6 +1,6 @@
 -- Laws of counting: what leaves and what enters.
 -- Assumes nothing.
-use mathlib.Core.Path.{◌≡◌, refl, sym, ap, ◌∙◌}
+use mathlib.Core.Path.{◌≡◌, refl, sym}
 use Prim.Native.Nat.{ℕ, zero, suc, ◌+◌, ◌≤◌}
 use native.Mathlib.Nat.{add_assoc, zero-add}
 use native.Mathlib.Omega.{arith}
@@ -9,7 +9,6 @@ use mathlib.Core.List.{List, [], ◌∷◌, ◌++◌}
 use lib.ListN.{length, replicate}
 use Rattle.common.specs.Pick.{pick}
 use Rattle.common.proofs.PickLaws.{pick_by}
-use Rattle.views.specs.declared.counts.Counts.{Counts}
 use Rattle.views.specs.View.{is_recoverable, is_unrecoverable, is_other, tally, counts_of}
 use Rattle.views.specs.Window.{recounted, counts_after}
 

@@ -17,6 +17,7 @@ use prog.Routine.{Routine}
 use types.Logic.{Logic}
 use contract.Lifetimes.{Lfts}
 use contract.Monad.{Fun, fact}
+use denote.Bor.{Bor}
 use denote.Ref.{MutBor, at_last}
 use Rattle.common.specs.Space.{overwrite}
 use Rattle.common.proofs.PickLaws.{by_test, pick_yes, pick_no, where_done, where_refused}
@@ -46,7 +47,7 @@ Allows run width space r after =
 -- these are the words of the contract
 pub these_are_its_words : {M : Type 1} {𝓤 : Ura M} (𝓛 : Logic 𝓤) (mem : Memory → SProp 𝓤)
     (routines : Routine → Fun 𝓤)
-    (κs : Lfts 2) (run : MutBor (List ResultRecord)) (width : ℕ) (out : MutBor (List ℕ)) (r : View) (after : List ℕ)
+    (κs : Lfts 2) (run : Bor (List ResultRecord)) (width : ℕ) (out : MutBor (List ℕ)) (r : View) (after : List ℕ)
     → (f.clauses 𝓛 mem routines κs (run, (width, (out, tt)))).ensures tt r (run, (width, (at_last out after, tt)))
     ≡ fact 𝓤 (Allows run.now width out.now r after)
 these_are_its_words 𝓛 mem routines κs run width out r after = refl

@@ -1,5 +1,3 @@
-pub mod Again
-pub mod Local
 pub mod CountLaws
 pub mod WindowLaws
 pub mod StretchLaws

@@ -3,8 +3,7 @@
 use mathlib.Core.Path.{◌≡◌, refl, sym, ap, subst, ◌∙◌}
 use Prim.Native.Nat.{ℕ, zero, suc, ◌+◌, ◌*◌, ◌≤◌, ◌<◌}
 use native.Mathlib.Omega.{arith}
-use mathlib.Core.Bool.{true, false}
-use mathlib.Core.List.{List, [], ◌∷◌, ◌++◌, append_assoc}
+use mathlib.Core.List.{List, [], ◌∷◌, ◌++◌}
 use lib.ListN.{length, take, drop, get_or}
 use lib.Dec.{eqb}
 use borrow.Author.Tests.{eqb-true, eqb-false}
@@ -13,7 +12,6 @@ use Rattle.common.proofs.PickLaws.{by_test}
 use Rattle.views.specs.View.{stretches, counts_of, count_bytes, stretches_bytes, unrecoverables, greatest, place_of}
 use Rattle.views.specs.View.{stretch_count, first_most}
 use Rattle.views.specs.Places.{stretch_at, unrecoverable_at, EachIsFresh, LeastWithMost, IsFirst}
-use Rattle.views.specs.declared.view.First.TheVariants.{None, At}
 use Rattle.views.proofs.StretchLaws.{by_less, stretches_short, stretches_long, stretches_length}
 use Rattle.views.proofs.StretchLaws.{unrecoverables_length, place_hit, place_miss, place_within}
 

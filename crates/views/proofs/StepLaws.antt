@@ -1,21 +1,21 @@
 -- Laws of the window along a run: what one code more makes of it.
 -- Assumes nothing.
-use mathlib.Core.Path.{◌≡◌, refl, sym, ap, subst, ◌∙◌}
+use mathlib.Core.Path.{◌≡◌, sym, ap, subst, ◌∙◌}
 use Prim.Native.Nat.{ℕ, ◌+◌, ◌-◌, ◌*◌, ◌≤◌, ◌<◌}
 use native.Mathlib.Numerals.{add-one}
 use native.Mathlib.Omega.{arith}
 use mathlib.Core.List.{List, [], ◌∷◌, ◌++◌, append_assoc}
-use lib.ListN.{length, take, drop, set, replicate, length-append, length-drop, length-replicate}
+use lib.ListN.{length, drop, replicate, length-append, length-drop, length-replicate}
 use lib.Seq.{drop-drop, drop-append-le, drop-append-add, take_at, drop_at, sets-eq}
 use lib.Dec.{ltb}
 use borrow.Author.Tests.{ltb-true, ltb-false}
 use Rattle.common.specs.Pick.{pick}
 use Rattle.common.specs.Space.{overwrite}
-use Rattle.common.proofs.PickLaws.{by_test, pick_yes, pick_no}
+use Rattle.common.proofs.PickLaws.{by_test}
 use Rattle.views.specs.declared.counts.Counts.{Counts}
 use Rattle.views.specs.declared.window.Window.{Window}
-use Rattle.views.specs.View.{counts_of, count_bytes, stretches, stretches_bytes, unrecoverables, greatest, place_of}
-use Rattle.views.specs.Window.{held, Whole, Shifted, with_stretch, placed, put3, placed_into, Gave, After}
+use Rattle.views.specs.View.{counts_of, count_bytes, stretches, stretches_bytes, unrecoverables}
+use Rattle.views.specs.Window.{held, Shifted, with_stretch, placed, put3, placed_into, Gave, After}
 use Rattle.views.proofs.StretchLaws.{stretches_short, stretches_more, bytes_more, bytes_length}
 use Rattle.views.proofs.StretchLaws.{unrecoverables_more, unrecoverables_length, greatest_more, place_more}
 

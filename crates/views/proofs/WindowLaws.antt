@@ -4,14 +4,13 @@ use mathlib.Core.Path.{◌≡◌, refl, sym, ap, ◌∙◌}
 use Prim.Native.Nat.{ℕ, suc, ◌+◌, ◌≤◌, ◌<◌}
 use native.Mathlib.Numerals.{add-one}
 use native.Mathlib.Omega.{arith}
-use mathlib.Core.Bool.{Bool, true}
+use mathlib.Core.Bool.{Bool}
 use mathlib.Core.Logic.{◌⊎◌, inl, inr}
 use mathlib.Core.List.{List, [], ◌∷◌, ◌++◌, append-nil, append_assoc}
 use lib.ListN.{length, take, drop, set, get_or, length-append, length-drop, length-set, drop_of_length-le}
 use lib.Seq.{drop-cons, get_or-take, take-set-lt, drop-set-lt, take-suc-set, length-take-le}
 use Rattle.views.specs.declared.counts.Counts.{Counts}
 use Rattle.views.specs.declared.window.Window.{Window}
-use Rattle.views.specs.Limits.{width_limit}
 use Rattle.views.specs.View.{is_recoverable, is_unrecoverable, is_other, tally, counts_of}
 use Rattle.views.specs.Window.{Counted, counts_after, held, Whole, Shifted}
 use Rattle.views.proofs.CountLaws.{tally_le, present, counts_move}

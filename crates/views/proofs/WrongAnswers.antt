@@ -2,7 +2,7 @@
 -- Assumes nothing.
 use mathlib.Core.Path.{◌≡◌, refl, sym, ap, subst, ◌∙◌}
 use mathlib.Core.List.{List, [], ◌∷◌}
-use Prim.Native.Nat.{ℕ, ◌*◌, ◌≤◌, ◌<◌, min}
+use Prim.Native.Nat.{ℕ, ◌≤◌, ◌<◌}
 use native.Mathlib.Omega.{arith}
 use lib.ListN.{length, take, get_or, length-take}
 use lib.Seq.{get_or-take, length-take-le}
@@ -17,7 +17,7 @@ use denote.Ref.{MutBor, at_last}
 use Rattle.common.specs.Pick.{pick}
 use Rattle.status.specs.declared.words.ResultRecord.{ResultRecord}
 use Rattle.views.specs.declared.view.View.{View}
-use Rattle.views.specs.declared.view.First.TheVariants.{None, At}
+use Rattle.views.specs.declared.view.First.TheVariants.{At}
 use Rattle.views.specs.View.{codes_of, is_recoverable, tally, counts_of, count_bytes, stretch_count}
 use Rattle.views.specs.Places.{stretch_at, unrecoverable_at, LeastWithMost, IsFirst}
 use Rattle.views.specs.Held.{held_end, held_codes, held_view, held_view_into}

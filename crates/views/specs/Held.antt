@@ -1,8 +1,7 @@
 -- The moving view of a run that is held in an array.
 -- Assumes nothing.
-use Rattle.std.specs.Prelude.{ℕ, ◌+◌, min, List, length, take}
+use Rattle.std.specs.Prelude.{ℕ, min, List, take}
 use Rattle.status.specs.declared.words.ResultRecord.{ResultRecord}
-use Rattle.views.specs.Limits.{run_limit}
 use Rattle.views.specs.View.{codes_of, moving_view, moving_view_into}
 use Rattle.views.specs.declared.view.View.{View}
 

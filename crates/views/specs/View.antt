@@ -98,7 +98,8 @@ stretch_count width count = count + 1 - width
 unfoldable pub view_refusal : ℕ → ℕ → ℕ → ℕ
 view_refusal width count room =
     pick (not (leb 1 width && leb width width_limit)) width_out_of_range
-    (pick (ltb run_limit count) run_too_long (pick (ltb room (stretch_bytes * stretch_count width count)) space_short done))
+    (pick (ltb run_limit count) run_too_long
+    (pick (ltb room (stretch_bytes * stretch_count width count)) space_short done))
 
 -- what is answered
 unfoldable pub moving_view : ℕ → List ℕ → ℕ → View

@@ -1,6 +1,7 @@
 -- The window that moves along a run. No paper knows of it: what is promised of the view is in `View.antt`.
 -- Assumes nothing.
-use Rattle.std.specs.Prelude.{ℕ, ◌+◌, ◌-◌, ◌*◌, ◌≤◌, ◌<◌, ◌≡◌, Bool, true, List, [], ◌∷◌, ◌++◌, eqb, ltb, length, take, drop, replicate, set}
+use Rattle.std.specs.Prelude.{ℕ, ◌+◌, ◌-◌, ◌*◌, ◌≤◌, ◌<◌, ◌≡◌, Bool, true, List, [], ◌∷◌, ◌++◌, eqb, ltb, length, take}
+use Rattle.std.specs.Prelude.{drop, replicate, set}
 use Rattle.common.specs.Pick.{pick}
 use Rattle.common.specs.Space.{overwrite}
 use Rattle.views.specs.Limits.{width_limit, stretch_bytes}
@@ -9,7 +10,6 @@ use Rattle.views.specs.View.{unrecoverables, greatest, place_of, view_refusal}
 use Rattle.views.specs.declared.counts.Counts.{Counts}
 use Rattle.views.specs.declared.window.Window.{Window}
 use Rattle.views.specs.declared.view.View.{View}
-use Rattle.views.specs.declared.view.First.{First}
 use Rattle.views.specs.declared.view.First.TheVariants.{None, At}
 
 -- ---- counts

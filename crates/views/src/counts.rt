@@ -6,25 +6,28 @@ ghost use Rattle.views.specs.Window.{recounted, counts_after, Counted};
 use operations::codes::{RECOVERABLE, UNRECOVERABLE};
 
 // How many codes are 15, how many 16, and how many others are not 0.
-#[derive(Drop)]
+#[derive(Clone, Copy)]
 pub struct Counts {
     pub recoverable: u8,
     pub unrecoverable: u8,
     pub others: u8,
 }
 
+#[tactic(auto, unfolding(crate::specs::View::is_recoverable))]
 fn is_recoverable(code: u8) -> bool
     ensures { result ≡ is_recoverable code }
 {
     code == RECOVERABLE
 }
 
+#[tactic(auto, unfolding(crate::specs::View::is_unrecoverable))]
 fn is_unrecoverable(code: u8) -> bool
     ensures { result ≡ is_unrecoverable code }
 {
     code == UNRECOVERABLE
 }
 
+#[tactic(auto, unfolding(crate::specs::View::is_other))]
 fn is_other(code: u8) -> bool
     ensures { result ≡ is_other code }
 {
@@ -32,6 +35,7 @@ fn is_other(code: u8) -> bool
 }
 
 // A count, after one code leaves and one enters: whether each is counted.
+#[tactic(auto, unfolding(crate::specs::Window::recounted, common::specs::Pick::pick))]
 fn recounted(n: u8, leaving: bool, entering: bool) -> u8
     requires { Counted n leaving }
     ensures { result ≡ recounted n leaving entering }
@@ -41,6 +45,7 @@ fn recounted(n: u8, leaving: bool, entering: bool) -> u8
 }
 
 // The counts, after one code leaves and one enters.
+#[tactic(auto, unfolding(crate::specs::Window::counts_after))]
 pub fn counts_after(counts: Counts, leaving: u8, entering: u8) -> Counts
     requires recoverable { Counted counts.recoverable (is_recoverable leaving) }
     requires unrecoverable { Counted counts.unrecoverable (is_unrecoverable leaving) }

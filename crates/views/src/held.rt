@@ -11,6 +11,7 @@ use status::words::ResultRecord;
 pub const HELD_LIMIT: usize = RUN_LIMIT + 1;
 
 // How many of its records are looked at.
+#[tactic(auto, unfolding(crate::specs::Held::held_end))]
 fn held_end(count: usize) -> usize
     ensures { result ≡ held_end count }
 {
@@ -18,6 +19,7 @@ fn held_end(count: usize) -> usize
 }
 
 // The view of the first records of an array.
+#[tactic(auto, unfolding(crate::specs::Held::held_end, crate::specs::Held::held_view, crate::specs::Held::held_view_into, crate::specs::Held::held_codes))]
 pub fn held_view(
     run: [ResultRecord; HELD_LIMIT],
     count: usize,

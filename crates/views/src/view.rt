@@ -10,14 +10,14 @@ use common::refusals::{DONE, RUN_TOO_LONG, SPACE_SHORT, WIDTH_OUT_OF_RANGE};
 use status::words::ResultRecord;
 
 // The first stretch with most codes 16: none where there is no stretch.
-#[derive(Drop)]
+#[derive(Clone, Copy)]
 pub enum First {
     None,
     At(usize),
 }
 
 // What a view answers; the bytes of the stretches are in the lent space.
-#[derive(Drop)]
+#[derive(Clone, Copy)]
 pub struct View {
     pub refusal: u32,
     pub stretches: usize,
@@ -25,6 +25,7 @@ pub struct View {
 }
 
 // Whether a view is refused: of a width, of so many records, with so much space.
+#[tactic(auto, unfolding(crate::specs::View::view_refusal, common::specs::Pick::pick, crate::specs::View::stretch_count))]
 fn view_refusal(width: usize, count: usize, room: usize) -> u32
     ensures { result ≡ view_refusal width count room }
 {
@@ -44,6 +45,7 @@ fn view_refusal(width: usize, count: usize, room: usize) -> u32
 }
 
 // The window before the first record.
+#[tactic(auto, unfolding(crate::specs::Window::open_window, common::specs::Pick::pick))]
 fn open_window(width: usize, count: usize, room: usize) -> Window
     ensures { result ≡ open_window width count room }
 {
@@ -69,6 +71,7 @@ fn open_window(width: usize, count: usize, room: usize) -> Window
 }
 
 // What the window answers after the last record.
+#[tactic(auto, unfolding(crate::specs::Window::view_of, common::specs::Pick::pick))]
 fn view_of(window: Window) -> View
     ensures { result ≡ view_of window }
 {
@@ -90,6 +93,7 @@ fn view_of(window: Window) -> View
 
 // The one function over a lent slice of records; all that it does is done by the covered ones. A refused view has no
 // records to take in, so that no branch is needed here.
+#[tactic(auto)]
 pub fn moving_view(run: &[ResultRecord], width: usize, out: &mut [u8]) -> View
     ensures { (result ≡ moving_view width (codes_of run.now) (length out.old))
         × (out.new ≡ moving_view_into width (codes_of run.now) out.old) }

@@ -8,7 +8,7 @@ use crate::limits::{STRETCH_BYTES, WIDTH_LIMIT};
 
 // The last codes that were taken in, and what is counted of them; before the first, codes 0. They go around: the oldest
 // is let out for the next.
-#[derive(Drop)]
+#[derive(Clone, Copy)]
 pub struct Window {
     pub codes: [u8; WIDTH_LIMIT],
     pub width: usize,
@@ -43,6 +43,7 @@ fn shifted(mut window: Window, code: u8) -> Window
 }
 
 // Places the three bytes of a full stretch, and notes its place where it has more codes 16 than any before.
+#[tactic(auto, unfolding(crate::specs::Window::placed, crate::specs::Window::placed_into, common::specs::Pick::pick, crate::specs::Window::with_stretch, crate::specs::Window::put3))]
 fn placed(mut window: Window, out: &mut [u8]) -> Window
     requires { (window.stretches < run_limit)
         × (window.width ≤ window.taken → stretch_bytes * window.stretches + stretch_bytes ≤ length out.old) }

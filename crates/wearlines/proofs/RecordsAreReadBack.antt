@@ -1,18 +1,17 @@
 -- A record that the jobs program prints is read back as it was.
 -- Assumes nothing.
-use mathlib.Core.Path.{◌≡◌, sym, ap, ◌∙◌}
-use Prim.Native.Nat.{ℕ, ◌≤◌, ◌<◌}
+use mathlib.Core.Path.{◌≡◌, sym, ◌∙◌}
+use Prim.Native.Nat.{ℕ, ◌<◌}
 use native.Mathlib.Omega.{arith}
 use mathlib.Core.List.{List, ◌∷◌, ◌++◌}
 use Rattle.common.specs.Pick.{pick}
 use Rattle.status.specs.declared.words.ResultRecord.{ResultRecord}
-use Rattle.text.specs.Digits.{is_byte, byte_of, is_decimal, decimal_of}
+use Rattle.text.specs.Digits.{byte_of, decimal_of}
 use Rattle.text.specs.Limits.{byte_limit, decimal_most}
 use Rattle.text.specs.Print.{byte_text, decimal_text, record_text}
 use Rattle.text.specs.Characters.{colon}
 use Rattle.wearlines.specs.Limits.{count_limit}
 use Rattle.wearlines.specs.Line.{fields_line, record_line}
-use Rattle.wearlines.specs.declared.line.RecordReading.{RecordReading}
 use Rattle.wearlines.specs.declared.line.RecordReading.TheVariants.{OneRecord}
 use Rattle.wearlines.proofs.LineLaws.{record_cut}
 use Rattle.text.proofs.ReadBackLaws.{part_of_digits, after_digits, byte_digits, byte_is, byte_back, decimal_digits}

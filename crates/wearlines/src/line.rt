@@ -10,20 +10,21 @@ use text::limits::BYTE_LIMIT;
 use views::limits::WIDTH_LIMIT;
 
 // A record that was read, or a line that is none.
-#[derive(Drop)]
+#[derive(Clone, Copy)]
 pub enum RecordReading {
     NoRecord,
     OneRecord(ResultRecord),
 }
 
 // A width that was read, or a line that is none.
-#[derive(Drop)]
+#[derive(Clone, Copy)]
 pub enum WidthReading {
     NoWidth,
     OneWidth(usize),
 }
 
 // The fields of a record.
+#[tactic(auto, using(common::proofs::PickLaws::both_hold), unfolding(crate::specs::Line::fields_line, common::specs::Pick::pick))]
 fn read_fields(code: &[u8], motion: &[u8], count: &[u8]) -> RecordReading
     ensures { result ≡ fields_line code.now motion.now count.now }
 {
@@ -43,6 +44,7 @@ fn read_fields(code: &[u8], motion: &[u8], count: &[u8]) -> RecordReading
 }
 
 // A record.
+#[tactic(auto, using(crate::proofs::LineLaws::record_cut, crate::proofs::LineLaws::part_fits))]
 pub fn read_record(s: &[u8]) -> RecordReading
     ensures { result ≡ record_line s.now }
 {
@@ -54,6 +56,7 @@ pub fn read_record(s: &[u8]) -> RecordReading
 }
 
 // A width.
+#[tactic(auto, unfolding(crate::specs::Line::width_line, common::specs::Pick::pick))]
 pub fn read_width(s: &[u8]) -> WidthReading
     ensures { result ≡ width_line s.now }
 {

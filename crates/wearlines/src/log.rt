@@ -13,7 +13,7 @@ const LINE_MOST: u32 = 4294967295;
 
 // What is known between two lines: how many lines there were, the width, how many records are held, and the number of
 // the first line that cannot be read, 0 where each can.
-#[derive(Drop)]
+#[derive(Clone, Copy)]
 pub struct Progress {
     pub lines: u32,
     pub width: usize,
@@ -23,7 +23,7 @@ pub struct Progress {
 
 // A line that was taken: what is known after it, and a record with its place in the array. A line without a record has
 // a blank one for the place where the next goes.
-#[derive(Drop)]
+#[derive(Clone, Copy)]
 pub struct Taken {
     pub progress: Progress,
     pub place: usize,

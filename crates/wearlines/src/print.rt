@@ -8,6 +8,7 @@ use text::limits::DECIMAL_MOST;
 use text::print::{put, put_decimal};
 
 // Three numbers.
+#[tactic(auto, unfolding(crate::specs::Print::numbers_text))]
 pub fn put_numbers(a: u32, b: u32, c: u32, out: &mut [u8], at: usize) -> usize
     requires { at + text_most ≤ length out.old }
     ensures ends { result ≤ at + text_most }
@@ -33,6 +34,7 @@ pub fn print_no_stretch(out: &mut [u8]) -> usize
 }
 
 // A refusal.
+#[tactic(auto, unfolding(crate::specs::Print::refused_text))]
 pub fn print_refused(refusal: u32, out: &mut [u8]) -> usize
     requires { text_most ≤ length out.old }
     ensures ends { result ≤ text_most }
@@ -47,6 +49,7 @@ pub fn print_refused(refusal: u32, out: &mut [u8]) -> usize
 }
 
 // A line that cannot be read.
+#[tactic(auto, unfolding(crate::specs::Print::bad_line_text))]
 pub fn print_bad_line(line: u32, out: &mut [u8]) -> usize
     requires { text_most ≤ length out.old }
     ensures ends { result ≤ text_most }

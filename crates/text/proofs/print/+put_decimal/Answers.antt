@@ -1,0 +1,11 @@
+-- The last digit stands behind the others.
+-- Assumes nothing.
+use Rattle.std.proofs.Common.{[], ◌∷◌, take, ◌∙◌}
+use Rattle.text.proofs.TextLaws.{after_text, decimal_more}
+use Rattle.text.proofs.print.+put_decimal.Goals as goal
+
+pub returns-clause-text : goal.returns-clause-text
+returns-clause-text t c =
+    after_text (take c.args.at c.args.out.now) _ (c.digit_of-ones.result ∷ []) c.put-2.ensures.text
+    c.put_decimal-end.ensures.text
+    ∙ simp (c.digit_of-ones.ensures, decimal_more _ _ c.if-most-eq0.false c.if-n-lt10.false)
