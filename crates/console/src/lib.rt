@@ -3,11 +3,16 @@
 //
 // The console is a value, and the program lends it the two buffers. `next_line` has no loop: it does one thing a turn,
 // so that the program's own loop is the only one that has to be bounded.
-ghost use Rattle.std.specs.Prelude.{◌≡◌, ◌≤◌, ◌+◌, length};
+#![tactic(auto)]
+
+ghost use Rattle.std.specs.Prelude.{◌≡◌, ◌≤◌, ◌+◌, length, IfOk, IfErr};
+ghost use Rattle.console.specs.Failures.{IsOfReading, IsOfWriting, IsOfTurn};
 ghost use Rattle.console.specs.Places.{IsPlaced, IsSound, IsReady, IsHeld, WithState, Written, Answered, IsWithin};
 ghost use Rattle.console.specs.Sizes.{input_size, output_size, room};
 
-use libc::{STDERR_FILENO, STDIN_FILENO, STDOUT_FILENO};
+use std::io;
+use std::io::{ErrorKind, Print, Read};
+use std::process::ExitCode;
 
 // The input. The longest readable line without needless zeros has 33,946 bytes, so this has room to spare. One that
 // fills it without an end is too long to be read.
@@ -29,19 +34,28 @@ const NEAR: usize = 32;
 const PIECE: usize = 64;
 
 // More may come, also where the start of the next line was dropped, since that line is too long; or the input has
-// ended; or a read or a write failed.
-#[derive(Drop)]
+// ended.
+#[derive(Clone, Copy)]
 pub enum State {
     Open,
     Dropped,
     Ended,
+}
+
+// A read or a write failed, or nobody reads any more what is written.
+#[derive(Clone, Copy)]
+pub enum Failure {
     Unread,
     Unwritten,
+    Closed,
 }
+
+// The status of a program that a closed pipe ends, as a shell tells it.
+const CLOSED_STATUS: u8 = 141;
 
 // Where the next line starts, up to where it has no #0A, where the input ends, and how much text waits. There is one
 // state, and no flag for each thing, since a loop is slowed by small fields that it copies each turn.
-#[derive(Drop)]
+#[derive(Clone, Copy)]
 pub struct Console {
     pub from: usize,
     pub seen: usize,
@@ -51,7 +65,7 @@ pub struct Console {
 }
 
 // What a turn finds.
-#[derive(Drop)]
+#[derive(Clone, Copy)]
 pub enum Kind {
     Nothing,
     Long,
@@ -59,7 +73,7 @@ pub enum Kind {
 }
 
 // The console after the turn, what was found, and where in the input that line starts and ends.
-#[derive(Drop)]
+#[derive(Clone, Copy)]
 pub struct Found {
     pub console: Console,
     pub kind: Kind,
@@ -180,33 +194,46 @@ fn with_state(console: Console, state: State) -> Console
     }
 }
 
-// Writes the text that waits. After a write that failed nothing more is written.
-fn written(mut console: Console, out: &[u8]) -> Console
+// Which failure an error of a write is.
+fn unwritten(error: io::Error) -> Failure
+    ensures { IsOfWriting result }
+{
+    match error.kind() {
+        ErrorKind::BrokenPipe => Failure::Closed,
+        _ => Failure::Unwritten,
+    }
+}
+
+// Writes a text. Where that fails, some of it may be written.
+pub fn write_text(rt: HostRuntime, text: &[u8]) -> Result<(), Failure>
+    ensures { IfErr result (λ e. IsOfWriting e) }
+{
+    rt.write_all(text).map_err(unwritten)
+}
+
+// Writes the text that waits. Where that fails, some of it may be written.
+fn written(rt: HostRuntime, mut console: Console, out: &[u8]) -> Result<Console, Failure>
     requires { console.count ≤ length out.now }
-    ensures { Written console result }
+    ensures written { IfOk result (λ r. Written console r) }
+    ensures failed { IfErr result (λ e. IsOfWriting e) }
 {
     let count = console.count;
-    let state = console.state;
     console.count = 0;
-    if let State::Unwritten = state {
-        return console;
-    }
-    if io::write_all(STDOUT_FILENO, front(out, count)) {
-        return console;
-    }
-    with_state(console, State::Unwritten)
+    write_text(rt, front(out, count))?;
+    Ok(console)
 }
 
 // Room for one more answer: the text that waits is written where there is too little.
-pub fn with_room(console: Console, out: &[u8]) -> Console
+pub fn with_room(rt: HostRuntime, console: Console, out: &[u8]) -> Result<Console, Failure>
     requires sound { IsSound console }
     requires out_len { length out.now ≡ output_size }
-    ensures { IsReady result }
+    ensures ready { IfOk result (λ r. IsReady r) }
+    ensures failed { IfErr result (λ e. IsOfWriting e) }
 {
     if ROOM < console.count {
-        return written(console, out);
+        return written(rt, console, out);
     }
-    console
+    Ok(console)
 }
 
 fn nothing(console: Console) -> Found
@@ -297,55 +324,68 @@ fn last_line(console: Console) -> Found
     nothing(with_state(console, State::Ended))
 }
 
-// Reads once.
-fn read_once(mut console: Console, input: &mut [u8]) -> Found
+// Reads once. Where that fails, the input's bytes are any.
+fn read_once(rt: HostRuntime, mut console: Console, input: &mut [u8]) -> Result<Found, Failure>
     requires held { IsHeld console × (console.count ≤ room) }
     requires input_len { length input.old ≡ input_size }
-    ensures { IsWithin result }
+    ensures within { IfOk result (λ f. IsWithin f) }
+    ensures failed { IfErr result (λ e. IsOfReading e) }
 {
     let end = console.end;
-    let got = libc::read(STDIN_FILENO, &mut input[end..]);
-    if got < 0 {
-        return nothing(with_state(console, State::Unread));
+    let more = rt
+        .stdin()
+        .read(&mut input[end..])
+        .map_err(|_| Failure::Unread)?;
+    if more == 0 {
+        return Ok(last_line(console));
     }
-    if got == 0 {
-        return last_line(console);
-    }
-    let more = io::count(got, &input[end..]);
     console.end = end + more;
-    nothing(console)
+    Ok(nothing(console))
 }
 
-// Writes what waits, and reads once.
-fn read_on(console: Console, input: &mut [u8], out: &[u8]) -> Found
+// Writes what waits, and reads once. A write that fails leaves the input as it was.
+fn read_on(
+    rt: HostRuntime,
+    console: Console,
+    input: &mut [u8],
+    out: &[u8],
+) -> Result<Found, Failure>
     requires sound { IsSound console }
     requires input_len { (length input.old ≡ input_size) × (length out.now ≡ output_size) }
-    ensures { IsWithin result }
+    ensures within { IfOk result (λ f. IsWithin f) }
+    ensures failed { IfErr result (λ e. IsOfTurn e input.old input.new) }
 {
-    let console = written(console, out);
+    let console = written(rt, console, out)?;
     if !is_open(console) {
-        return nothing(console);
+        return Ok(nothing(console));
     }
-    read_once(with_space(console, input), input)
+    read_once(rt, with_space(console, input), input)
 }
 
 // The next whole line that is in hand. Where none is, the text that waits is written, more is read, and nothing is
-// found this turn. Where no answer would fit, the text is written first, and a write that fails ends it all.
-pub fn next_line(console: Console, input: &mut [u8], out: &[u8]) -> Found
+// found this turn. Where no answer would fit, the text is written first, and a write that fails ends it all, with the
+// input as it was. A read that fails ends it too.
+pub fn next_line(
+    rt: HostRuntime,
+    console: Console,
+    input: &mut [u8],
+    out: &[u8],
+) -> Result<Found, Failure>
     requires sound { IsSound console }
     requires input_len { (length input.old ≡ input_size) × (length out.now ≡ output_size) }
-    ensures { IsWithin result }
+    ensures within { IfOk result (λ f. IsWithin f) }
+    ensures failed { IfErr result (λ e. IsOfTurn e input.old input.new) }
 {
-    let console = with_room(console, out);
+    let console = with_room(rt, console, out)?;
     if !is_open(console) {
-        return nothing(console);
+        return Ok(nothing(console));
     }
     let end = console.end;
     let at = line_end(input, console.seen, end);
     if at < end {
-        return line_to(console, at, at + 1, State::Open);
+        return Ok(line_to(console, at, at + 1, State::Open));
     }
-    read_on(console, input, out)
+    read_on(rt, console, input, out)
 }
 
 // An answer of `more` bytes was put behind the text that waits.
@@ -357,21 +397,30 @@ pub fn answered(mut console: Console, more: usize) -> Console
     console
 }
 
-// A program has no exit status to tell a failure by, so it is told on standard error.
-fn tell(text: &[u8]) {
-    io::write_all(STDERR_FILENO, text);
-}
-
-// Writes the last answers, and tells what failed.
-pub fn finish(console: Console, out: &[u8], unread: &[u8], unwritten: &[u8])
+// Writes the last answers.
+pub fn finish(rt: HostRuntime, console: Console, out: &[u8]) -> Result<(), Failure>
     requires sound { IsSound console }
     requires out_len { length out.now ≡ output_size }
+    ensures { IfErr result (λ e. IsOfWriting e) }
 {
-    let last = written(console, out);
-    let state = last.state;
-    match state {
-        State::Unread => tell(unread),
-        State::Unwritten => tell(unwritten),
-        _ => {}
-    }
+    written(rt, console, out)?;
+    Ok(())
+}
+
+// What failed is told on standard error, in the program's own words, and by the status. Where nobody reads any more, no
+// word is said, as of a program that the closed pipe ends.
+pub fn tell(
+    rt: HostRuntime,
+    end: Result<(), Failure>,
+    unread: &[u8],
+    unwritten: &[u8],
+) -> ExitCode {
+    let text = match end {
+        Ok(()) => return ExitCode::SUCCESS,
+        Err(Failure::Closed) => return ExitCode::from(CLOSED_STATUS),
+        Err(Failure::Unread) => unread,
+        Err(Failure::Unwritten) => unwritten,
+    };
+    let _ = rt.stderr().write_all(text);
+    ExitCode::FAILURE
 }

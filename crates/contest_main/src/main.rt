@@ -1,13 +1,17 @@
 // The contest program: answers questions of driver against tape, one a line.
+#![tactic(auto)]
+
 ghost use Rattle.std.specs.Prelude.{◌≡◌, ◌≤◌, length};
 ghost use Rattle.console.specs.Places.{IsWithin};
 ghost use Rattle.console.specs.Sizes.{input_size, output_size};
 ghost use Rattle.contestlines.specs.Limits.{contest_most};
 
 use console::{
-    Found, INPUT_SIZE, Kind, OUTPUT_SIZE, answered, finish, fresh_console, is_open, next_line,
+    Failure, Found, INPUT_SIZE, Kind, OUTPUT_SIZE, answered, finish, fresh_console, is_open,
+    next_line, tell,
 };
 use contestlines::print::{print_contest_line, print_contest_unreadable};
+use std::process::ExitCode;
 
 // The answer to what was found, put behind the text that waits.
 fn answer_found(found: Found, input: &[u8], out: &mut [u8]) -> usize
@@ -28,7 +32,7 @@ fn answer_found(found: Found, input: &[u8], out: &mut [u8]) -> usize
 
 // A proved loop has to end, and nothing says that the input does. So the loop counts its turns down, from a number that
 // no run uses up.
-fn main() {
+fn play(rt: HostRuntime) -> Result<(), Failure> {
     let mut input = [0u8; INPUT_SIZE];
     let mut out = [0u8; OUTPUT_SIZE];
     let mut console = fresh_console();
@@ -38,14 +42,19 @@ fn main() {
             break;
         }
         turns -= 1;
-        let found = next_line(console, &mut input, &out);
+        let found = next_line(rt, console, &mut input, &out)?;
         let more = answer_found(found, &input, &mut out);
         console = answered(found.console, more);
     }
-    finish(
-        console,
-        &out,
+    finish(rt, console, &out)
+}
+
+fn main(rt: HostRuntime) -> ExitCode {
+    let end = play(rt);
+    tell(
+        rt,
+        end,
         b"contest: the input cannot be read\n",
         b"contest: the answers cannot be written\n",
-    );
+    )
 }

@@ -1,16 +1,20 @@
 // The jobs program: plays lines against the dispatcher, and so the queues of four jobs beside the controller.
+#![tactic(auto)]
+
 ghost use Rattle.std.specs.Prelude.{◌≡◌, ◌≤◌, length};
 ghost use Rattle.console.specs.Places.{IsWithin};
 ghost use Rattle.console.specs.Sizes.{input_size, output_size};
 ghost use Rattle.joblines.specs.Limits.{job_answer_most};
 
 use console::{
-    Found, INPUT_SIZE, Kind, OUTPUT_SIZE, answered, finish, fresh_console, is_open, next_line,
+    Failure, Found, INPUT_SIZE, Kind, OUTPUT_SIZE, answered, finish, fresh_console, is_open,
+    next_line, tell,
 };
 use dispatcher::dispatcher::{Dispatcher, fresh_dispatcher};
 use joblines::play::{JobAnswered, answer_job_line};
 use joblines::print::print_job_unreadable;
 use lines::limits::{CHECK_STORE, IMAGE_LIMIT, MARKS_LIMIT};
+use std::process::ExitCode;
 
 // The answer to what was found, put behind the text that waits.
 fn answer_found(
@@ -56,6 +60,7 @@ fn answer_found(
 // no run uses up. The pace hangs on two things: the state is a local of the loop, taken out of the answer once, and it
 // is handed to the loop, not made beside it.
 fn play(
+    rt: HostRuntime,
     mut dispatcher: Dispatcher,
     input: &mut [u8],
     bytes: &mut [u8; IMAGE_LIMIT],
@@ -63,7 +68,7 @@ fn play(
     space: &mut [u8; IMAGE_LIMIT],
     check: &mut [u8; CHECK_STORE],
     out: &mut [u8],
-)
+) -> Result<(), Failure>
     requires { (length input.old ≡ input_size) × (length out.old ≡ output_size) }
 {
     let mut console = fresh_console();
@@ -73,27 +78,23 @@ fn play(
             break;
         }
         turns -= 1;
-        let found = next_line(console, input, out);
+        let found = next_line(rt, console, input, out)?;
         let answer = answer_found(dispatcher, found, input, bytes, marks, space, check, out);
         dispatcher = answer.dispatcher;
         console = answered(found.console, answer.count);
     }
-    finish(
-        console,
-        out,
-        b"jobs: the input cannot be read\n",
-        b"jobs: the answers cannot be written\n",
-    );
+    finish(rt, console, out)
 }
 
-fn main() {
+fn main(rt: HostRuntime) -> ExitCode {
     let mut input = [0u8; INPUT_SIZE];
     let mut bytes = [0u8; IMAGE_LIMIT];
     let mut marks = [0u8; MARKS_LIMIT];
     let mut space = [0u8; IMAGE_LIMIT];
     let mut check = [0u8; CHECK_STORE];
     let mut out = [0u8; OUTPUT_SIZE];
-    play(
+    let end = play(
+        rt,
         fresh_dispatcher(),
         &mut input,
         &mut bytes,
@@ -102,4 +103,10 @@ fn main() {
         &mut check,
         &mut out,
     );
+    tell(
+        rt,
+        end,
+        b"jobs: the input cannot be read\n",
+        b"jobs: the answers cannot be written\n",
+    )
 }

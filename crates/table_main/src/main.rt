@@ -1,10 +1,13 @@
 // The table program: prints the core's table of answers, each of them worked out from the papers' lists.
-use libc::{STDERR_FILENO, STDOUT_FILENO};
+#![tactic(auto)]
+
+use console::{tell, write_text};
+use std::process::ExitCode;
 use table::text::table_text;
 
-fn main() {
+fn main(rt: HostRuntime) -> ExitCode {
     let text = table_text();
-    if !io::write_all(STDOUT_FILENO, &text) {
-        io::write_all(STDERR_FILENO, b"table: the table cannot be written\n");
-    }
+    let end = write_text(rt, &text);
+    // it reads nothing
+    tell(rt, end, b"", b"table: the table cannot be written\n")
 }

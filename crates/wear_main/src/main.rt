@@ -1,5 +1,7 @@
 // The wear program: reads a wear log from standard input to its end, and prints its moving view. The log's first line
 // is a width, each other a record.
+#![tactic(auto)]
+
 mod view;
 
 ghost use Rattle.std.specs.Prelude.{◌≤◌, ◌<◌};
@@ -7,7 +9,10 @@ ghost use Rattle.views.specs.Held.{held_limit};
 
 use crate::view::put_log;
 use common::min;
-use console::{INPUT_SIZE, Kind, OUTPUT_SIZE, finish, fresh_console, is_open, next_line};
+use console::{
+    Failure, INPUT_SIZE, Kind, OUTPUT_SIZE, finish, fresh_console, is_open, next_line, tell,
+};
+use std::process::ExitCode;
 use views::held::HELD_LIMIT;
 use views::limits::RUN_LIMIT;
 use wearlines::log::{Progress, Taken, blank_record, no_progress, take_line, with_bad_line};
@@ -40,7 +45,7 @@ fn take_found(progress: Progress, kind: Kind, line: &[u8]) -> Taken
 
 // A proved loop has to end, and nothing says that the input does. So the loop counts its turns down, from a number that
 // no run uses up. The records fill an array that the loop alone sees, so that it is not handed on for each line.
-fn main() {
+fn play(rt: HostRuntime) -> Result<(), Failure> {
     let mut input = [0u8; INPUT_SIZE];
     let mut out = [0u8; OUTPUT_SIZE];
     let blank = blank_record();
@@ -53,7 +58,7 @@ fn main() {
             break;
         }
         turns -= 1;
-        let found = next_line(console, &mut input, &out);
+        let found = next_line(rt, console, &mut input, &out)?;
         let kind = found.kind;
         let start = found.start;
         let end = found.end;
@@ -64,11 +69,16 @@ fn main() {
         progress = taken.progress;
         console = found.console;
     }
-    let last = put_log(console, run, progress, &mut out);
-    finish(
-        last,
-        &out,
+    let last = put_log(rt, console, run, progress, &mut out)?;
+    finish(rt, last, &out)
+}
+
+fn main(rt: HostRuntime) -> ExitCode {
+    let end = play(rt);
+    tell(
+        rt,
+        end,
         b"wear: the input cannot be read\n",
         b"wear: the view cannot be written\n",
-    );
+    )
 }

@@ -1,0 +1,10 @@
+-- Each piece lies within the input.
+-- Assumes nothing.
+use Rattle.std.proofs.Common.{◌≤◌, ◌-◌}
+use Rattle.console.proofs.far_end.Given as goal
+
+abbrev pub invariant-loop-at : goal.invariant-loop-at
+invariant-loop-at l = (l.from ≤ l.at) × (l.at ≤ l.end)
+
+abbrev pub decreases-loop-at : goal.decreases-loop-at
+decreases-loop-at l = l.end - l.at
