@@ -29,5 +29,5 @@ help:
 	@echo 'make install     installs them: prefix=/usr/local DESTDIR= and others, which tools/install --help lists'
 	@echo 'make uninstall   removes what was installed, with the same words'
 	@echo 'make dist        makes the archive of this release, vernierorb-'"$$(cat VERSION)"'.tar.gz'
-	@echo 'make check       runs every test: proofs from nothing, must-fail edits, C, Rust and sessions'
+	@echo 'make check       runs every test: proofs, must-fail edits, C, Rust and sessions'
 	@echo 'make help        this'

@@ -67,6 +67,18 @@ target_writable() {
     mkdir -p "$root/target" 2>/dev/null && [ -w "$root/target" ]
 }
 
+# The first file of the crates, or of one, that is newer than a file, or a folder in which one came or went; nothing
+# where there is none. What rt keeps in out/ is no source, and must-fail edits are no part of what is built.
+newer_source() { # FILE [CRATE]
+    find "$root/crates${2:+/$2}" "$root/crates.txt" \( -name must-fail -o -path "$root/crates/*/out" \) -prune -o \
+        -path "$root/crates/*" ! -path "$root/crates/*/*" -o -newer "$1" -print -quit
+}
+
+# The folder of the kit that rt is of.
+kit_folder() {
+    dirname "$(readlink -f "$(rt doc 2>/dev/null)")"
+}
+
 # The words that the table of names has for a number, as they stand there.
 name_of() { # KIND NUMBER
     awk -F '|' -v kind="$1" -v number="$2" '$1 == kind && $2 == number { print $3; exit }' "$names"

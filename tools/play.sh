@@ -12,15 +12,13 @@ if [ "$installed" = yes ]; then
     called="ctc $name" example_file=$texts/examples/$name example_shown=$example_file
 fi
 
-# The program's language has no exit status: it tells of a failed read or write by a message, which becomes a status
-# here.
+# A read or a write that failed is told by the program's message and by its status. Where nobody reads the answers any
+# more it ends without a word, as other commands do then.
 run_program() {
-    local message
-    { message=$("$program" 2>&1 >&3 3>&-); } 3>&1 || exit
-    if [ -n "$message" ]; then
-        printf '%s\n' "$message" >&2
-        exit 1
-    fi
+    local message status=0
+    { message=$("$program" 2>&1 >&3 3>&-); } 3>&1 || status=$?
+    [ -z "$message" ] || printf '%s\n' "$message" >&2
+    [ "$status" -eq 0 ] || exit "$status"
 }
 
 # What was kept goes on to standard output, and is told where it does not arrive, unless nobody reads any more.

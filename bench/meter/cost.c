@@ -23,10 +23,6 @@
  * needs; a dispatcher is less than DISPATCHER bytes, and a controller less than CONTROLLER. Records have LONG.
  */
 enum { ROOM = 1024, DISPATCHER = 240, CONTROLLER = 72, LONG = 256 };
-struct slice {
-    uint8_t *at;
-    uint64_t length;
-};
 struct room {
     _Alignas(16) uint8_t bytes[ROOM];
 };
@@ -43,11 +39,11 @@ void layout_put_controller_bytes(const struct room *controller, uint8_t *state);
     void of##_taken(struct room *left, struct room *it);                                                   \
     void of##_broken(struct room *left, struct room *it);                                                  \
     void of##_report(struct room *left, struct room *it, uint8_t drive, uint8_t report);                   \
-    void of##_data(struct room *left, struct room *it, const struct slice *of_host, uint64_t place,        \
-                   const struct slice *lent, const struct slice *for_check);                               \
+    void of##_data(struct room *left, struct room *it, const uint8_t *of_host, uint64_t of_hosts,          \
+                   uint64_t place, uint8_t *lent, uint64_t lents, uint8_t *for_check, uint64_t checks);    \
     void of##_result(struct room *left, struct room *it, uint8_t code, bool mark, uint8_t late,            \
-                     const struct slice *of_image, const struct slice *of_marks, const struct slice *lent, \
-                     const struct slice *for_check);                                                       \
+                     const uint8_t *of_image, uint64_t images, const uint8_t *of_marks, uint64_t markses,  \
+                     uint8_t *lent, uint64_t lents, uint8_t *for_check, uint64_t checks);                  \
     void of##_tick(struct room *left, struct room *it);                                                    \
     void of##_reset(struct room *left, struct room *it)
 
@@ -139,9 +135,6 @@ static uint32_t refusal;
         controller_##name in_rattle;       \
     }
 
-static const struct slice host_slice = {host, sizeof host}, image_slice = {image, sizeof image};
-static const struct slice marks_slice = {marks, sizeof marks}, space_slice = {space, sizeof space};
-static const struct slice check_slice = {check, sizeof check};
 static const uint8_t store[] = {0x48, 0, 0, 0, 0};
 
 PASSED(byte, (&state, 0x62, &answer), (&reply, &self, 0x62))
@@ -149,11 +142,12 @@ PASSED(taken, (&state, &answer), (&reply, &self))
 PASSED(broken, (&state, &answer), (&reply, &self))
 PASSED(report, (&state, 0, 0x22, &answer), (&reply, &self, 0, 0x22))
 PASSED(data, (&state, host, sizeof host, CTC_NO_PLACE, space, sizeof space, check, sizeof check, &answer),
-       (&reply, &self, &host_slice, CTC_NO_PLACE, &space_slice, &check_slice))
+       (&reply, &self, host, sizeof host, CTC_NO_PLACE, space, sizeof space, check, sizeof check))
 PASSED(result,
        (&state, 0, 0, 0, image, sizeof image, marks, sizeof marks, space, sizeof space, check, sizeof check,
         &answer),
-       (&reply, &self, 0, false, 0, &image_slice, &marks_slice, &space_slice, &check_slice))
+       (&reply, &self, 0, false, 0, image, sizeof image, marks, sizeof marks, space, sizeof space, check,
+        sizeof check))
 PASSED(tick, (&state, &answer), (&reply, &self))
 PASSED(reset, (&state, &answer), (&reply, &self))
 CALL(queue, (&state, 0, store[0], store[1], store[2], store[3], store[4], &answer), (&reply, &self, 0, store))
