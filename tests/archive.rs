@@ -1,5 +1,5 @@
 //! For the build scripts of the test packages: finds a library in the folder that a variable names, or where
-//! `rt staticlib` puts it.
+//! `tools/build` puts it.
 
 use std::env;
 use std::path::PathBuf;
@@ -16,7 +16,7 @@ pub fn find(name: &str, variable: &str) {
     println!("cargo:rerun-if-changed={}", archive.display());
     if !archive.is_file() {
         eprintln!(
-            "{} is missing: run `rt staticlib {name}` first, or set {variable} to the absolute \
+            "{} is missing: run `tools/build all` first, or set {variable} to the absolute \
              path of the folder that has lib{name}.a",
             archive.display()
         );

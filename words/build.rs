@@ -1,4 +1,4 @@
-//! Finds libfirmware.a and librecords.a, in the folder that a variable names or where `rt staticlib` puts them.
+//! Finds libfirmware.a and librecords.a, in the folder that a variable names or where `tools/build` puts them.
 
 use std::env;
 use std::path::PathBuf;

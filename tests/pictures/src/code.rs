@@ -23,6 +23,14 @@ pub fn word(text: &str) -> String {
     text.split(end).next().unwrap_or("").to_string()
 }
 
+/// A word's other spelling: ack_offered is AckOffered.
+fn camel(name: &str) -> String {
+    let parts = name.split('_');
+    parts
+        .map(|part| format!("{}{}", part[..1].to_uppercase(), &part[1..]))
+        .collect()
+}
+
 /// The cases of an enum, in order.
 pub fn cases(tree: &Tree, file: &str, name: &str) -> Result<Vec<String>, String> {
     let lines = block(&tree.read(file)?, &format!("pub enum {name} {{"))?;
@@ -86,15 +94,15 @@ pub fn numbered(text: &str, name: &str) -> Result<Vec<String>, String> {
 /// The phases in which a call is carried out, where it goes by them.
 pub fn carried_in(tree: &Tree, call: &str) -> Result<Option<Names>, String> {
     let machine = tree.read("crates/controller/specs/Machine.antt")?;
-    let Ok(lines) = definition(&machine, &format!("{call}In")) else {
+    let Ok(lines) = definition(&machine, &format!("{call}_in")) else {
         return Ok(None);
     };
     let mut found = Names::new();
     for line in &lines {
-        if let Some((_, behind)) = line.split_once(" when") {
-            found.insert(word(behind));
+        if let Some((_, behind)) = line.split_once(" when_") {
+            found.insert(camel(&word(behind)));
         } else if let Some((head, _)) = line.split_once(" = carried") {
-            let pattern = head.rsplit_once('(').ok_or(format!("{call}In: '{line}'"))?;
+            let pattern = head.rsplit_once('(').ok_or(format!("{call}_in: '{line}'"))?;
             found.insert(word(pattern.1));
         }
     }
@@ -153,11 +161,13 @@ pub fn crates(tree: &Tree) -> Result<Crates, String> {
         .filter(|line| !line.starts_with('#'))
     {
         let (name, stands_on) = line.split_once(':').ok_or(format!("crates.txt: {line}"))?;
+        // what C links with is said to be a static library
+        let name = word(name);
         let own: Names = stands_on.split_whitespace().map(str::to_string).collect();
         let further = own.iter().filter_map(|other| below.get(other)).flatten();
         let all = further.chain(&own).cloned().collect();
-        below.insert(name.to_string(), all);
-        direct.insert(name.to_string(), own);
+        below.insert(name.clone(), all);
+        direct.insert(name, own);
     }
     Ok(Crates { direct, below })
 }

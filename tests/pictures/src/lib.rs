@@ -255,10 +255,13 @@ pub fn store(tree: &Tree) -> Result<Faults, String> {
         .iter()
         .filter(|shape| shape.name() == "tape test");
     let said: String = shapes.map(|shape| svg::whole(&shape.text)).collect();
+    let words: Vec<&str> = said
+        .split(|c: char| !(c.is_ascii_alphanumeric() || c == '_'))
+        .collect();
     for word in looked_at
         .split(' ')
         .skip(2)
-        .filter(|word| !said.contains(word))
+        .filter(|word| !words.contains(word))
     {
         faults.push(format!(
             "store.svg: the tape test does not look at the {word}"
@@ -339,7 +342,8 @@ pub fn groups(tree: &Tree) -> Result<Faults, String> {
         }
     }
     for (name, others) in &crates.direct {
-        let lowest = name == "common" || name == "console";
+        // what only hands on to another crate stands on that alone
+        let lowest = ["common", "console"].contains(&name.as_str()) || name.ends_with("_c");
         if others.contains("common") == lowest {
             faults.push(format!("groups.svg: {name} and common"));
         }
@@ -372,7 +376,10 @@ fn exports(
     let text = tree.read(header)?;
     let mut exported = 0;
     for (name, _) in groups.iter().filter(|(_, of)| *of == group) {
-        let path = format!("crates/{name}/src/interface.rt");
+        let path = match name.ends_with("_c") {
+            true => format!("crates/{name}/src/lib.rt"),
+            false => format!("crates/{name}/src/interface.rt"),
+        };
         if !tree.exists(&path) {
             continue;
         }
@@ -419,7 +426,7 @@ pub fn definitions(tree: &Tree) -> Result<Faults, String> {
                 _ => {}
             }
             if classes.last() == Some(&true) {
-                let words = behind.split(|c: char| !c.is_ascii_alphanumeric());
+                let words = behind.split(|c: char| !(c.is_ascii_alphanumeric() || c == '_'));
                 for word in words.filter(|word| word.starts_with(|c: char| c.is_ascii_alphabetic()))
                 {
                     named += 1;

@@ -206,8 +206,8 @@ pub fn ways(tree: &Tree) -> Result<Faults, String> {
 }
 
 /// Where to find: every file is there, and every name is defined in its file. `link/Link.collect_byte` is a crate, a
-/// file and a name; the crate is that of the heading where none stands, `.name` is in the file before it, and a name
-/// with hyphens alone is a theorem of Demands. Other columns hold paths.
+/// file and a name; the crate is that of the heading where none stands, `.name` is in the file before it, and a theorem's
+/// name alone, which has a small letter, is one of Demands. Other columns hold paths.
 pub fn places(tree: &Tree) -> Result<Faults, String> {
     let (mut faults, mut rows) = (vec![], 0);
     let (mut heading, mut columns) = (String::new(), vec![]);
@@ -243,7 +243,9 @@ pub fn places(tree: &Tree) -> Result<Faults, String> {
                 let (krate, rest) = span.split_once('/').unwrap_or((&heading, &span));
                 let (file, name) = match rest.split_once('.') {
                     Some((file, name)) => (file, Some(name)),
-                    None if rest.contains('-') => ("Demands", Some(rest)),
+                    None if *folder == "proofs" && rest.starts_with(|c: char| c.is_lowercase()) => {
+                        ("Demands", Some(rest))
+                    }
                     None => (rest, None),
                 };
                 if !file.is_empty() {

@@ -262,8 +262,8 @@ fn definitions_that_are_wrong() {
     told(
         definitions,
         STORE,
-        ["test_of, may_move", "test_of, mayTurn"],
-        "mayTurn is no definition",
+        ["test_of, may_move", "test_of, may_turn"],
+        "may_turn is no definition",
     );
     let moved = [
         "in controller/specs/Machine.antt",
@@ -275,7 +275,7 @@ fn definitions_that_are_wrong() {
         moved,
         "byte_in is not in link/specs/Machine.antt",
     );
-    let renamed = ["pub send_interrupt :", "pub interruptSent :"];
+    let renamed = ["pub send_interrupt :", "pub interrupt_sent :"];
     told(
         definitions,
         "crates/link/specs/Completion.antt",
@@ -330,8 +330,8 @@ fn pages_that_are_wrong() {
     told(
         page::names,
         PAGE,
-        ["`hand`: `hand_call`", "`hand`: `handsCall`"],
-        "handsCall is no example",
+        ["`hand`: `hand_call`", "`hand`: `hands_call`"],
+        "hands_call is no example",
     );
 
     let more = [
@@ -360,8 +360,8 @@ fn pages_that_are_wrong() {
         places,
         PAGE,
         [
-            "`functions-are-the-dispatchers-calls`",
-            "`functions-are-calls`",
+            "`functions_are_the_dispatchers_calls`",
+            "`functions_are_calls`",
         ],
         "firmware/proofs/Demands.antt",
     );
@@ -377,12 +377,12 @@ fn pages_that_are_wrong() {
         ["`tests/words`", "`tests/word`"],
         "no tests/word",
     );
-    let theorem = ["pub each-store-orders-once :", "pub stores-order-once :"];
+    let theorem = ["pub each_store_orders_once :", "pub stores_order_once :"];
     told(
         places,
         "crates/controller/proofs/Demands.antt",
         theorem,
-        "each-store-orders-once is not in",
+        "each_store_orders_once is not in",
     );
 
     told(
