@@ -206,8 +206,8 @@ pub fn ways(tree: &Tree) -> Result<Faults, String> {
 }
 
 /// Where to find: every file is there, and every name is defined in its file. `link/Link.collect_byte` is a crate, a
-/// file and a name; the crate is that of the heading where none stands, `.name` is in the file before it, and a theorem's
-/// name alone, which has a small letter, is one of Demands. Other columns hold paths.
+/// file and a name; the crate is that of the heading where none stands, `.name` is in the file before it, and a
+/// theorem's name alone, which has a small letter, is one of Demands. Other columns hold paths.
 pub fn places(tree: &Tree) -> Result<Faults, String> {
     let (mut faults, mut rows) = (vec![], 0);
     let (mut heading, mut columns) = (String::new(), vec![]);
