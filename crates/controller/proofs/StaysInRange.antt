@@ -368,8 +368,8 @@ module _ (c : Controller) (fine : InRange c) where
       BytesIn lent_space
   stays_in_range (byte value) low =
       plainly _ _ (passes Kept _ _ (byte_kept c.body fine.body value c.phase low fine.phase))
-  stays_in_range taken none = plainly _ _ (passes Kept _ _ (taken_kept c.body fine.body c.phase fine.phase))
-  stays_in_range broken none =
+  stays_in_range taken _ = plainly _ _ (passes Kept _ _ (taken_kept c.body fine.body c.phase fine.phase))
+  stays_in_range broken _ =
       plainly _ _ (passes Kept _ _ (broken_kept c.body fine.body c.phase fine.phase))
   stays_in_range (report n r) low = plainly _ _ (passes Kept _ _ (report_kept c n r fine low))
   stays_in_range (host_data host space check) bytes =

@@ -113,7 +113,7 @@ HeldUpToDate counted count (AckOffered s) = Unit
 HeldUpToDate counted count (GoOffered store) = Unit
 HeldUpToDate counted count (DataAwaited store) = Unit
 HeldUpToDate counted count (ResultAwaited operation store) = Unit
-HeldUpToDate counted count (EndOffered interrupt) = Unit
+HeldUpToDate counted count (EndOffered _) = Unit
 
 unfoldable pub SentUpToDate : Bool → ℕ → Action → Type 0
 SentUpToDate counted count (Text string) = UpToDate counted count string
