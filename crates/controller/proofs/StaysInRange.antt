@@ -379,8 +379,8 @@ module _ (c : Controller) (fine : InRange c) where
       lent (result r space check) _
       (passes (Given space) _ _
       (result_given c.body fine.body r space check bytes.image c.phase fine.phase))
-  stays_in_range tick none = plainly _ _ (passes Kept _ _ (tick_kept c.body fine.body c.phase fine.phase))
-  stays_in_range reset none = plainly _ _ (passes Kept _ _ (carried_kept _ (reset_within c.body fine.body)))
+  stays_in_range tick _ = plainly _ _ (passes Kept _ _ (tick_kept c.body fine.body c.phase fine.phase))
+  stays_in_range reset _ = plainly _ _ (passes Kept _ _ (carried_kept _ (reset_within c.body fine.body)))
   stays_in_range (hand store) bytes =
       plainly _ _ (passes Kept _ _ (hand_kept c.body fine.body store c.phase bytes fine.phase))
 
