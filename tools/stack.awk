@@ -260,6 +260,8 @@ function behind_arm(i, depth, text, amount, register) {
     }
     if (text ~ /\[sp\], #[0-9]+$/) return depth - amount
     if (text ~ /sp!|\[sp.*\]!|\[sp\],/) refuse(at(i), "moves the stack pointer in a way that is not known")
+    # written to, and not moved
+    if (text ~ /^stm(ia)?(\.w)? sp, \{/) return depth
     # the register that a frame is found by
     if (text ~ /^add r7, sp, #[0-9]+$/) BASE[OWNER[i]] = depth - amount
     if (text == "mov r7, sp") BASE[OWNER[i]] = depth

@@ -264,6 +264,21 @@ fn complaints(sources: &Sources, list: &[Name]) -> Vec<String> {
     complaints
 }
 
+/// A public constant of a byte or of a number, or a case of an enum with its number, and how the table has it.
+fn numbered(line: &str) -> Option<(&str, String)> {
+    if let Some(rest) = line.strip_prefix("pub const ") {
+        let constant = rest.split(':').next()?;
+        let counts = line.contains(": u8 =") || line.contains(": u32 =");
+        return counts.then(|| (constant, constant.to_string()));
+    }
+    let (case, number) = line
+        .strip_prefix("    ")?
+        .strip_suffix(',')?
+        .split_once(" = ")?;
+    let is_case = case.chars().all(char::is_alphanumeric) && number.parse::<u32>().is_ok();
+    is_case.then(|| (case, format!("{case} = #,")))
+}
+
 /// Constants that no line of the table has.
 fn missing(sources: &Sources, list: &[Name]) -> Vec<String> {
     let mut missing = Vec::new();
@@ -298,16 +313,11 @@ fn missing(sources: &Sources, list: &[Name]) -> Vec<String> {
             .text(&format!("crates/{folder}/src/{source}.rt"))
             .lines()
         {
-            let constant = line
-                .strip_prefix("pub const ")
-                .and_then(|rest| rest.split(':').next());
-            let Some(constant) =
-                constant.filter(|_| line.contains(": u8 =") || line.contains(": u32 ="))
-            else {
+            let Some((constant, cell)) = numbered(line) else {
                 continue;
             };
             let apart = ["DONE", "LAYOUT", "LAST_KIND", "LAST_OPERATION"].contains(&constant);
-            let cell = format!("{file} {constant}");
+            let cell = format!("{file} {cell}");
             if !apart && !list.iter().any(|name| name.rattle == Some(&cell)) {
                 missing.push(format!("{file}: {constant} has no name"));
             }
@@ -402,10 +412,7 @@ fn a_nameless_constant_is_found() {
         ),
         ("include/ctc_controller.h", "#define CTC_CODE_TORN 0x19u\n"),
         ("include/ctc_records.h", "#define CTC_REFUSED_TWICE 21u\n"),
-        (
-            "crates/common/src/refusals.rt",
-            "pub const TWICE: u32 = 21;\n",
-        ),
+        ("crates/common/src/refusals.rt", "    Twice = 21,\n"),
         (
             "crates/operations/src/codes.rt",
             "pub const TORN: u8 = 0x19;\n",

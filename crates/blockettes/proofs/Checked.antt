@@ -12,7 +12,7 @@ use Rattle.blockettes.specs.Xor.{◌⊕◌, xor_all}
 use Rattle.blockettes.specs.Blockettes.{blockette_at, numbered, of_parity, fold_parity, check_of, others_of}
 use Rattle.blockettes.proofs.XorLaws.{⊕-zeros, zeros-⊕, xor_all-length, xor_all_start, xor_all_first, xor_all_twice}
 use Rattle.blockettes.proofs.XorLaws.{xor_all_same}
-use Rattle.blockettes.proofs.Others.{others_by_all, others_length}
+use Rattle.blockettes.proofs.Others.{others_by_all}
 
 -- ---- one blockette
 
@@ -120,12 +120,11 @@ module _ (bytes : List ℕ) (n : ℕ) (full : length bytes ≡ 256 * n) where
   -- what restores a blockette is that blockette
   pub others_are_it : (place : ℕ) → place < n + 2
       → others_of (checked bytes n) (n + 2) place ≡ blockette_at (checked bytes n) place
+  unfolding check_of
   others_are_it place h =
       let parity = (n + 2 - 1 - place) % 2 in
       let it = blockette_at (checked bytes n) place in
-      let others = others_of (checked bytes n) (n + 2) place in
       let small : parity < 2 = omega arith in
-      sym (take_all 256 others (le_of_eq (others_length (checked bytes n) (n + 2) place)))
-      ∙ sym (others_by_all (checked bytes n) (n + 2) place 256 h (le_refl 256))
+      sym (others_by_all (checked bytes n) (n + 2) place h)
       ∙ ap (λ (x : List ℕ). x ⊕ it) (parity_cancels parity small)
       ∙ zeros-⊕ it 256 (blockette_length_lem (checked bytes n) place (omega (arith, checked_length)))

@@ -1,4 +1,3 @@
-pub mod BitXor
 pub mod XorLaws
 pub mod Several
 pub mod Halves

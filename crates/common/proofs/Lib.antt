@@ -3,3 +3,4 @@ pub mod Written
 pub mod Parts
 pub mod SpaceLaws
 pub mod FirstOfLaws
+pub mod RefusalLaws

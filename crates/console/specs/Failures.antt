@@ -1,6 +1,6 @@
 -- Which failures a read may end with, and which a write.
 -- Assumes nothing.
-use Rattle.std.specs.Prelude.{ℕ, ◌≡◌, ◌⊎◌, List}
+use Rattle.std.specs.Prelude.{◌≡◌, ◌⊎◌}
 use Rattle.console.specs.declared.Failure.{Failure}
 use Rattle.console.specs.declared.Failure.TheVariants.{Unread, Unwritten, Closed}
 
@@ -13,5 +13,5 @@ abbrev pub IsOfWriting : Failure → Type 0
 IsOfWriting e = (e ≡ Unwritten) ⊎ (e ≡ Closed)
 
 -- a turn failed: a read did, or a write, and then the input is as it was before
-abbrev pub IsOfTurn : Failure → List ℕ → List ℕ → Type 0
+abbrev pub IsOfTurn : {I : Type 0} → Failure → I → I → Type 0
 IsOfTurn e before after = IsOfReading e ⊎ (IsOfWriting e × (after ≡ before))

@@ -2,9 +2,13 @@
 -- Assumes nothing.
 use Rattle.std.specs.Prelude.{ℕ, ◌-◌}
 
--- the input: a line is shorter than this
+-- the input's buffer
 abbrev pub input_size : ℕ
 input_size = 65536
+
+-- a line with its #0A fits there: one that is longer is too long to be read
+abbrev pub line_limit : ℕ
+line_limit = input_size - 1
 
 -- the answers that wait
 abbrev pub output_size : ℕ

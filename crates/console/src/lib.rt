@@ -1,24 +1,26 @@
-// Lines from standard input, answers to standard output. A line is handed out by its place in the input, and the
-// answers wait until there is no line in hand, so that each line is answered before the program waits for more.
-//
-// The console is a value, and the program lends it the two buffers. `next_line` has no loop: it does one thing a turn,
-// so that the program's own loop is the only one that has to be bounded.
+//! Lines from any reader, answers to any writer: the one loop of all programs that answer line by line. The input is
+//! read in pieces. A line that lies whole in one is handed out in place; the start of one that goes on in the next is
+//! kept. The answers wait until all lines of a piece are answered, so that each line is answered before more input is
+//! waited for, and then they are written at once.
 #![tactic(auto)]
 
-ghost use Rattle.std.specs.Prelude.{◌≡◌, ◌≤◌, ◌+◌, length, IfOk, IfErr};
+ghost use Rattle.std.specs.Prelude.{◌≡◌, ◌≤◌, ◌+◌, ◌⊎◌, length, IfSome, OnOk, IfOk, IfErr};
 ghost use Rattle.console.specs.Failures.{IsOfReading, IsOfWriting, IsOfTurn};
-ghost use Rattle.console.specs.Places.{IsPlaced, IsSound, IsReady, IsHeld, WithState, Written, Answered, IsWithin};
-ghost use Rattle.console.specs.Sizes.{input_size, output_size, room};
+ghost use Rattle.console.specs.Sizes.{input_size, output_size, answer_limit, line_limit};
 
+use memchr::memchr;
 use std::io;
-use std::io::{ErrorKind, Print, Read};
+use std::io::{ErrorKind, Read, Write};
 use std::process::ExitCode;
+use text::space::Text;
 
-// The input. The longest readable line without needless zeros has 33,946 bytes, so this has room to spare. One that
-// fills it without an end is too long to be read.
-pub const INPUT_SIZE: usize = 65536;
+// A piece of the input. The longest readable line without needless zeros has 33,946 bytes, so this has room to spare.
+const INPUT_SIZE: usize = 65536;
 
-// The answers that wait, which are written in large pieces where much input waits.
+// A line that is longer is too long to be read.
+const LINE_LIMIT: usize = INPUT_SIZE - 1;
+
+/// The answers that wait, which are written in large pieces where much input waits.
 pub const OUTPUT_SIZE: usize = 65536;
 
 // No answer is longer than this.
@@ -27,22 +29,10 @@ const ANSWER_LIMIT: usize = 40960;
 // With no more text than this waiting, an answer still fits.
 const ROOM: usize = OUTPUT_SIZE - ANSWER_LIMIT;
 
-// Most lines end within this many bytes.
-const NEAR: usize = 32;
+// The status of a program that a closed pipe ends, as a shell tells it.
+const CLOSED_STATUS: u8 = 141;
 
-// A long line is looked through in pieces of this many bytes.
-const PIECE: usize = 64;
-
-// More may come, also where the start of the next line was dropped, since that line is too long; or the input has
-// ended.
-#[derive(Clone, Copy)]
-pub enum State {
-    Open,
-    Dropped,
-    Ended,
-}
-
-// A read or a write failed, or nobody reads any more what is written.
+/// A read or a write failed, or nobody reads any more what is written.
 #[derive(Clone, Copy)]
 pub enum Failure {
     Unread,
@@ -50,148 +40,12 @@ pub enum Failure {
     Closed,
 }
 
-// The status of a program that a closed pipe ends, as a shell tells it.
-const CLOSED_STATUS: u8 = 141;
-
-// Where the next line starts, up to where it has no #0A, where the input ends, and how much text waits. There is one
-// state, and no flag for each thing, since a loop is slowed by small fields that it copies each turn.
-#[derive(Clone, Copy)]
-pub struct Console {
-    pub from: usize,
-    pub seen: usize,
-    pub end: usize,
-    pub count: usize,
-    pub state: State,
-}
-
-// What a turn finds.
-#[derive(Clone, Copy)]
-pub enum Kind {
-    Nothing,
-    Long,
-    Line,
-}
-
-// The console after the turn, what was found, and where in the input that line starts and ends.
-#[derive(Clone, Copy)]
-pub struct Found {
-    pub console: Console,
-    pub kind: Kind,
-    pub start: usize,
-    pub end: usize,
-}
-
-pub fn fresh_console() -> Console
-    ensures { IsSound result }
-{
-    Console {
-        from: 0,
-        seen: 0,
-        end: 0,
-        count: 0,
-        state: State::Open,
-    }
-}
-
-// Whether a #0A stands in a piece. There is no early exit, so that the compiler takes many bytes at a time.
-fn has_end(s: &[u8]) -> bool {
-    let mut found = false;
-    for i in 0..s.len() {
-        found = found | (s[i] == b'\n');
-    }
-    found
-}
-
-// The place of the first #0A from a place on, or the end.
-fn first_end(input: &[u8], from: usize, end: usize) -> usize
-    requires { (from ≤ end) × (end ≤ length input.now) }
-    ensures from { from ≤ result }
-    ensures end { result ≤ end }
-{
-    let mut at = from;
-    while at < end {
-        if input[at] == b'\n' {
-            return at;
-        }
-        at += 1;
-    }
-    end
-}
-
-// The same of a long line, in pieces.
-fn far_end(input: &[u8], from: usize, end: usize) -> usize
-    requires { (from ≤ end) × (end ≤ length input.now) }
-    ensures from { from ≤ result }
-    ensures end { result ≤ end }
-{
-    let mut at = from;
-    while end - at >= PIECE {
-        let next = at + PIECE;
-        if has_end(&input[at..next]) {
-            return first_end(input, at, next);
-        }
-        at = next;
-    }
-    first_end(input, at, end)
-}
-
-// The same, near first.
-fn line_end(input: &[u8], from: usize, end: usize) -> usize
-    requires { (from ≤ end) × (end ≤ length input.now) }
-    ensures from { from ≤ result }
-    ensures end { result ≤ end }
-{
-    if end - from <= NEAR {
-        return first_end(input, from, end);
-    }
-    let near = from + NEAR;
-    let at = first_end(input, from, near);
-    if at < near {
-        return at;
-    }
-    far_end(input, near, end)
-}
-
-// Moves the bytes from a place on to the start.
-fn move_to_start(input: &mut [u8], from: usize, end: usize)
-    requires { (from ≤ end) × (end ≤ length input.old) }
-{
-    if from == 0 {
-        return;
-    }
-    let count = end - from;
-    for i in 0..count {
-        input[i] = input[from + i];
-    }
-}
-
-// The first bytes of a space.
-fn front(s: &[u8], count: usize) -> &[u8]
-    requires { count ≤ length s.now }
-{
-    &s[..count]
-}
-
-// Whether the program is to take one more turn.
-pub fn is_open(console: Console) -> bool {
-    let state = console.state;
-    match state {
-        State::Open => true,
-        State::Dropped => true,
-        _ => false,
-    }
-}
-
-fn with_state(console: Console, state: State) -> Console
-    ensures { WithState console result }
-{
-    Console {
-        from: console.from,
-        seen: console.seen,
-        end: console.end,
-        count: console.count,
-        state,
-    }
+/// What a program does with a line.
+pub trait Player {
+    /// A line is answered, without its #0A, behind the text that waits: `None` is one that is too long to be read.
+    fn answer(&mut self, line: Option<&[u8]>, out: &mut Text<OUTPUT_SIZE>)
+        requires short { IfSome line (λ s. length s.now ≤ line_limit) }
+        requires room { length out.old + answer_limit ≤ output_size };
 }
 
 // Which failure an error of a write is.
@@ -204,211 +58,129 @@ fn unwritten(error: io::Error) -> Failure
     }
 }
 
-// Writes a text. Where that fails, some of it may be written.
-pub fn write_text(rt: HostRuntime, text: &[u8]) -> Result<(), Failure>
+/// Writes a text. Where that fails, some of it may be written.
+pub fn write_text<W: Write>(output: &mut W, text: &[u8]) -> Result<(), Failure>
     ensures { IfErr result (λ e. IsOfWriting e) }
 {
-    rt.write_all(text).map_err(unwritten)
+    output.write_all(text).map_err(unwritten)
 }
 
-// Writes the text that waits. Where that fails, some of it may be written.
-fn written(rt: HostRuntime, mut console: Console, out: &[u8]) -> Result<Console, Failure>
-    requires { console.count ≤ length out.now }
-    ensures written { IfOk result (λ r. Written console r) }
+/// Writes the text that waits, so that none does.
+pub fn write_waiting<W: Write>(output: &mut W, out: &mut Text<OUTPUT_SIZE>) -> Result<(), Failure>
+    ensures written { length out.new ≡ 0 }
     ensures failed { IfErr result (λ e. IsOfWriting e) }
 {
-    let count = console.count;
-    console.count = 0;
-    write_text(rt, front(out, count))?;
-    Ok(console)
+    let end = write_text(output, out.as_bytes());
+    out.clear();
+    end
 }
 
-// Room for one more answer: the text that waits is written where there is too little.
-pub fn with_room(rt: HostRuntime, console: Console, out: &[u8]) -> Result<Console, Failure>
-    requires sound { IsSound console }
-    requires out_len { length out.now ≡ output_size }
-    ensures ready { IfOk result (λ r. IsReady r) }
+/// Room for one more answer: the text that waits is written where there is too little.
+pub fn make_room<W: Write>(output: &mut W, out: &mut Text<OUTPUT_SIZE>) -> Result<(), Failure>
+    ensures ready { length out.new + answer_limit ≤ output_size }
     ensures failed { IfErr result (λ e. IsOfWriting e) }
 {
-    if ROOM < console.count {
-        return written(rt, console, out);
+    if out.len() > ROOM {
+        return write_waiting(output, out);
     }
-    Ok(console)
-}
-
-fn nothing(console: Console) -> Found
-    requires { IsReady console }
-    ensures { IsWithin result }
-{
-    Found {
-        console,
-        kind: Kind::Nothing,
-        start: 0,
-        end: 0,
-    }
-}
-
-fn kind_of(state: State) -> Kind {
-    match state {
-        State::Dropped => Kind::Long,
-        _ => Kind::Line,
-    }
-}
-
-// The line from the console's place to an end. The next starts at a place behind it.
-fn line_to(console: Console, end: usize, next: usize, state: State) -> Found
-    requires ready { IsReady console }
-    requires from_le_end { (console.from ≤ end) × (end ≤ next) × (next ≤ console.end) }
-    ensures { IsWithin result }
-{
-    let before = console.state;
-    Found {
-        console: Console {
-            from: next,
-            seen: next,
-            end: console.end,
-            count: console.count,
-            state,
-        },
-        kind: kind_of(before),
-        start: console.from,
-        end,
-    }
-}
-
-// Space to read: what is held goes to the start. A line that fills the input and has not ended is too long: its bytes
-// are dropped, and it is answered where it ends.
-fn with_space(console: Console, input: &mut [u8]) -> Console
-    requires placed { IsPlaced console }
-    requires input_len { length input.old ≡ input_size }
-    ensures held { IsHeld result }
-    ensures count { result.count ≤ console.count }
-{
-    let from = console.from;
-    let end = console.end;
-    let state = console.state;
-    let count = end - from;
-    move_to_start(input, from, end);
-    if count < INPUT_SIZE {
-        return Console {
-            from: 0,
-            seen: count,
-            end: count,
-            count: console.count,
-            state,
-        };
-    }
-    Console {
-        from: 0,
-        seen: 0,
-        end: 0,
-        count: console.count,
-        state: State::Dropped,
-    }
-}
-
-// The input has ended: what is held is the last line.
-fn last_line(console: Console) -> Found
-    requires { IsHeld console × (console.count ≤ room) }
-    ensures { IsWithin result }
-{
-    let end = console.end;
-    let state = console.state;
-    let unanswered = match state {
-        State::Dropped => true,
-        _ => 0 < end,
-    };
-    if unanswered {
-        return line_to(console, end, end, State::Ended);
-    }
-    nothing(with_state(console, State::Ended))
-}
-
-// Reads once. Where that fails, the input's bytes are any.
-fn read_once(rt: HostRuntime, mut console: Console, input: &mut [u8]) -> Result<Found, Failure>
-    requires held { IsHeld console × (console.count ≤ room) }
-    requires input_len { length input.old ≡ input_size }
-    ensures within { IfOk result (λ f. IsWithin f) }
-    ensures failed { IfErr result (λ e. IsOfReading e) }
-{
-    let end = console.end;
-    let more = rt
-        .stdin()
-        .read(&mut input[end..])
-        .map_err(|_| Failure::Unread)?;
-    if more == 0 {
-        return Ok(last_line(console));
-    }
-    console.end = end + more;
-    Ok(nothing(console))
-}
-
-// Writes what waits, and reads once. A write that fails leaves the input as it was.
-fn read_on(
-    rt: HostRuntime,
-    console: Console,
-    input: &mut [u8],
-    out: &[u8],
-) -> Result<Found, Failure>
-    requires sound { IsSound console }
-    requires input_len { (length input.old ≡ input_size) × (length out.now ≡ output_size) }
-    ensures within { IfOk result (λ f. IsWithin f) }
-    ensures failed { IfErr result (λ e. IsOfTurn e input.old input.new) }
-{
-    let console = written(rt, console, out)?;
-    if !is_open(console) {
-        return Ok(nothing(console));
-    }
-    read_once(rt, with_space(console, input), input)
-}
-
-// The next whole line that is in hand. Where none is, the text that waits is written, more is read, and nothing is
-// found this turn. Where no answer would fit, the text is written first, and a write that fails ends it all, with the
-// input as it was. A read that fails ends it too.
-pub fn next_line(
-    rt: HostRuntime,
-    console: Console,
-    input: &mut [u8],
-    out: &[u8],
-) -> Result<Found, Failure>
-    requires sound { IsSound console }
-    requires input_len { (length input.old ≡ input_size) × (length out.now ≡ output_size) }
-    ensures within { IfOk result (λ f. IsWithin f) }
-    ensures failed { IfErr result (λ e. IsOfTurn e input.old input.new) }
-{
-    let console = with_room(rt, console, out)?;
-    if !is_open(console) {
-        return Ok(nothing(console));
-    }
-    let end = console.end;
-    let at = line_end(input, console.seen, end);
-    if at < end {
-        return Ok(line_to(console, at, at + 1, State::Open));
-    }
-    read_on(rt, console, input, out)
-}
-
-// An answer of `more` bytes was put behind the text that waits.
-pub fn answered(mut console: Console, more: usize) -> Console
-    requires { console.count + more ≤ output_size }
-    ensures { Answered console more result }
-{
-    console.count = console.count + more;
-    console
-}
-
-// Writes the last answers.
-pub fn finish(rt: HostRuntime, console: Console, out: &[u8]) -> Result<(), Failure>
-    requires sound { IsSound console }
-    requires out_len { length out.now ≡ output_size }
-    ensures { IfErr result (λ e. IsOfWriting e) }
-{
-    written(rt, console, out)?;
     Ok(())
 }
 
-// What failed is told on standard error, in the program's own words, and by the status. Where nobody reads any more, no
-// word is said, as of a program that the closed pipe ends.
+// As much of a part of a line is kept as there is room for, and of a line that is too long no more than shows it.
+fn keep(part: &[u8], line: &mut Text<INPUT_SIZE>) {
+    let room = INPUT_SIZE - line.len();
+    line.put_all(&part[..part.len().min(room)]);
+}
+
+// The line that was kept is answered, and nothing is kept any more.
+fn answer_kept<W: Write, P: Player>(
+    line: &mut Text<INPUT_SIZE>,
+    output: &mut W,
+    out: &mut Text<OUTPUT_SIZE>,
+    player: &mut P,
+) -> Result<(), Failure>
+    ensures kept { OnOk result (length line.new ≡ 0) }
+    ensures failed { IfErr result (λ e. IsOfWriting e) }
+{
+    make_room(output, out)?;
+    if line.len() > LINE_LIMIT {
+        player.answer(None, out);
+    } else {
+        player.answer(Some(line.as_bytes()), out);
+    }
+    line.clear();
+    Ok(())
+}
+
+// The lines that end in a piece of the input are answered, and the start of one that does not is kept.
+fn answer_lines<W: Write, P: Player>(
+    piece: &[u8],
+    line: &mut Text<INPUT_SIZE>,
+    output: &mut W,
+    out: &mut Text<OUTPUT_SIZE>,
+    player: &mut P,
+) -> Result<(), Failure>
+    requires { length piece.now ≤ input_size }
+    ensures failed { IfErr result (λ e. IsOfWriting e) }
+{
+    let mut rest = piece;
+    while let Some(end) = memchr(b'\n', rest) {
+        if line.len() == 0 {
+            make_room(output, out)?;
+            player.answer(Some(&rest[..end]), out);
+        } else {
+            keep(&rest[..end], line);
+            answer_kept(line, output, out, player)?;
+        }
+        rest = &rest[end + 1..];
+    }
+    keep(rest, line);
+    Ok(())
+}
+
+/// Writes the text that waits, and reads a piece: how many bytes of it, and 0 where the input has ended. A write that
+/// fails leaves the input as it was.
+pub fn read_on<R: Read, W: Write>(
+    input: &mut R,
+    piece: &mut [u8],
+    output: &mut W,
+    out: &mut Text<OUTPUT_SIZE>,
+) -> Result<usize, Failure>
+    ensures read { IfOk result (λ count. count ≤ length piece.old) }
+    ensures written { OnOk result (length out.new ≡ 0) }
+    ensures failed { IfErr result (λ e. IsOfTurn e input.old input.new) }
+{
+    write_waiting(output, out)?;
+    input.read(piece).map_err(|_| Failure::Unread)
+}
+
+/// Plays each line of the input, to its end.
+pub fn play<R: Read, W: Write, P: Player>(
+    input: &mut R,
+    output: &mut W,
+    player: &mut P,
+) -> Result<(), Failure>
+    ensures failed { IfErr result (λ e. IsOfReading e ⊎ IsOfWriting e) }
+{
+    let mut piece = [0; INPUT_SIZE];
+    let mut line = Text::new();
+    let mut out = Text::new();
+    // Nothing says that an input ends, so the loop has a number of turns that no run uses up.
+    for _ in 0..u64::MAX {
+        let count = read_on(input, &mut piece, output, &mut out)?;
+        if count == 0 {
+            break;
+        }
+        answer_lines(&piece[..count], &mut line, output, &mut out, player)?;
+    }
+    if line.len() > 0 {
+        answer_kept(&mut line, output, &mut out, player)?;
+    }
+    write_waiting(output, &mut out)
+}
+
+/// What failed is told on standard error, in the program's own words, and by the status. Where nobody reads any more,
+/// no word is said, as of a program that the closed pipe ends.
 pub fn tell(
     rt: HostRuntime,
     end: Result<(), Failure>,
@@ -423,4 +195,90 @@ pub fn tell(
     };
     let _ = rt.stderr().write_all(text);
     ExitCode::FAILURE
+}
+
+#[cfg(test)]
+mod tests {
+    use super::*;
+    use std::io::repeat;
+    use std::test::Fail;
+
+    // A line's length, or 'long'.
+    #[derive(Drop)]
+    struct Lengths;
+
+    impl Player for Lengths {
+        fn answer(&mut self, line: Option<&[u8]>, out: &mut Text<OUTPUT_SIZE>) {
+            match line {
+                Some(line) => out.put_decimal(5, line.len() as u32),
+                None => out.put_all(b"long"),
+            }
+            out.put(b'\n');
+        }
+    }
+
+    // An input that comes three bytes at a time.
+    #[derive(Drop)]
+    struct Drip<'a> {
+        rest: &'a [u8],
+    }
+
+    impl Read for Drip<'_> {
+        fn read(&mut self, buf: &mut [u8]) -> io::Result<usize> {
+            let count = self.rest.len().min(buf.len()).min(3);
+            let (now, later) = self.rest.split_at(count);
+            buf[..count].copy_from_slice(now);
+            self.rest = later;
+            Ok(count)
+        }
+    }
+
+    // A pipe that nobody reads.
+    #[derive(Drop)]
+    struct Shut;
+
+    impl Write for Shut {
+        fn write(&mut self, _: &[u8]) -> io::Result<usize> {
+            Err(io::Error::from(ErrorKind::BrokenPipe))
+        }
+
+        fn flush(&mut self) -> io::Result<()> {
+            Ok(())
+        }
+    }
+
+    #[test]
+    fn plays_each_line(rt: HostRuntime) -> Result<(), Fail> {
+        for (count, answers) in [
+            (0, &b"0\n2\n"[..]),
+            (65535, &b"65535\n2\n"[..]),
+            (65536, &b"long\n2\n"[..]),
+            (200000, &b"long\n2\n"[..]),
+        ] {
+            let mut input = repeat(b'x').take(count).chain(&b"\nab"[..]);
+            let mut output = Vec::new(rt.alloc());
+            let end = play(&mut input, &mut output, &mut Lengths);
+            assert!(rt; end.is_ok(), "at {count}");
+            assert!(rt; output.as_slice() == answers, "at {count}");
+        }
+        Ok(())
+    }
+
+    #[test]
+    fn keeps_a_line_over_pieces(rt: HostRuntime) -> Result<(), Fail> {
+        let mut input = Drip {
+            rest: b"1234567890\n\nab",
+        };
+        let mut output = Vec::new(rt.alloc());
+        let end = play(&mut input, &mut output, &mut Lengths);
+        assert!(rt; end.is_ok());
+        assert!(rt; output.as_slice() == b"10\n0\n2\n".as_slice());
+        Ok(())
+    }
+
+    #[test]
+    fn tells_a_closed_pipe(rt: HostRuntime) {
+        let end = play(&mut &b"ab\n"[..], &mut Shut, &mut Lengths);
+        assert!(rt; matches!(end, Err(Failure::Closed)));
+    }
 }

@@ -4,9 +4,10 @@
 use mathlib.Core.Path.{◌≡◌, refl, sym, ◌∙◌}
 use Prim.Native.Nat.{ℕ, zero, suc, ◌≤◌, ◌<◌}
 use native.Mathlib.Omega.{arith}
-use mathlib.Core.Bool.{Bool, true, false, not, ◌&&◌, ◌||◌, false≢true}
+use mathlib.Core.Bool.{Bool, true, false, not, ◌||◌, false≢true}
 use lib.Dec.{leb, ltb, eqb}
 use borrow.Author.Tests.{ltb-true, ltb-false, leb-true, leb-false, le-leb, lt-leb, eqb-true, eqb-false, eq-eqb, ne_eqb}
+use Rattle.std.proofs.Math.Bool.{and-false, or-true}
 use Rattle.common.proofs.PickLaws.{by_test}
 use Rattle.contest.specs.declared.contest.Gap.{Gap}
 use Rattle.contest.specs.declared.contest.Gap.TheVariants.{Proper, Improper}
@@ -18,14 +19,6 @@ use Rattle.contest.specs.Bound.{needed_stores}
 use Rattle.contest.specs.Answer.{writes_limit, spoilings_limit, is_above_limit}
 
 -- ---- tests
-
-and_false : (a : Bool) → (a && false) ≡ false
-and_false true = refl
-and_false false = refl
-
-or_true : (a : Bool) → (a || true) ≡ true
-or_true true = refl
-or_true false = refl
 
 -- one test fails and the other holds
 pub fails_and_holds : (a b : Bool) → (a || not b) ≡ false → (a ≡ false) × (b ≡ true)
@@ -46,7 +39,7 @@ module _ (n : ℕ) (gap : Gap) (w f : ℕ) where
 
   enough_yes : needed_stores gap w f ≤ n → is_enough n (position_of gap w f) ≡ true
   unfolding is_enough
-  enough_yes h = rw (le-leb _ n h, or_true)
+  enough_yes h = rw (le-leb _ n h, or-true)
 
   enough_no : (w ≡ 0 → ⊥) → n < needed_stores gap w f → is_enough n (position_of gap w f) ≡ false
   unfolding is_enough is_finished
@@ -74,7 +67,7 @@ module _ (wins : Position → Bool) (w f : ℕ) where
   spoiled_loses : ltb 0 f ≡ true → wins (after_spoiled (position_of Proper w f)) ≡ false
       → store_wins wins Write (position_of Proper w f) ≡ false
   unfolding store_wins may_write may_spoil
-  spoiled_loses may spoiled = rw (may, spoiled, and_false)
+  spoiled_loses may spoiled = rw (may, spoiled, and-false)
 
 -- ---- one store, where the theorem is in hand for what is left after it
 
@@ -211,8 +204,8 @@ else_skip_first (suc n) p some wins none = simp (some, none) at wins
 pub begun_forces : (n : ℕ) (store : Move) (p : Position) → begins n store p ≡ true → forces n p ≡ true
 unfolding begins forces
 begun_forces zero store p e = absurd (false≢true e)
-begun_forces (suc n) Write p e = rw (e, or_true)
-begun_forces (suc n) SkipReverse p e = rw (e, or_true, or_true)
+begun_forces (suc n) Write p e = rw (e, or-true)
+begun_forces (suc n) SkipReverse p e = rw (e, or-true, or-true)
 
 -- ---- the limits
 
@@ -223,5 +216,5 @@ within_limits w n f e =
     (λ above. absurd (false≢true (sym (rw above at e))))
     (λ writes.
     by_test (ltb spoilings_limit f)
-    (λ above. absurd (false≢true (sym (simp (writes, above, or_true) at e))))
+    (λ above. absurd (false≢true (sym (simp (writes, above, or-true) at e))))
     (λ spoilings. (ltb-false writes_limit w writes, ltb-false spoilings_limit f spoilings)))

@@ -11,25 +11,28 @@ use mathlib.Core.Bool.{true, false, not, ◌||◌}
 use lib.Dec.{leb, eqb}
 use borrow.Author.Tests.{eqb-true, eqb-false, ne_eqb}
 use contract.Lifetimes.{Lfts}
+use Rattle.std.proofs.Common.{Result, None, Some}
+use Rattle.common.specs.declared.refusals.Refusal.{Refusal}
+use Rattle.contest.specs.declared.contest.Verdict.{Verdict}
+use Rattle.contest.specs.declared.contest.Question.{Question}
+use Rattle.std.proofs.lemmas.Option.{none-some}
 use Rattle.common.specs.Pick.{pick}
 use Rattle.common.proofs.PickLaws.{by_test}
 use Rattle.contest.specs.declared.contest.Gap.{Gap}
 use Rattle.contest.specs.declared.contest.Gap.TheVariants.{Proper, Improper}
 use Rattle.contest.specs.declared.contest.Move.{Move}
 use Rattle.contest.specs.declared.contest.Move.TheVariants.{Write, SkipReverse}
-use Rattle.contest.specs.declared.contest.Opening.{Opening}
-use Rattle.contest.specs.declared.contest.Opening.TheVariants.{NoStore, OneStore}
-use Rattle.contest.specs.declared.contest.Answer.{Answer}
-use Rattle.contest.specs.declared.contest.Answer.TheVariants.{Refused, No, Yes}
-use Rattle.contest.specs.Contest.{Position, position_of, is_finished, forces, begins, opening_of}
+use Rattle.contest.specs.Told.{Answer, told}
+use Rattle.contest.specs.Told.Answer.{Refused, No, Yes}
+use Rattle.contest.specs.Contest.{Position, position_of, is_finished, forces, begins, Opening, opening_of}
 use Rattle.contest.specs.Bound.{needed_stores}
 use Rattle.contest.specs.Answer.{is_above_limit, solve, is_yes}
 use Rattle.contest.specs.Refused.{SolveRefused, ContestRefused}
 use Rattle.contest.proofs.RefusedQuestions.{solve_refused, contest_refused}
 use Rattle.contest.proofs.ContestLaws.{fails_and_holds, forces_none, forces_some, begun_forces, else_skip_first}
-use Rattle.contest.proofs.contest.solve.Reads as answer-reads
-use Rattle.contest.proofs.contest.solve.Met as answer-met
-use Rattle.contest.proofs.contest.solve.Statement as answer-statement
+use Rattle.contest.proofs.contest.Question.solve.Reads as answer-reads
+use Rattle.contest.proofs.contest.Question.solve.Met as answer-met
+use Rattle.contest.proofs.contest.Question.solve.Statement as answer-statement
 use Rattle.contest.proofs.interface.ctc_contest.Reads as contest-reads
 use Rattle.contest.proofs.interface.ctc_contest.Met as contest-met
 use Rattle.contest.proofs.interface.ctc_contest.Statement as contest-statement
@@ -64,9 +67,6 @@ forces_from_an_improper_gap n w f =
     (λ some. rw some (forces_some n Improper w f (eqb-false w 0 some)))
 
 -- different answers are different
-no_store_is_no_store : {store : Move} → NoStore ≡ OneStore store → ⊥
-no_store_is_no_store e = let z : ◌≡◌ {A = ℕ} 0 1 = cc in omega arith
-
 no_is_no_yes : {first : Opening} → No ≡ Yes first → ⊥
 no_is_no_yes e = let z : ◌≡◌ {A = ℕ} 0 1 = cc in omega arith
 
@@ -74,11 +74,11 @@ refused_is_no_yes : {refusal : ℕ} {first : Opening} → Refused refusal ≡ Ye
 refused_is_no_yes e = let z : ◌≡◌ {A = ℕ} 0 1 = cc in omega arith
 
 -- the first store that is given wins
-pub first_store_wins : (n : ℕ) (p : Position) (store : Move) → opening_of n p ≡ OneStore store → begins n store p ≡ true
+pub first_store_wins : (n : ℕ) (p : Position) (store : Move) → opening_of n p ≡ Some store → begins n store p ≡ true
 unfolding opening_of pick
 first_store_wins n p store given =
     by_test (is_finished p || not (forces n p))
-    (λ none. absurd (no_store_is_no_store (simp none at given)))
+    (λ none. absurd (none-some _ (simp none at given)))
     (λ some.
     let wins = fails_and_holds _ _ some in
     by_test (begins n Write p)
@@ -88,14 +88,21 @@ first_store_wins n p store given =
 
 -- a write is given wherever one wins
 pub write_wherever_it_wins : (n : ℕ) (p : Position) → is_finished p ≡ false → begins n Write p ≡ true
-    → opening_of n p ≡ OneStore Write
+    → opening_of n p ≡ Some Write
 unfolding opening_of pick
 write_wherever_it_wins n p some write = simp (some, begun_forces n Write p write, write)
 
 -- ---- the answers that the contract allows
 
-module _ (κs : Lfts 0) (gap : Gap) (w n f : ℕ) (r : Answer)
-    (allowed : answer-reads.Post κs (gap, (w, (n, (f, tt)))) r (gap, (w, (n, (f, tt))))) where
+abbrev question : Gap → ℕ → ℕ → ℕ → Question
+question gap w n f = record { gap = gap; writes = w; stores = n; spoilings = f }
+
+module _ (κs : Lfts 0) (gap : Gap) (w n f : ℕ) (answer : Result Verdict Refusal)
+    (allowed : answer-reads.Post κs (question gap w n f, tt) answer (question gap w n f, tt)) where
+  -- the answer, with its number where it is refused
+  abbrev r : Answer
+  r = told answer
+
   -- "20 a number above its limit", and no other refusal
   pub questions_are_refused_above_their_limits : SolveRefused w n f r
   questions_are_refused_above_their_limits = subst (SolveRefused w n f) (sym allowed) (solve_refused gap w n f)
@@ -116,7 +123,7 @@ module _ (κs : Lfts 0) (gap : Gap) (w n f : ℕ) (r : Answer)
   yes_from_an_improper_gap within improper = answer_is_yes within ∙ rw improper (forces_from_an_improper_gap n w f)
 
   -- the first store given wins
-  pub first_store_given_wins : (store : Move) → r ≡ Yes (OneStore store) → begins n store (position_of gap w f) ≡ true
+  pub first_store_given_wins : (store : Move) → r ≡ Yes (Some store) → begins n store (position_of gap w f) ≡ true
   unfolding solve pick
   first_store_given_wins store given =
       let says = sym allowed ∙ given in
@@ -129,14 +136,14 @@ module _ (κs : Lfts 0) (gap : Gap) (w n f : ℕ) (r : Answer)
 
   -- a write is given wherever one wins
   pub write_given_wherever_it_wins : is_above_limit w n f ≡ false → (w ≡ 0 → ⊥)
-      → begins n Write (position_of gap w f) ≡ true → r ≡ Yes (OneStore Write)
+      → begins n Write (position_of gap w f) ≡ true → r ≡ Yes (Some Write)
   unfolding solve is_finished pick
   write_given_wherever_it_wins within some write =
       allowed ∙ simp
       (within, begun_forces n Write _ write, write_wherever_it_wins n (position_of gap w f) (ne_eqb w 0 some) write)
 
   -- and every yes has a first store, but where w is 0
-  pub store_given_with_a_yes : (w ≡ 0 → ⊥) → r ≡ Yes NoStore → ⊥
+  pub store_given_with_a_yes : (w ≡ 0 → ⊥) → r ≡ Yes None → ⊥
   unfolding solve opening_of is_finished pick
   store_given_with_a_yes some given =
       let says = sym allowed ∙ given in
@@ -146,8 +153,8 @@ module _ (κs : Lfts 0) (gap : Gap) (w n f : ℕ) (r : Answer)
       by_test (forces n (position_of gap w f))
       (λ yes.
       by_test (begins n Write (position_of gap w f))
-      (λ write. no_store_is_no_store {store = Write} (sym (cc (simp (within, yes, ne_eqb w 0 some, write) at says))))
-      (λ none. no_store_is_no_store {store = SkipReverse}
+      (λ write. none-some Write (sym (cc (simp (within, yes, ne_eqb w 0 some, write) at says))))
+      (λ none. none-some SkipReverse
       (sym (cc (simp (within, yes, ne_eqb w 0 some, none) at says)))))
       (λ no. no_is_no_yes (simp (within, no) at says)))
 

@@ -5,6 +5,7 @@ use Prim.Native.Nat.{ℕ}
 use native.Mathlib.Omega.{arith}
 use mathlib.Core.Bool.{true, false}
 use lib.Dec.{ltb, eqb}
+use Rattle.std.proofs.Common.{None, Some}
 use Rattle.common.specs.Pick.{pick}
 use Rattle.common.specs.FirstOf.{FirstOf}
 use Rattle.common.proofs.PickLaws.{by_test}
@@ -12,9 +13,7 @@ use Rattle.common.proofs.FirstOfLaws.{by_below}
 use Rattle.contest.specs.declared.contest.Gap.{Gap}
 use Rattle.contest.specs.declared.contest.Gap.TheVariants.{Proper, Improper}
 use Rattle.contest.specs.declared.contest.Move.TheVariants.{Write, SkipReverse}
-use Rattle.contest.specs.declared.contest.Opening.{Opening}
-use Rattle.contest.specs.declared.contest.Opening.TheVariants.{NoStore, OneStore}
-use Rattle.contest.specs.Contest.{position_of, forces, opening_of}
+use Rattle.contest.specs.Contest.{position_of, forces, Opening, opening_of}
 use Rattle.contest.specs.Answer.{is_above_limit, solve}
 use Rattle.contest.specs.Interface.{move_number, first_number, answer_number, contest}
 use Rattle.contest.specs.Refused.{above_limits, refusal_of, SolveRefused, ContestRefused}
@@ -50,9 +49,9 @@ solve_refused gap w n f =
 -- the numbers of a yes are 1 to 3
 first_told : (first : Opening) → pick (ltb 3 (first_number first)) (first_number first) 0 ≡ 0
 unfolding first_number move_number pick
-first_told NoStore = refl
-first_told (OneStore Write) = refl
-first_told (OneStore SkipReverse) = refl
+first_told None = refl
+first_told (Some Write) = refl
+first_told (Some SkipReverse) = refl
 
 pub contest_refused : (gap w n f : ℕ) → ContestRefused gap w n f (contest gap w n f)
 unfolding FirstOf contest solve answer_number pick

@@ -7,23 +7,33 @@ use native.Mathlib.Omega.{arith}
 use mathlib.Core.Bool.{true, false, false≢true}
 use contract.Lifetimes.{Lfts}
 use borrow.Author.Tests.{lt-ltb}
+use Rattle.std.proofs.Common.{Result}
+use Rattle.common.specs.declared.refusals.Refusal.{Refusal}
+use Rattle.contest.specs.declared.contest.Verdict.{Verdict}
+use Rattle.contest.specs.declared.contest.Question.{Question}
 use Rattle.common.specs.Pick.{pick}
 use Rattle.common.proofs.PickLaws.{by_test, pick_yes}
 use Rattle.contest.specs.declared.contest.Gap.{Gap}
 use Rattle.contest.specs.declared.contest.Gap.TheVariants.{Proper, Improper}
-use Rattle.contest.specs.declared.contest.Answer.{Answer}
+use Rattle.contest.specs.Told.{Answer, told}
 use Rattle.contest.specs.Contest.{position_of, is_finished, may_write, may_spoil, after_good, after_spoiled, after_skip}
 use Rattle.contest.specs.Contest.{store_wins, forces, opening_of}
 use Rattle.contest.specs.Answer.{is_above_limit, solve, is_yes}
 use Rattle.contest.specs.Interface.{move_number, first_number, answer_number, contest}
 use Rattle.contest.proofs.ContestLaws.{no_write_first}
-use Rattle.contest.proofs.contest.solve.Reads as answer-reads
+use Rattle.contest.proofs.contest.Question.solve.Reads as answer-reads
 use Rattle.contest.proofs.interface.ctc_contest.Reads as contest-reads
 
 -- ---- answer_of
 
-module _ (κs : Lfts 0) (gap : Gap) (w n f : ℕ) (r : Answer)
-    (allowed : answer-reads.Post κs (gap, (w, (n, (f, tt)))) r (gap, (w, (n, (f, tt))))) where
+abbrev question : Gap → ℕ → ℕ → ℕ → Question
+question gap w n f = record { gap = gap; writes = w; stores = n; spoilings = f }
+
+module _ (κs : Lfts 0) (gap : Gap) (w n f : ℕ) (answer : Result Verdict Refusal)
+    (allowed : answer-reads.Post κs (question gap w n f, tt) answer (question gap w n f, tt)) where
+  abbrev r : Answer
+  r = told answer
+
   -- yes to two writes with one store
   pub answer_yes_with_fewer_stores_than_writes : gap ≡ Proper → w ≡ 2 → n ≡ 1 → f ≡ 0 → is_yes r ≡ true → ⊥
   unfolding solve is_above_limit forces store_wins may_write may_spoil after_good after_spoiled after_skip is_finished

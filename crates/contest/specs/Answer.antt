@@ -4,8 +4,8 @@ use Rattle.std.specs.Prelude.{ℕ, Bool, true, false, ◌||◌, ltb}
 use Rattle.common.specs.Pick.{pick}
 use Rattle.common.specs.Refusals.{above_limit}
 use Rattle.contest.specs.declared.contest.Gap.{Gap}
-use Rattle.contest.specs.declared.contest.Answer.{Answer}
-use Rattle.contest.specs.declared.contest.Answer.TheVariants.{Refused, No, Yes}
+use Rattle.contest.specs.Told.{Answer}
+use Rattle.contest.specs.Told.Answer.{Refused, No, Yes}
 use Rattle.contest.specs.Contest.{position_of, forces, opening_of}
 
 -- "w and f go to 8"

@@ -2,14 +2,12 @@
 -- that I give as proper or improper." Where it stands, what the driver may do, what the tape may answer, and what the
 -- driver can force.
 -- Assumes nothing.
-use Rattle.std.specs.Prelude.{ℕ, zero, suc, ◌-◌, Bool, true, false, not, ◌&&◌, ◌||◌, ltb, eqb}
+use Rattle.std.specs.Prelude.{ℕ, zero, suc, ◌-◌, Bool, true, false, not, ◌&&◌, ◌||◌, ltb, eqb, Option, None, Some}
 use Rattle.common.specs.Pick.{pick}
 use Rattle.contest.specs.declared.contest.Gap.{Gap}
 use Rattle.contest.specs.declared.contest.Gap.TheVariants.{Proper, Improper}
 use Rattle.contest.specs.declared.contest.Move.{Move}
 use Rattle.contest.specs.declared.contest.Move.TheVariants.{Write, SkipReverse}
-use Rattle.contest.specs.declared.contest.Opening.{Opening}
-use Rattle.contest.specs.declared.contest.Opening.TheVariants.{NoStore, OneStore}
 
 -- "The driver must finish w good writes with n stores; the tape may spoil at most f writes": the gap, the good writes
 -- that are left to finish, and the writes that the tape may still spoil. The stores that are left are what `forces`
@@ -65,6 +63,10 @@ forces (suc n) p = is_finished p || (store_wins (forces n) Write p || store_wins
 
 -- ---- "the first store of a winning play"
 
+-- it, or none
+abbrev pub Opening : Type 0
+Opening = Option Move
+
 -- whether a store can be the first of one
 unfoldable pub begins : ℕ → Move → Position → Bool
 begins zero store p = false
@@ -73,4 +75,4 @@ begins (suc n) store p = store_wins (forces n) store p
 -- "none where w is 0 or the answer is no, and a write where both stores win"
 unfoldable pub opening_of : ℕ → Position → Opening
 opening_of n p =
-    pick (is_finished p || not (forces n p)) NoStore (pick (begins n Write p) (OneStore Write) (OneStore SkipReverse))
+    pick (is_finished p || not (forces n p)) None (pick (begins n Write p) (Some Write) (Some SkipReverse))

@@ -1,16 +1,15 @@
 -- The function for C: numbers in, and the answer as one number (document 02, request 12; the numbers are this header's
 -- own).
 -- Assumes nothing.
-use Rattle.std.specs.Prelude.{ℕ, ltb, eqb}
+use Rattle.std.specs.Prelude.{ℕ, ltb, eqb, None, Some}
 use Rattle.common.specs.Pick.{pick}
 use Rattle.common.specs.Refusals.{above_limit}
 use Rattle.contest.specs.declared.contest.Gap.TheVariants.{Proper, Improper}
 use Rattle.contest.specs.declared.contest.Move.{Move}
 use Rattle.contest.specs.declared.contest.Move.TheVariants.{Write, SkipReverse}
-use Rattle.contest.specs.declared.contest.Opening.{Opening}
-use Rattle.contest.specs.declared.contest.Opening.TheVariants.{NoStore, OneStore}
-use Rattle.contest.specs.declared.contest.Answer.{Answer}
-use Rattle.contest.specs.declared.contest.Answer.TheVariants.{Refused, No, Yes}
+use Rattle.contest.specs.Contest.{Opening}
+use Rattle.contest.specs.Told.{Answer}
+use Rattle.contest.specs.Told.Answer.{Refused, No, Yes}
 use Rattle.contest.specs.Answer.{solve}
 
 -- "a gap that I give as proper or improper": 0 and 1, as document 01 numbers gaps, so that 1 is the limit of this
@@ -25,8 +24,8 @@ move_number SkipReverse = 3
 
 -- yes: 1 where there is no first store
 unfoldable pub first_number : Opening → ℕ
-first_number NoStore = 1
-first_number (OneStore store) = move_number store
+first_number None = 1
+first_number (Some store) = move_number store
 
 -- the refusal; else 0 no
 unfoldable pub answer_number : Answer → ℕ

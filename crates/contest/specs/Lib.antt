@@ -1,4 +1,5 @@
 pub mod Contest
+pub mod Told
 pub mod Bound
 pub mod Answer
 pub mod Interface

@@ -3,8 +3,8 @@
 use Rattle.std.specs.Prelude.{◌≡◌, ℕ, ◌<◌, List, [], ◌∷◌, ltb}
 use Rattle.common.specs.Pick.{pick}
 use Rattle.common.specs.FirstOf.{FirstOf}
-use Rattle.contest.specs.declared.contest.Answer.{Answer}
-use Rattle.contest.specs.declared.contest.Answer.TheVariants.{Refused, No, Yes}
+use Rattle.contest.specs.Told.{Answer}
+use Rattle.contest.specs.Told.Answer.{Refused, No, Yes}
 
 -- "w and f go to 8, n to 32. Refused: 20 a number above its limit."
 abbrev pub above_limits : ℕ → ℕ → ℕ → List (ℕ × Type 0)

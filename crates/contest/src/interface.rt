@@ -1,69 +1,53 @@
-// The function for C: numbers in, and the answer as one number.
+//! The function for C: numbers in, and the answer as one number.
 ghost use Rattle.std.specs.Prelude.{◌≡◌};
-ghost use Rattle.contest.specs.Interface.{move_number, first_number, answer_number, contest};
+ghost use Rattle.contest.specs.Interface.{answer_number, contest};
+ghost use Rattle.contest.specs.Told.{told, told_verdict};
 
-use crate::contest::{Answer, Gap, Move, Opening, solve};
-use common::refusals::ABOVE_LIMIT;
+use crate::contest::{Gap, Move, Question, Verdict};
+use common::refusals::Refusal;
 
-// A gap as a number, as in a drive's record.
-const GAP_PROPER: u32 = 0;
+// The number of an answer that is not refused.
+impl From<Verdict> for u32 {
+    ghost from_gives = { λ verdict number. number ≡ answer_number (told_verdict verdict) };
 
-const GAP_IMPROPER: u32 = 1;
-
-// The answers as numbers, below the refusal's.
-const NO: u32 = 0;
-
-const YES: u32 = 1;
-
-const YES_WRITE: u32 = 2;
-
-const YES_SKIP_REVERSE: u32 = 3;
-
-// The number of a first store.
-#[tactic(auto, unfolding(crate::specs::Interface::move_number))]
-fn move_number(store: Move) -> u32
-    ensures { result ≡ move_number store }
-{
-    match store {
-        Move::Write => YES_WRITE,
-        Move::SkipReverse => YES_SKIP_REVERSE,
+    #[tactic(auto, unfolding(crate::specs::Interface::answer_number, crate::specs::Interface::first_number, crate::specs::Interface::move_number))]
+    fn from(verdict: Verdict) -> u32 {
+        match verdict {
+            Verdict::No => 0,
+            Verdict::Yes(None) => 1,
+            Verdict::Yes(Some(Move::Write)) => 2,
+            Verdict::Yes(Some(Move::SkipReverse)) => 3,
+        }
     }
 }
 
-// The number of a yes.
-#[tactic(auto, unfolding(crate::specs::Interface::first_number))]
-fn first_number(first: Opening) -> u32
-    ensures { result ≡ first_number first }
-{
-    match first {
-        Opening::NoStore => YES,
-        Opening::OneStore(store) => move_number(store),
-    }
-}
-
-// The number of an answer.
+// The number of an answer: the refusals' lie above.
 #[tactic(auto, unfolding(crate::specs::Interface::answer_number))]
-fn answer_number(answer: Answer) -> u32
-    ensures { result ≡ answer_number answer }
+fn answer_number(answer: Result<Verdict, Refusal>) -> u32
+    ensures { result ≡ answer_number (told answer) }
 {
     match answer {
-        Answer::Refused(refusal) => refusal,
-        Answer::No => NO,
-        Answer::Yes(first) => first_number(first),
+        Ok(verdict) => u32::from(verdict),
+        Err(refusal) => u32::from(refusal),
     }
 }
 
-// Driver against tape. A gap above its limit is refused as the other numbers are.
+/// Driver against tape. A gap above its limit is refused as the other numbers are.
 #[unsafe(no_mangle)]
 #[tactic(auto, unfolding(crate::specs::Interface::contest, common::specs::Pick::pick))]
 pub extern "C" fn ctc_contest(gap: u32, writes: u32, stores: u32, spoilings: u32) -> u32
     ensures { result ≡ contest gap writes stores spoilings }
 {
-    if GAP_IMPROPER < gap {
-        return ABOVE_LIMIT;
-    }
-    if gap == GAP_PROPER {
-        return answer_number(solve(Gap::Proper, writes, stores, spoilings));
-    }
-    answer_number(solve(Gap::Improper, writes, stores, spoilings))
+    let gap = match gap {
+        0 => Gap::Proper,
+        1 => Gap::Improper,
+        _ => return u32::from(Refusal::AboveLimit),
+    };
+    let question = Question {
+        gap,
+        writes,
+        stores,
+        spoilings,
+    };
+    answer_number(question.solve())
 }

@@ -1,4 +1,4 @@
-// Driver against tape: whether a driver can force a number of good writes with a number of stores, and how it begins.
+//! Driver against tape: whether a driver can force a number of good writes with a number of stores, and how it begins.
 #![tactic(auto)]
 
 pub mod contest;

@@ -1,120 +1,61 @@
-// What is printed for a line. The functions are of the kind of `text::print`.
-ghost use Rattle.std.specs.Prelude.{◌≡◌, ◌≤◌, length, take};
+//! What is put for a line behind the text that is there. The functions are of the kind of those of `text::space`.
+ghost use Rattle.std.specs.Prelude.{◌≡◌, ◌≤◌, ◌+◌, ◌++◌, length};
+ghost use Rattle.contest.specs.Told.{told};
 ghost use Rattle.contestlines.specs.Limits.{contest_most, contest_unreadable_length};
-ghost use Rattle.contestlines.specs.Print.{refusal_of, verdict_sign, move_sign, store_sign, opening_sign};
-ghost use Rattle.contestlines.specs.Print.{contest_text, contest_unreadable_text, question_text, contest_line_text};
+ghost use Rattle.contestlines.specs.Print.{verdict_sign, opening_sign};
+ghost use Rattle.contestlines.specs.Print.{contest_text, contest_unreadable_text, contest_line_text};
 
-use crate::line::{Question, read_question};
-use common::overwrite;
-use common::refusals::DONE;
-use contest::contest::{Answer, Move, Opening, solve};
-use text::print::{put, put_refusal};
+use crate::line::read_question;
+use common::refusals::{Refusal, refusal_number};
+use contest::contest::{Move, Verdict};
+use text::space::Text;
 
-// The refusal of an answer.
-#[tactic(auto, unfolding(crate::specs::Print::refusal_of))]
-fn refusal_of(answer: Answer) -> u32
-    ensures { result ≡ refusal_of answer }
+// Whether an answer is yes or no, and the first store, or none.
+#[tactic(auto, unfolding(crate::specs::Print::verdict_sign, crate::specs::Print::opening_sign, crate::specs::Print::store_sign, crate::specs::Print::move_sign))]
+fn signs(answer: Result<Verdict, Refusal>) -> (u8, u8)
+    ensures verdict { result.0 ≡ verdict_sign (told answer) }
+    ensures opening { result.1 ≡ opening_sign (told answer) }
 {
     match answer {
-        Answer::Refused(refusal) => refusal,
-        Answer::No => DONE,
-        Answer::Yes(_) => DONE,
-    }
-}
-
-// Whether it is yes or no.
-#[tactic(auto, unfolding(crate::specs::Print::verdict_sign))]
-fn verdict_sign(answer: Answer) -> u8
-    ensures { result ≡ verdict_sign answer }
-{
-    match answer {
-        Answer::Refused(_) => b'-',
-        Answer::No => b'N',
-        Answer::Yes(_) => b'Y',
-    }
-}
-
-// A store.
-#[tactic(auto, unfolding(crate::specs::Print::move_sign))]
-fn move_sign(store: Move) -> u8
-    ensures { result ≡ move_sign store }
-{
-    match store {
-        Move::Write => b'W',
-        Move::SkipReverse => b'S',
-    }
-}
-
-// A store, or none.
-#[tactic(auto, unfolding(crate::specs::Print::store_sign))]
-fn store_sign(first: Opening) -> u8
-    ensures { result ≡ store_sign first }
-{
-    match first {
-        Opening::NoStore => b'-',
-        Opening::OneStore(store) => move_sign(store),
-    }
-}
-
-// The first store of an answer.
-#[tactic(auto, unfolding(crate::specs::Print::opening_sign))]
-fn opening_sign(answer: Answer) -> u8
-    ensures { result ≡ opening_sign answer }
-{
-    match answer {
-        Answer::Refused(_) => b'-',
-        Answer::No => b'-',
-        Answer::Yes(first) => store_sign(first),
+        Err(_) => (b'-', b'-'),
+        Ok(Verdict::No) => (b'N', b'-'),
+        Ok(Verdict::Yes(None)) => (b'Y', b'-'),
+        Ok(Verdict::Yes(Some(Move::Write))) => (b'Y', b'W'),
+        Ok(Verdict::Yes(Some(Move::SkipReverse))) => (b'Y', b'S'),
     }
 }
 
 // An answer.
-#[tactic(auto, unfolding(crate::specs::Print::contest_text))]
-fn print_contest(answer: Answer, out: &mut [u8]) -> usize
-    requires { contest_most ≤ length out.old }
-    ensures ends { result ≤ contest_most }
-    ensures text { take result out.new ≡ contest_text answer }
+#[tactic(auto, unfolding(crate::specs::Print::contest_text, crate::specs::Print::refusal_of))]
+fn put_contest<const N: usize>(answer: Result<Verdict, Refusal>, out: &mut Text<N>)
+    requires { length out.old + contest_most ≤ N }
+    ensures fits { length out.new ≤ length out.old + contest_most }
+    ensures text { out.new ≡ out.old ++ contest_text (told answer) }
 {
-    let number = put_refusal(refusal_of(answer), out, 0);
-    let comma = put(b',', out, number);
-    let verdict = put(verdict_sign(answer), out, comma);
-    let second = put(b',', out, verdict);
-    let first = put(opening_sign(answer), out, second);
-    put(b'\n', out, first)
+    let (verdict, opening) = signs(answer);
+    out.put_refusal(refusal_number(&answer));
+    out.put_all(&[b',', verdict, b',', opening, b'\n']);
 }
 
-// The answer to an unreadable line.
-pub fn print_contest_unreadable(out: &mut [u8]) -> usize
-    requires { contest_most ≤ length out.old }
-    ensures ends { result ≡ contest_unreadable_length }
-    ensures text { take result out.new ≡ contest_unreadable_text }
+/// The answer to an unreadable line.
+#[tactic(auto, unfolding(crate::specs::Print::contest_unreadable_text))]
+pub fn put_contest_unreadable<const N: usize>(out: &mut Text<N>)
+    requires { length out.old + contest_most ≤ N }
+    ensures fits { length out.new ≡ length out.old + contest_unreadable_length }
+    ensures text { out.new ≡ out.old ++ contest_unreadable_text }
 {
-    let text = [b'?', b',', b'-', b',', b'-', b'\n'];
-    overwrite(&text, out);
-    text.len()
+    out.put_all(b"?,-,-\n");
 }
 
-// The answer to a question.
-#[tactic(auto, unfolding(crate::specs::Print::question_text))]
-fn print_question(question: Question, out: &mut [u8]) -> usize
-    requires { contest_most ≤ length out.old }
-    ensures ends { result ≤ contest_most }
-    ensures text { take result out.new ≡ question_text question }
+/// The answer to a line, without its #0A.
+#[tactic(auto, unfolding(crate::specs::Print::contest_line_text, crate::specs::Print::question_text))]
+pub fn put_contest_line<const N: usize>(line: &[u8], out: &mut Text<N>)
+    requires { length out.old + contest_most ≤ N }
+    ensures fits { length out.new ≤ length out.old + contest_most }
+    ensures text { out.new ≡ out.old ++ contest_line_text line.now }
 {
-    match question {
-        Question::Unreadable => print_contest_unreadable(out),
-        Question::Asked(gap, writes, stores, spoilings) => {
-            print_contest(solve(gap, writes, stores, spoilings), out)
-        }
+    match read_question(line) {
+        None => put_contest_unreadable(out),
+        Some(question) => put_contest(question.solve(), out),
     }
-}
-
-// A line, without its #0A.
-#[tactic(auto, unfolding(crate::specs::Print::contest_line_text))]
-pub fn print_contest_line(line: &[u8], out: &mut [u8]) -> usize
-    requires { contest_most ≤ length out.old }
-    ensures ends { result ≤ contest_most }
-    ensures text { take result out.new ≡ contest_line_text line.now }
-{
-    print_question(read_question(line), out)
 }

@@ -20,7 +20,7 @@ use Rattle.link.specs.declared.state.Phase.{Phase}
 use Rattle.link.specs.declared.state.Phase.TheVariants.{Collecting, AckOffered, Sending, GoOffered, DataAwaited}
 use Rattle.link.specs.declared.state.Phase.TheVariants.{ResultAwaited, EndOffered}
 use Rattle.link.specs.declared.state.Body.{Body}
-use Rattle.link.specs.declared.state.Transition.{Transition}
+use Rattle.link.specs.State.{Transition}
 use Rattle.link.specs.State.{with_outcome, review, start_body, idle}
 use Rattle.link.specs.Completion.{send_word, send_interrupt, complete}
 use Rattle.link.specs.Link.{yes_to_send, answer_to_send}

@@ -35,7 +35,7 @@ use Rattle.link.specs.Frames.{string_of, order_of}
 use Rattle.link.specs.declared.state.Body.{Body}
 use Rattle.controller.specs.declared.controller.Controller.{Controller}
 use Rattle.link.specs.declared.state.Action.TheVariants.{Nothing, Byte, Order}
-use Rattle.link.specs.declared.state.Handed.TheVariants.{NoneHanded}
+use Rattle.std.specs.Prelude.{None}
 use Rattle.link.specs.State.{store_of, start_body, reset_state, review, idle}
 use Rattle.link.specs.Completion.{primary_now, send_word, send_interrupt, complete}
 use Rattle.operations.specs.Store.{asks_interrupt, names_drive, named_drive, names_unknown, selected_by, asked_for}
@@ -73,7 +73,7 @@ abbrev played : List Call → Answer
 played calls =
     after fresh calls
     (record {
-      reply = record { controller = fresh; action = Nothing; refusal = 0; handed = NoneHanded };
+      reply = record { controller = fresh; action = Nothing; refusal = 0; handed = None };
       bytes = 0;
       space = [];
       check = [];

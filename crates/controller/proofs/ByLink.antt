@@ -14,13 +14,13 @@ use Rattle.link.specs.declared.state.Collected.{Collected}
 use Rattle.link.specs.declared.state.Phase.{Phase}
 use Rattle.link.specs.declared.state.Phase.TheVariants.{Collecting, AckOffered}
 use Rattle.link.specs.declared.state.Body.{Body}
-use Rattle.link.specs.declared.state.Transition.{Transition}
+use Rattle.link.specs.State.{Transition}
 use Rattle.link.specs.State.{store_of, offered, keep_collecting}
 use Rattle.link.specs.Link.{whole_length, append_byte, load_xor, is_good_string, first_byte, last_byte, next_byte}
 use Rattle.link.specs.Link.{collect_byte}
 use Rattle.link.specs.Damaged.{sound_body, sound_lead, sound_part, sound_string, sound_phase, is_sound}
 use Rattle.controller.specs.declared.controller.Controller.{Controller}
-use Rattle.controller.specs.declared.controller.Reply.{Reply}
+use Rattle.controller.specs.Told.{Reply}
 use Rattle.controller.specs.Controller.{is_idle, carried}
 use Rattle.controller.specs.Stores.{carry_out}
 use Rattle.controller.specs.Records.{Answer}

@@ -20,7 +20,7 @@ use Rattle.operations.specs.Operation.{order_byte}
 use Rattle.operations.specs.Store.{asked_for, held_count}
 use Rattle.link.specs.declared.state.Body.{Body}
 use Rattle.link.specs.State.{current_drive}
-use Rattle.transfers.specs.declared.verdict.Verdict.{Verdict}
+use Rattle.transfers.specs.Results.{Verdict}
 use Rattle.transfers.specs.Data.{Host, write_image, check_bytes}
 use Rattle.transfers.specs.Results.{Result, delivered_bytes, bytes_read, result_check}
 use Rattle.controller.specs.Records.{data_done, result_done}

@@ -21,7 +21,7 @@ use Rattle.status.specs.Words.{no_outcome}
 use Rattle.link.specs.declared.state.Body.{Body}
 use Rattle.link.specs.declared.state.Phase.{Phase}
 use Rattle.link.specs.declared.state.Phase.TheVariants.{DataAwaited}
-use Rattle.link.specs.declared.state.Transition.{Transition}
+use Rattle.link.specs.State.{Transition}
 use Rattle.link.specs.State.{store_of, reset_state, start_body, current_drive, with_current_drive, with_flags}
 use Rattle.link.specs.State.{note_report}
 use Rattle.link.specs.State.{when_in_hand}

@@ -19,8 +19,8 @@ use Rattle.link.specs.declared.state.Phase.TheVariants.{Collecting, AckOffered, 
 use Rattle.link.specs.declared.state.Body.{Body}
 use Rattle.link.specs.declared.state.Action.{Action}
 use Rattle.link.specs.declared.state.Action.TheVariants.{Nothing, Byte, Text, Order}
-use Rattle.link.specs.declared.state.Handed.{Handed}
-use Rattle.link.specs.declared.state.Handed.TheVariants.{NoneHanded, OneHanded}
+use Rattle.link.specs.State.{Handed}
+use Rattle.std.specs.Prelude.{None, Some}
 use Rattle.link.specs.State.{store_of, current_drive, reset_state}
 use Rattle.transfers.specs.Results.{Result, settle_result}
 use Rattle.controller.specs.declared.controller.Controller.{Controller}
@@ -69,13 +69,13 @@ MovesBy c x =
 
 taken_moves : (l : Ledger) (drive : Drive) (h : Handed) → MovedBy l drive taken h
 unfolding MovedBy
-taken_moves l drive NoneHanded = tt
-taken_moves l drive (OneHanded final) = tt
+taken_moves l drive None = tt
+taken_moves l drive (Some final) = tt
 
 hand_moves : (l : Ledger) (drive : Drive) (store : Store) (h : Handed) → MovedBy l drive (hand store) h
 unfolding MovedBy
-hand_moves l drive store NoneHanded = tt
-hand_moves l drive store (OneHanded final) = tt
+hand_moves l drive store None = tt
+hand_moves l drive store (Some final) = tt
 
 stores_case : OfStores MovesBy
 stores_case b s lead l kept =
@@ -109,7 +109,7 @@ writes_case b held host space check =
 
 -- the gap of the drive that moved
 left_gap : (l : Ledger) (final : ResultRecord) (now : Drive) (selected : ℕ) → selected ≡ l.selected
-    → now.gap ≡ ((ledger_ended l (OneHanded final)).tape selected).gap
+    → now.gap ≡ ((ledger_ended l (Some final)).tape selected).gap
     → now.gap ≡ gap_left (operation_of l.store) l.store.first l.store.fourth final.code
     (l.tape l.selected).gap
 unfolding ledger_ended entered
@@ -151,7 +151,7 @@ module _ (b : Body) (operation : Operation) (held : Store) (r : Result) (space c
       (λ one.
       let drive = drive_of t.body.drives l.selected in
       let low : l.selected ≤ 3 = subst (λ (n : ℕ). n ≤ 3) one.kept.agrees.selected one.kept.agrees.low in
-      gap_moves (ledger_ended l (OneHanded final)) final drive (l.tape l.selected).gap
+      gap_moves (ledger_ended l (Some final)) final drive (l.tape l.selected).gap
       (left_gap l final drive l.selected refl
       (ap (λ (x : Drive). x.gap) (one.kept.agrees.drive l.selected low))))
       kept

@@ -18,8 +18,8 @@ use Rattle.operations.specs.declared.operation.Operation.TheVariants.{SuppliedCo
 use Rattle.records.specs.Count.{unrotated, count_of}
 use Rattle.status.specs.Words.{secondary_word}
 use Rattle.link.specs.Frames.{string_of}
-use Rattle.link.specs.declared.state.Handed.{Handed}
-use Rattle.link.specs.declared.state.Handed.TheVariants.{NoneHanded, OneHanded}
+use Rattle.link.specs.State.{Handed}
+use Rattle.std.specs.Prelude.{None, Some}
 use Rattle.operations.specs.declared.decode.Decoded.{Decoded}
 use Rattle.operations.specs.declared.decode.Decoded.TheVariants.{Reset, Code, Track, Enable, Guard, Density, Operate}
 use Rattle.operations.specs.declared.store.Store.{Store}
@@ -33,10 +33,10 @@ use Rattle.link.specs.declared.state.Phase.TheVariants.{DataAwaited, ResultAwait
 use Rattle.link.specs.declared.state.Body.{Body}
 use Rattle.link.specs.declared.state.Action.{Action}
 use Rattle.link.specs.declared.state.Action.TheVariants.{Nothing, Byte, Text, Order}
-use Rattle.link.specs.declared.state.Transition.{Transition}
+use Rattle.link.specs.State.{Transition}
 use Rattle.link.specs.State.{when_in_hand, store_of, offered, start_body, with_flags, with_current_drive, current_drive}
 use Rattle.link.specs.State.{reset_state}
-use Rattle.transfers.specs.declared.verdict.Verdict.{Verdict}
+use Rattle.transfers.specs.Results.{Verdict}
 use Rattle.transfers.specs.Data.{Host, data_words, settle_data}
 use Rattle.transfers.specs.Results.{Result, result_refusal, is_gone, findings_read, code_reported, record_count}
 use Rattle.transfers.specs.Results.{used_count}
@@ -129,7 +129,7 @@ refusals_case : OfRefusals Keeps
 unfolding ledger_after not_refused own_record SentUpToDate
 refusals_case c call number space check some at_space at_check l own drives before =
     subst₂ (λ (store : Store) (later : OwnRecord). Goes store later (turn_of (refused number c)))
-    (ap (λ (x : Ledger). x.store) (sym (pick_no (ledger_call l c NoneHanded call) l some)))
+    (ap (λ (x : Ledger). x.store) (sym (pick_no (ledger_call l c None call) l some)))
     (sym (pick_no (record_after l own c call) own some))
     (record { kept = record { hand = before.hand; valid = before.valid; holds = before.holds }; says = tt })
 
@@ -353,8 +353,8 @@ module _ (drive : Drive) (operation : Operation) (last store : Store) (r : Resul
 -- a result leaves the last store
 ended_store : (l : Ledger) (h : Handed) → (ledger_ended l h).store ≡ l.store
 unfolding ledger_ended
-ended_store l NoneHanded = refl
-ended_store l (OneHanded final) = refl
+ended_store l None = refl
+ended_store l (Some final) = refl
 
 ended :
     (b : Body) (operation : Operation) (held : Store) (r : Result) (space check : List ℕ)

@@ -24,15 +24,15 @@ use Rattle.link.specs.declared.state.Collected.{Collected}
 use Rattle.link.specs.declared.state.Phase.{Phase}
 use Rattle.link.specs.declared.state.Phase.TheVariants.{AckOffered}
 use Rattle.link.specs.declared.state.Body.{Body}
-use Rattle.link.specs.declared.state.Handed.TheVariants.{NoneHanded}
-use Rattle.link.specs.declared.state.Transition.{Transition}
+use Rattle.std.specs.Prelude.{None}
+use Rattle.link.specs.State.{Transition}
 use Rattle.link.specs.Bytes.{load_lead}
 use Rattle.link.specs.Damaged.{sound_lead, sound_string, sound_phase, is_sound}
 use Rattle.link.specs.Loads.{carry_out_load}
 use Rattle.link.specs.State.{store_of, with_selected}
 use Rattle.link.proofs.PhaseLaws.{each_phase}
 use Rattle.controller.specs.declared.controller.Controller.{Controller}
-use Rattle.controller.specs.declared.controller.Reply.{Reply}
+use Rattle.controller.specs.Told.{Reply}
 use Rattle.controller.specs.Controller.{carried, refused}
 use Rattle.controller.specs.Stores.{settle, end_with, offer_go, await_check_bytes, order_move, past_test, begin, follow}
 use Rattle.controller.specs.Stores.{clear_outcome, carry_out_on, carry_out}
@@ -76,7 +76,7 @@ each_way P false false x y z one two three = three
 
 -- however an operation begins, it leaves one body and hands back nothing
 Begun : Body → Operation → Transition → Type 0
-Begun b operation t = (t.body ≡ past_test b operation) × (t.handed ≡ NoneHanded)
+Begun b operation t = (t.body ≡ past_test b operation) × (t.handed ≡ None)
 
 begun : (b : Body) (operation : Operation) (held : Store) → Begun b operation (begin b operation held)
 unfolding Begun begin order_move

@@ -19,7 +19,7 @@ use Rattle.operations.specs.Operation.{move_of, moves_tape, same_operation}
 use Rattle.operations.specs.Test.{may_move}
 use Rattle.operations.specs.Course.{test_of, course_of}
 use Rattle.link.specs.declared.state.Body.{Body}
-use Rattle.link.specs.declared.state.Transition.{Transition}
+use Rattle.link.specs.State.{Transition}
 use Rattle.link.specs.State.{with_outcome, current_drive}
 use Rattle.controller.specs.Stores.{end_with, offer_go, await_check_bytes, order_move, past_test, begin, follow}
 

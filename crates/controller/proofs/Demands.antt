@@ -81,7 +81,7 @@ use Rattle.link.specs.declared.state.Phase.TheVariants.{AckOffered}
 use Rattle.link.specs.declared.state.Body.{Body}
 use Rattle.link.specs.State.{store_of}
 use Rattle.records.specs.Count.{limit}
-use Rattle.controller.proofs.controller.fresh_controller.Reads as fresh-reads
+use Rattle.controller.proofs.controller.Controller.fresh.Reads as fresh-reads
 use Rattle.controller.proofs.Demands.Restored.{RestoredAt, recorded_is_restored}
 use Rattle.controller.proofs.Demands.Contracts.{Allows, Meet, all_met, answers_are_steps, steps_are_allowed}
 

@@ -13,7 +13,7 @@ use borrow.Author.Tests.{eqb-true, eqb-false, leb-false, le-leb, lt-leb, ne_eqb}
 use Rattle.common.specs.Pick.{pick}
 use Rattle.common.proofs.PickLaws.{by_test, pick_by, pick_yes, pick_no}
 use Rattle.status.specs.declared.drives.Drive.{Drive}
-use Rattle.status.specs.declared.drives.Drives.{Drives}
+use Rattle.status.specs.Drives.{Drives}
 use Rattle.status.specs.declared.words.Outcome.{Outcome}
 use Rattle.status.specs.declared.words.ResultRecord.{ResultRecord}
 use Rattle.status.specs.Drives.{drive_of, with_drive, with_gap, with_report, with_track, with_density, with_guard}
@@ -43,10 +43,10 @@ use Rattle.link.specs.declared.state.Phase.TheVariants.{ResultAwaited}
 use Rattle.link.specs.Frames.{order_of}
 use Rattle.link.specs.declared.state.Action.{Action}
 use Rattle.link.specs.declared.state.Action.TheVariants.{Nothing, Byte, Text, Order}
-use Rattle.link.specs.declared.state.Handed.{Handed}
-use Rattle.link.specs.declared.state.Handed.TheVariants.{NoneHanded, OneHanded}
+use Rattle.link.specs.State.{Handed}
+use Rattle.std.specs.Prelude.{None, Some}
 use Rattle.link.specs.declared.state.Body.{Body}
-use Rattle.link.specs.declared.state.Transition.{Transition}
+use Rattle.link.specs.State.{Transition}
 use Rattle.link.specs.State.{store_of, offered, start_body, with_selected, with_flags, with_outcome}
 use Rattle.link.specs.State.{with_current_drive, current_drive, reset_state, when_in_hand}
 use Rattle.transfers.specs.Data.{Host}
@@ -565,7 +565,7 @@ refusals_case : OfRefusals Keeps
 unfolding ledger_after not_refused ActionAllowed
 refusals_case c call number space check some at_space at_check l before =
     subst (λ (later : Ledger). KeptBy later (turn_of (refused number c)))
-    (sym (pick_no (ledger_call l c NoneHanded call) l some))
+    (sym (pick_no (ledger_call l c None call) l some))
     (record { kept = before; tells = tt })
 
 link_case : OfLink Keeps
@@ -665,10 +665,10 @@ writes_case b held host space check =
 
 -- the end of an operation hands its record back
 pub ended_hands : (b : Body) (operation : Operation) (store : Store)
-    → (end_operation b operation store).handed ≡ OneHanded b.outcome.result
+    → (end_operation b operation store).handed ≡ Some b.outcome.result
 unfolding end_operation settle
 ended_hands b operation store =
-    pick_by (λ (t : Transition). t.handed ≡ OneHanded b.outcome.result) (offers_end operation) (λ offers. refl)
+    pick_by (λ (t : Transition). t.handed ≡ Some b.outcome.result) (offers_end operation) (λ offers. refl)
     (λ none. refl)
 
 module _ (b : Body) (operation : Operation) (held : Store) (r : Result) (space check : List ℕ) where

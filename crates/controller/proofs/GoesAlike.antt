@@ -13,7 +13,7 @@ use borrow.Author.Tests.{eqb-true, eqb-false, leb-false}
 use Rattle.common.specs.Pick.{pick}
 use Rattle.common.proofs.PickLaws.{by_test, both_hold, pick_yes, pick_no}
 use Rattle.status.specs.declared.drives.Drive.{Drive}
-use Rattle.status.specs.declared.drives.Drives.{Drives}
+use Rattle.status.specs.Drives.{Drives}
 use Rattle.status.specs.declared.words.Word.{Word}
 use Rattle.status.specs.declared.words.ResultRecord.{ResultRecord}
 use Rattle.link.specs.declared.frames.Frame.{Frame}
@@ -44,7 +44,7 @@ use Rattle.link.specs.declared.state.Phase.TheVariants.{ResultAwaited, EndOffere
 use Rattle.link.specs.declared.state.Body.{Body}
 use Rattle.link.specs.declared.state.Action.{Action}
 use Rattle.link.specs.declared.state.Action.TheVariants.{Nothing}
-use Rattle.link.specs.declared.state.Transition.{Transition}
+use Rattle.link.specs.State.{Transition}
 use Rattle.link.specs.Bytes.{ack, nack, load_lead, store_lead, most_noes}
 use Rattle.link.specs.State.{store_of, with_selected, with_flags, current_drive, review, idle, offered}
 use Rattle.link.specs.State.{nothing_collected}
@@ -54,12 +54,12 @@ use Rattle.link.specs.Link.{give_up}
 use Rattle.link.specs.Link.{no_to_send, collect_byte, answer_to_send}
 use Rattle.link.specs.Loads.{carry_out_load}
 use Rattle.link.specs.Damaged.{sound_drive, sound_drives, sound_body, sound_part, sound_phase, is_sound}
-use Rattle.transfers.specs.declared.verdict.Verdict.{Verdict}
+use Rattle.transfers.specs.Results.{Verdict}
 use Rattle.transfers.specs.Data.{Host, data_refusal, data_words, settle_data}
 use Rattle.transfers.specs.Results.{Result, result_refusal, is_gone, reads_gcr, verdict_of, wrote_well, result_count}
 use Rattle.transfers.specs.Results.{result_bits, with_retry, result_words, result_gap, settle_result}
 use Rattle.controller.specs.declared.controller.Controller.{Controller}
-use Rattle.controller.specs.declared.controller.Reply.{Reply}
+use Rattle.controller.specs.Told.{Reply}
 use Rattle.controller.specs.Controller.{carried, refused, is_idle_in}
 use Rattle.controller.specs.Stores.{settle, end_with, end_operation, order_move, past_test, begin, follow}
 use Rattle.controller.specs.Stores.{clear_outcome, carry_out_on, carry_out, no_to_go, yes_to_go, answer_to_go}

@@ -1,3 +1,4 @@
+pub mod ToldAnswers
 pub mod DamageLaws
 pub mod IdleLaws
 pub mod LongCounts

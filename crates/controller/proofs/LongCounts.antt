@@ -31,7 +31,7 @@ use Rattle.link.specs.declared.state.Phase.{Phase}
 use Rattle.link.specs.declared.state.Phase.TheVariants.{Collecting, AckOffered, Sending, GoOffered, DataAwaited}
 use Rattle.link.specs.declared.state.Phase.TheVariants.{ResultAwaited, EndOffered}
 use Rattle.link.specs.declared.state.Body.{Body}
-use Rattle.link.specs.declared.state.Transition.{Transition}
+use Rattle.link.specs.State.{Transition}
 use Rattle.link.specs.Bytes.{load_lead}
 use Rattle.link.specs.Damaged.{is_sound}
 use Rattle.link.specs.State.{store_of, current_drive, with_selected, when_collecting, when_ack_offered}
@@ -42,7 +42,7 @@ use Rattle.transfers.specs.declared.expected.Expected.TheVariants.{Whole, Suppli
 use Rattle.transfers.specs.Expected.{expected_supplied, expected_of, unmarked_refusal, image_refusal}
 use Rattle.transfers.specs.Results.{Result, mark_against, result_refusal}
 use Rattle.controller.specs.declared.controller.Controller.{Controller}
-use Rattle.controller.specs.declared.controller.Reply.{Reply}
+use Rattle.controller.specs.Told.{Reply}
 use Rattle.controller.specs.Controller.{carried, refused}
 use Rattle.controller.specs.Stores.{end_with, follow, clear_outcome, carry_out_on, carry_out}
 use Rattle.controller.specs.Records.{Answer, result_done}

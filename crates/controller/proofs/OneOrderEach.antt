@@ -23,9 +23,9 @@ use Rattle.link.specs.declared.state.Phase.{Phase}
 use Rattle.link.specs.declared.state.Phase.TheVariants.{DataAwaited, ResultAwaited}
 use Rattle.link.specs.declared.state.Action.{Action}
 use Rattle.link.specs.declared.state.Action.TheVariants.{Nothing, Byte, Text, Order}
-use Rattle.link.specs.declared.state.Handed.{Handed}
+use Rattle.link.specs.State.{Handed}
 use Rattle.link.specs.declared.state.Body.{Body}
-use Rattle.link.specs.declared.state.Transition.{Transition}
+use Rattle.link.specs.State.{Transition}
 use Rattle.link.specs.State.{store_of, offered, when_in_hand, with_flags, with_current_drive, current_drive}
 use Rattle.link.specs.State.{reset_state}
 use Rattle.transfers.specs.Results.{Result, settle_result}

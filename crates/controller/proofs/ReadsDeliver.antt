@@ -15,7 +15,7 @@ use borrow.Author.Tests.{eqb-true, eq-eqb, ne_eqb, not-false}
 use Rattle.common.specs.Pick.{pick}
 use Rattle.common.specs.Space.{overwrite}
 use Rattle.common.proofs.PickLaws.{pick_by, pick_yes, pick_no, not_refused_lem}
-use Rattle.marks.specs.declared.Findings.{Findings}
+use Rattle.marks.specs.Scan.{Findings}
 use Rattle.marks.specs.Scan.{is_found, findings_of}
 use Rattle.records.specs.Image.{blockette_count}
 use Rattle.records.proofs.ImageLaws.{count_said_lem, marks_of}
@@ -31,10 +31,10 @@ use Rattle.operations.specs.Operation.{moves_tape, move_of, offers_end}
 use Rattle.operations.specs.Decode.{decode_of, read_of}
 use Rattle.operations.specs.Store.{asked_for, held_count, supplied_count}
 use Rattle.link.specs.declared.state.Body.{Body}
-use Rattle.link.specs.declared.state.Transition.{Transition}
+use Rattle.link.specs.State.{Transition}
 use Rattle.link.specs.State.{current_drive}
 use Rattle.transfers.specs.declared.expected.Expected.{Expected}
-use Rattle.transfers.specs.declared.verdict.Verdict.{Verdict}
+use Rattle.transfers.specs.Results.{Verdict}
 use Rattle.transfers.specs.Expected.{expected_supplied, expected_of, unmarked_refusal, image_refusal}
 use Rattle.transfers.specs.Results.{Result, result_refusal, is_gone, marks_read, code_reported, final_code}
 use Rattle.transfers.specs.Results.{record_count}

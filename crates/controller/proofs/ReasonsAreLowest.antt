@@ -44,7 +44,7 @@ use Rattle.transfers.specs.Expected.{image_refusal}
 use Rattle.transfers.specs.Results.{Result, mark_against, result_refusal}
 use Rattle.controller.specs.OnTape.{count_said}
 use Rattle.controller.specs.declared.controller.Controller.{Controller}
-use Rattle.controller.specs.declared.controller.Reply.{Reply}
+use Rattle.controller.specs.Told.{Reply}
 use Rattle.controller.specs.Controller.{carried, refused}
 use Rattle.controller.specs.Records.{Answer, data_done, result_done}
 use Rattle.controller.specs.Machine.{byte_in, broken_in, tick_in, byte_call, broken_call, tick_call, taken_in}
@@ -103,10 +103,10 @@ density_of false d e = refl
 density_now_lem : (b : Body) → (current_drive b).density ≡ density_now b
 unfolding drive_of density_now
 density_now_lem b =
-    density_of (eqb b.selected 0) b.drives.d0 _
-    ∙ ap (pick (eqb b.selected 0) b.drives.d0.density)
-    (density_of (eqb b.selected 1) b.drives.d1 _
-    ∙ ap (pick (eqb b.selected 1) b.drives.d1.density) (density_of (eqb b.selected 2) b.drives.d2 _))
+    density_of (eqb b.selected 0) b.drives.zero _
+    ∙ ap (pick (eqb b.selected 0) b.drives.zero.density)
+    (density_of (eqb b.selected 1) b.drives.one _
+    ∙ ap (pick (eqb b.selected 1) b.drives.one.density) (density_of (eqb b.selected 2) b.drives.two _))
 
 -- ---- codes
 

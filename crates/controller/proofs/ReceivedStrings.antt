@@ -30,7 +30,7 @@ use Rattle.link.specs.declared.state.Phase.TheVariants.{ResultAwaited, EndOffere
 use Rattle.link.proofs.PhaseLaws.{by_collecting, by_ack_offered, by_data_awaited, by_result_awaited}
 use Rattle.link.specs.declared.state.Body.{Body}
 use Rattle.link.specs.declared.state.Action.{Action}
-use Rattle.link.specs.declared.state.Transition.{Transition}
+use Rattle.link.specs.State.{Transition}
 use Rattle.link.specs.State.{store_of, offered, nothing_collected, current_drive, review, idle, reset_state}
 use Rattle.link.specs.State.{when_collecting}
 use Rattle.link.specs.State.{when_ack_offered}
@@ -44,7 +44,7 @@ use Rattle.link.specs.Damaged.{is_sound}
 use Rattle.transfers.specs.Data.{Host, data_refusal}
 use Rattle.transfers.specs.Results.{Result, result_refusal}
 use Rattle.controller.specs.declared.controller.Controller.{Controller}
-use Rattle.controller.specs.declared.controller.Reply.{Reply}
+use Rattle.controller.specs.Told.{Reply}
 use Rattle.controller.specs.Controller.{fresh, carried, refused}
 use Rattle.controller.specs.Stores.{settle, end_with, end_operation, order_move, begin, follow, carry_out_on}
 use Rattle.controller.specs.Stores.{carry_out, no_to_go, yes_to_go, answer_to_go}

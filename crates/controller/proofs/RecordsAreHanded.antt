@@ -23,17 +23,17 @@ use Rattle.operations.specs.Course.{course_of}
 use Rattle.operations.proofs.DensityLaws.{by_density}
 use Rattle.link.specs.declared.state.Phase.{Phase}
 use Rattle.link.specs.declared.state.Phase.TheVariants.{DataAwaited, ResultAwaited}
-use Rattle.link.specs.declared.state.Handed.{Handed}
-use Rattle.link.specs.declared.state.Handed.TheVariants.{NoneHanded, OneHanded}
+use Rattle.link.specs.State.{Handed}
+use Rattle.std.specs.Prelude.{None, Some}
 use Rattle.link.specs.declared.state.Body.{Body}
-use Rattle.link.specs.declared.state.Transition.{Transition}
+use Rattle.link.specs.State.{Transition}
 use Rattle.link.specs.State.{store_of, offered, with_flags, with_outcome, with_current_drive, current_drive}
 use Rattle.link.specs.State.{reset_state}
 use Rattle.operations.specs.After.{with_code}
 use Rattle.transfers.specs.Results.{Result, settle_result}
 use Rattle.transfers.specs.Data.{Host}
 use Rattle.controller.specs.declared.controller.Controller.{Controller}
-use Rattle.controller.specs.declared.controller.Reply.{Reply}
+use Rattle.controller.specs.Told.{Reply}
 use Rattle.controller.specs.Controller.{fresh, carried}
 use Rattle.controller.specs.Stores.{settle, end_with, end_operation, order_move, begin, follow, clear_outcome}
 use Rattle.controller.specs.Stores.{carry_out_on, carry_out, no_to_go, yes_to_go}
@@ -66,13 +66,13 @@ free_holds =
     by_free (λ (phase : Phase). holds_store_in phase ≡ false) (λ s. refl) (λ s. refl) (λ s. refl) (λ interrupt. refl)
 
 -- a turn that hands nothing back
-none_due : (owed : Bool) (t : Transition) → t.handed ≡ NoneHanded → owed ≡ holds_store_in t.phase
+none_due : (owed : Bool) (t : Transition) → t.handed ≡ None → owed ≡ holds_store_in t.phase
     → Due owed (carried t) t.handed
 unfolding Due
 none_due owed t none same = subst (Due owed (carried t)) (sym none) same
 
 -- a turn that settles a code
-one_due : (owed : Bool) (t : Transition) (final : ResultRecord) → t.handed ≡ OneHanded final → owed ≡ true
+one_due : (owed : Bool) (t : Transition) (final : ResultRecord) → t.handed ≡ Some final → owed ≡ true
     → final ≡ t.body.outcome.result → Free t.phase → Due owed (carried t) t.handed
 unfolding Due
 one_due owed t final one due shown free =
@@ -203,7 +203,7 @@ refusals_case c call number space check some at_space at_check owed same =
 link_due :
     (c : Controller) (call : Call) (t : Transition) (owed : Bool)
     → owes owed c (exchanged call (plain (carried t))) ≡ owed
-    → Free c.phase → Rests c.body t → t.handed ≡ NoneHanded → owed ≡ holds_store_in c.phase
+    → Free c.phase → Rests c.body t → t.handed ≡ None → owed ≡ holds_store_in c.phase
     → Due (owes owed c (exchanged call (plain (carried t)))) (carried t) t.handed
 link_due c call t owed kept free rests none same =
     none_due _ t none (kept ∙ same ∙ free_holds c.phase free ∙ sym (free_holds t.phase rests.free))
@@ -274,9 +274,9 @@ dues =
 still_holds : (owed : Bool) (c : Controller) (handed : Handed) (answer : Reply) → answer.controller ≡ c
     → Due owed answer handed → owed_still owed handed ≡ holds_store_in c.phase
 unfolding Due owed_still
-still_holds owed c (OneHanded final) answer is (due, shown, gone) =
+still_holds owed c (Some final) answer is (due, shown, gone) =
     sym gone ∙ ap (λ (x : Controller). holds_store_in x.phase) is
-still_holds owed c NoneHanded answer is due = due ∙ ap (λ (x : Controller). holds_store_in x.phase) is
+still_holds owed c None answer is due = due ∙ ap (λ (x : Controller). holds_store_in x.phase) is
 
 due_from : (calls : List Call) (owed : Bool) (c : Controller) → owed ≡ holds_store_in c.phase
     → DueFrom owed c (run c calls)

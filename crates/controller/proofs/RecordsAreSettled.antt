@@ -26,13 +26,13 @@ use Rattle.operations.specs.Store.{asked_for}
 use Rattle.link.specs.declared.state.Phase.{Phase}
 use Rattle.link.specs.declared.state.Phase.TheVariants.{Collecting, AckOffered, ResultAwaited}
 use Rattle.link.specs.declared.state.Body.{Body}
-use Rattle.link.specs.declared.state.Handed.{Handed}
-use Rattle.link.specs.declared.state.Handed.TheVariants.{NoneHanded, OneHanded}
+use Rattle.link.specs.State.{Handed}
+use Rattle.std.specs.Prelude.{None, Some}
 use Rattle.link.specs.State.{store_of, offered, current_drive, reset_state}
 use Rattle.transfers.specs.declared.after.Words.{Words}
 use Rattle.transfers.specs.Results.{Result, result_refusal}
 use Rattle.controller.specs.declared.controller.Controller.{Controller}
-use Rattle.controller.specs.declared.controller.Reply.{Reply}
+use Rattle.controller.specs.Told.{Reply}
 use Rattle.controller.specs.Controller.{fresh, carried}
 use Rattle.controller.specs.Stores.{order_move, carry_out, yes_to_go, no_to_go}
 use Rattle.controller.specs.Records.{words_of, data_done, result_done}
@@ -194,8 +194,8 @@ due_settled :
     → Settled l call reply.controller.body.outcome.result
     → SettledBy l call h
 unfolding Due SettledBy
-due_settled l call owed reply (OneHanded final) due settled = subst (Settled l call) (sym due.1) settled
-due_settled l call owed reply NoneHanded due settled = tt
+due_settled l call owed reply (Some final) due settled = subst (Settled l call) (sym due.1) settled
+due_settled l call owed reply None due settled = tt
 
 module _ (s : Status) (b : Body) (store : Store) (phase : Phase) (kept : Kept s.ledger b phase)
     (before : Shows s b phase) where

@@ -10,7 +10,7 @@ use lib.Dec.{eqb}
 use lib.ListN.{length}
 use borrow.Author.Tests.{eqb-false}
 use Rattle.common.proofs.PickLaws.{pick_by}
-use Rattle.marks.specs.declared.Findings.{Findings}
+use Rattle.marks.specs.Scan.{Findings}
 use Rattle.status.specs.declared.drives.Drive.{Drive}
 use Rattle.status.specs.declared.words.Outcome.{Outcome}
 use Rattle.operations.specs.declared.operation.Operation.{Operation}
@@ -23,7 +23,7 @@ use Rattle.operations.specs.Store.{asks_interrupt}
 use Rattle.link.specs.declared.state.Phase.{Phase}
 use Rattle.link.proofs.PhaseLaws.{each_phase}
 use Rattle.link.specs.declared.state.Body.{Body}
-use Rattle.link.specs.declared.state.Transition.{Transition}
+use Rattle.link.specs.State.{Transition}
 use Rattle.link.specs.State.{current_drive, review, idle}
 use Rattle.link.specs.Completion.{send_word, send_interrupt, complete}
 use Rattle.link.specs.Damaged.{is_sound}

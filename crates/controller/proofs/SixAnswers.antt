@@ -22,13 +22,13 @@ use Rattle.link.specs.declared.state.Phase.{Phase}
 use Rattle.link.specs.declared.state.Phase.TheVariants.{Collecting, AckOffered, Sending, GoOffered, DataAwaited}
 use Rattle.link.specs.declared.state.Phase.TheVariants.{ResultAwaited, EndOffered}
 use Rattle.link.specs.declared.state.Body.{Body}
-use Rattle.link.specs.declared.state.Transition.{Transition}
+use Rattle.link.specs.State.{Transition}
 use Rattle.link.specs.Bytes.{ack}
 use Rattle.link.specs.State.{reset_state, review, idle}
 use Rattle.link.specs.Completion.{send_word, send_interrupt, complete}
 use Rattle.link.specs.Link.{yes_to_send, answer_to_send}
 use Rattle.controller.specs.declared.controller.Controller.{Controller}
-use Rattle.controller.specs.declared.controller.Reply.{Reply}
+use Rattle.controller.specs.Told.{Reply}
 use Rattle.controller.specs.Controller.{is_idle_in, is_idle, refused}
 use Rattle.controller.specs.Stores.{settle, end_with, end_operation, order_move, begin, follow, carry_out_on, carry_out}
 use Rattle.controller.specs.Stores.{no_to_go, yes_to_go, answer_to_go}

@@ -30,7 +30,7 @@ use Rattle.link.specs.declared.state.Send.{Send}
 use Rattle.link.specs.declared.state.Phase.{Phase}
 use Rattle.link.specs.declared.state.Phase.TheVariants.{Collecting, AckOffered, DataAwaited, ResultAwaited}
 use Rattle.link.specs.declared.state.Body.{Body}
-use Rattle.link.specs.declared.state.Transition.{Transition}
+use Rattle.link.specs.State.{Transition}
 use Rattle.link.specs.State.{store_of, offered, start_body, current_drive, reset_state, review, idle}
 use Rattle.link.specs.Bytes.{ack, nack, load_lead, store_lead, most_noes}
 use Rattle.link.specs.Damaged.{is_sound}
@@ -43,7 +43,7 @@ use Rattle.transfers.specs.declared.after.Words.{Words}
 use Rattle.transfers.specs.Data.{Host, needed_bytes, bad_byte, runs_short, data_words, settle_data}
 use Rattle.transfers.specs.Results.{Result, result_refusal, settle_result}
 use Rattle.controller.specs.declared.controller.Controller.{Controller}
-use Rattle.controller.specs.declared.controller.Reply.{Reply}
+use Rattle.controller.specs.Told.{Reply}
 use Rattle.controller.specs.Controller.{fresh, refused}
 use Rattle.controller.specs.Stores.{settle, end_operation, order_move, carry_out, yes_to_go, no_to_go}
 use Rattle.controller.specs.Records.{words_of, with_after, data_done, result_done}

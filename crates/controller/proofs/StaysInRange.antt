@@ -16,7 +16,7 @@ use borrow.Author.Tests.{eqb-true, eq-eqb, le-leb, lt-ltb}
 use Rattle.common.specs.Pick.{pick}
 use Rattle.common.proofs.PickLaws.{by_test, pick_by, pick_yes}
 use Rattle.status.specs.declared.drives.Drive.{Drive}
-use Rattle.status.specs.declared.drives.Drives.{Drives}
+use Rattle.status.specs.Drives.{Drives}
 use Rattle.operations.specs.declared.operation.Operation.{Operation}
 use Rattle.operations.specs.declared.store.Store.{Store}
 use Rattle.link.specs.declared.state.Collected.{Collected}
@@ -25,7 +25,7 @@ use Rattle.link.specs.declared.state.Phase.TheVariants.{Collecting, AckOffered, 
 use Rattle.link.specs.declared.state.Phase.TheVariants.{ResultAwaited, EndOffered}
 use Rattle.link.specs.declared.state.Body.{Body}
 use Rattle.link.specs.declared.state.Action.TheVariants.{Nothing}
-use Rattle.link.specs.declared.state.Transition.{Transition}
+use Rattle.link.specs.State.{Transition}
 use Rattle.link.specs.Bytes.{load_lead}
 use Rattle.link.specs.State.{store_of, current_drive, idle}
 use Rattle.link.specs.Link.{whole_length}
@@ -34,7 +34,7 @@ use Rattle.link.specs.Damaged.{is_sound}
 use Rattle.transfers.specs.Data.{Host, data_refusal, settle_data}
 use Rattle.transfers.specs.Results.{Result, result_refusal, settle_result}
 use Rattle.controller.specs.declared.controller.Controller.{Controller}
-use Rattle.controller.specs.declared.controller.Reply.{Reply}
+use Rattle.controller.specs.Told.{Reply}
 use Rattle.controller.specs.Controller.{fresh, carried, refused}
 use Rattle.controller.specs.Records.{Answer, words_of, with_after, data_done, result_done}
 use Rattle.controller.specs.Machine.{byte_in, broken_in, tick_in, byte_call, broken_call, tick_call, carry_out_string}
@@ -72,10 +72,10 @@ sound_drives_lem : (ds : Drives) → DrivesInRange ds → sound_drives ds ≡ tr
 unfolding sound_drives
 sound_drives_lem ds all =
     simp (
-      sound_drive_lem ds.d0 all.d0,
-      sound_drive_lem ds.d1 all.d1,
-      sound_drive_lem ds.d2 all.d2,
-      sound_drive_lem ds.d3 all.d3,
+      sound_drive_lem ds.zero all.zero,
+      sound_drive_lem ds.one all.one,
+      sound_drive_lem ds.two all.two,
+      sound_drive_lem ds.three all.three,
     )
 
 sound_body_lem : (b : Body) → BodyInRange b → sound_body b ≡ true

@@ -22,14 +22,14 @@ use Rattle.link.specs.declared.state.Phase.TheVariants.{Collecting, AckOffered, 
 use Rattle.link.specs.declared.state.Phase.TheVariants.{ResultAwaited, EndOffered}
 use Rattle.link.specs.declared.state.Body.{Body}
 use Rattle.link.specs.declared.state.Action.TheVariants.{Nothing}
-use Rattle.link.specs.declared.state.Transition.{Transition}
+use Rattle.link.specs.State.{Transition}
 use Rattle.link.specs.Bytes.{ack, load_lead}
 use Rattle.link.specs.State.{store_of, offered, reset_state}
 use Rattle.link.specs.Damaged.{is_sound}
 use Rattle.transfers.specs.Data.{Host, data_refusal}
 use Rattle.transfers.specs.Results.{Result, result_refusal}
 use Rattle.controller.specs.declared.controller.Controller.{Controller}
-use Rattle.controller.specs.declared.controller.Reply.{Reply}
+use Rattle.controller.specs.Told.{Reply}
 use Rattle.controller.specs.Controller.{carried, refused}
 use Rattle.controller.specs.Stores.{carry_out, answer_to_go, yes_to_go, no_to_go}
 use Rattle.controller.specs.Records.{Answer, data_done, result_done}

@@ -29,7 +29,7 @@ use Rattle.link.specs.declared.state.Phase.TheVariants.{ResultAwaited, EndOffere
 use Rattle.link.specs.declared.state.Body.{Body}
 use Rattle.link.specs.declared.state.Action.{Action}
 use Rattle.link.specs.declared.state.Action.TheVariants.{Nothing}
-use Rattle.link.specs.declared.state.Transition.{Transition}
+use Rattle.link.specs.State.{Transition}
 use Rattle.link.specs.Bytes.{load_lead}
 use Rattle.link.specs.State.{store_of, offered, current_drive, start_body, idle, reset_state}
 use Rattle.link.specs.Completion.{complete}
@@ -38,7 +38,7 @@ use Rattle.link.specs.Loads.{carry_out_load}
 use Rattle.link.specs.Damaged.{is_sound}
 use Rattle.link.proofs.PhaseLaws.{by_collecting, by_ack_offered, by_data_awaited, by_result_awaited}
 use Rattle.controller.specs.declared.controller.Controller.{Controller}
-use Rattle.controller.specs.declared.controller.Reply.{Reply}
+use Rattle.controller.specs.Told.{Reply}
 use Rattle.controller.specs.Controller.{fresh, carried, refused}
 use Rattle.controller.specs.Stores.{end_operation, order_move, carry_out, no_to_go, yes_to_go, answer_to_go}
 use Rattle.controller.specs.Records.{Answer, words_of, with_after, data_done, result_done}

@@ -12,7 +12,7 @@ use Rattle.link.specs.declared.state.Kind.TheVariants.{Change}
 use Rattle.link.specs.declared.state.Phase.{Phase}
 use Rattle.link.specs.declared.state.Phase.TheVariants.{Collecting}
 use Rattle.link.specs.declared.state.Body.{Body}
-use Rattle.link.specs.declared.state.Transition.{Transition}
+use Rattle.link.specs.State.{Transition}
 use Rattle.link.specs.declared.state.Action.TheVariants.{Nothing}
 use Rattle.link.specs.Bytes.{ack, interrupt}
 use Rattle.link.specs.State.{with_flags, review, idle, nothing_collected}
@@ -20,7 +20,7 @@ use Rattle.link.specs.Completion.{send_word, primary_now}
 use Rattle.link.specs.Link.{yes_to_send, answer_to_send, tick_after_review, idle_tick}
 use Rattle.link.specs.Damaged.{sound_drive, sound_body, sound_part, sound_phase, is_sound}
 use Rattle.controller.specs.declared.controller.Controller.{Controller}
-use Rattle.controller.specs.declared.controller.Reply.{Reply}
+use Rattle.controller.specs.Told.{Reply}
 use Rattle.controller.specs.Controller.{is_idle_in, is_idle, carried}
 use Rattle.controller.specs.Records.{Answer}
 use Rattle.controller.specs.Machine.{tick_in, tick_call, byte_in, byte_call, Call, Exchange, plain, step, run}

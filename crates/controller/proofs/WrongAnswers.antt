@@ -43,7 +43,7 @@ use Rattle.link.specs.declared.state.Phase.TheVariants.{ResultAwaited, EndOffere
 use Rattle.link.specs.declared.state.Body.{Body}
 use Rattle.link.specs.declared.state.Action.{Action}
 use Rattle.link.specs.declared.state.Action.TheVariants.{Nothing, Byte, Text, Order}
-use Rattle.link.specs.declared.state.Transition.{Transition}
+use Rattle.link.specs.State.{Transition}
 use Rattle.link.proofs.PhaseLaws.{each_phase}
 use Rattle.link.specs.State.{when_ack_offered, store_of, start_body, reset_state, review, idle}
 use Rattle.link.specs.Bytes.{ack, nack, load_lead, store_lead}
@@ -53,7 +53,7 @@ use Rattle.link.specs.Link.{collect_byte}
 use Rattle.link.specs.Link.{tick_after_review, idle_tick}
 use Rattle.link.specs.Damaged.{is_sound}
 use Rattle.controller.specs.declared.controller.Controller.{Controller}
-use Rattle.controller.specs.declared.controller.Reply.{Reply}
+use Rattle.controller.specs.Told.{Reply}
 use Rattle.controller.specs.Controller.{fresh}
 use Rattle.controller.specs.Stores.{settle, end_with, order_move, end_operation, carry_out}
 use Rattle.controller.specs.Records.{Answer, data_done, result_done}
@@ -61,7 +61,7 @@ use Rattle.controller.specs.Machine.{byte_in, broken_in, tick_in, hand_in, byte_
 use Rattle.controller.specs.Machine.{carry_out_string, taken_in, taken_call, report_call, reset_call}
 use Rattle.controller.specs.Machine.{data_for, data_in, data_call, result_for, result_in, result_call, Call, step}
 use Rattle.controller.specs.Machine.Call.{byte, taken, broken, report, host_data, result, tick, reset, hand}
-use Rattle.controller.proofs.controller.fresh_controller.Reads as fresh-reads
+use Rattle.controller.proofs.controller.Controller.fresh.Reads as fresh-reads
 use Rattle.controller.proofs.Demands.Contracts.{Allows, answers_are_steps}
 
 -- no answer that the call's contract allows is wrong in this way

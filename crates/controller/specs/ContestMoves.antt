@@ -7,10 +7,10 @@ use Rattle.status.specs.declared.words.ResultRecord.{ResultRecord}
 use Rattle.status.specs.Drives.{drive_of}
 use Rattle.link.specs.declared.state.Action.{Action}
 use Rattle.link.specs.declared.state.Action.TheVariants.{Nothing, Byte, Text, Order}
-use Rattle.link.specs.declared.state.Handed.{Handed}
-use Rattle.link.specs.declared.state.Handed.TheVariants.{NoneHanded, OneHanded}
+use Rattle.link.specs.State.{Handed}
+use Rattle.std.specs.Prelude.{None, Some}
 use Rattle.controller.specs.declared.controller.Controller.{Controller}
-use Rattle.controller.specs.declared.controller.Reply.{Reply}
+use Rattle.controller.specs.Told.{Reply}
 use Rattle.controller.specs.Controller.{fresh}
 use Rattle.controller.specs.Machine.{Call, Exchange, when_lent}
 use Rattle.controller.specs.Ledger.{operation_of, among, Ledger, ledger_fresh, ledger_after}
@@ -29,9 +29,9 @@ pub record Moved (l : Ledger) (drive : Drive) (final : ResultRecord) : Type 0 wh
 
 -- of a result that hands a record back
 unfoldable pub MovedBy : Ledger → Drive → Call → Handed → Type 0
-MovedBy l drive call (OneHanded final) =
+MovedBy l drive call (Some final) =
     when_lent (λ host space check. Unit) (λ r space check. Moved l drive final) Unit call
-MovedBy l drive call NoneHanded = Unit
+MovedBy l drive call None = Unit
 
 -- "The driver may write only in a proper gap": so a drive does whose guard is set, where BOT warning is not reported
 unfoldable pub FromProper : Ledger → Action → Type 0

@@ -5,12 +5,11 @@ use Rattle.status.specs.Drives.{fresh_drives}
 use Rattle.link.specs.declared.state.Phase.{Phase}
 use Rattle.link.specs.declared.state.Phase.TheVariants.{Collecting}
 use Rattle.link.specs.declared.state.Action.TheVariants.{Nothing}
-use Rattle.link.specs.declared.state.Handed.TheVariants.{NoneHanded}
-use Rattle.link.specs.declared.state.Transition.{Transition}
+use Rattle.std.specs.Prelude.{None}
+use Rattle.link.specs.State.{Transition}
 use Rattle.link.specs.State.{when_collecting, nothing_collected, start_body}
 use Rattle.controller.specs.declared.controller.Controller.{Controller}
-use Rattle.controller.specs.declared.controller.Reply.{Reply}
-use Rattle.controller.specs.declared.controller.Transfer.{Transfer}
+use Rattle.controller.specs.Told.{Reply, Transfer}
 
 -- "Fresh: .. collecting."
 unfoldable pub fresh : Controller
@@ -36,7 +35,7 @@ carried transition =
 -- "state and buffers unchanged, no action"; "Any call that settles no code, a refused one .., hands back none."
 -- (document 02, request 4)
 abbrev pub refused : ℕ → Controller → Reply
-refused number c = record { controller = c; action = Nothing; refusal = number; handed = NoneHanded }
+refused number c = record { controller = c; action = Nothing; refusal = number; handed = None }
 
 -- a refused data or result call gives no bytes
 abbrev pub refused_transfer : ℕ → Controller → Transfer

@@ -14,7 +14,7 @@ use Rattle.link.specs.declared.state.Action.TheVariants.{Nothing, Byte, Text, Or
 use Rattle.transfers.specs.Results.{Result}
 use Rattle.controller.specs.OnTape.{count_said}
 use Rattle.controller.specs.declared.controller.Controller.{Controller}
-use Rattle.controller.specs.declared.controller.Reply.{Reply}
+use Rattle.controller.specs.Told.{Reply}
 use Rattle.controller.specs.Controller.{fresh}
 use Rattle.controller.specs.Machine.{Call, Exchange, when_store_comes, when_lent}
 use Rattle.controller.specs.Lists.{not_refused, holds_store}

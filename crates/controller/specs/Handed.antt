@@ -6,10 +6,10 @@ use Rattle.common.specs.Pick.{pick}
 use Rattle.operations.specs.declared.store.Store.{Store}
 use Rattle.link.specs.declared.state.Phase.{Phase}
 use Rattle.link.specs.State.{when_in_hand}
-use Rattle.link.specs.declared.state.Handed.{Handed}
-use Rattle.link.specs.declared.state.Handed.TheVariants.{NoneHanded, OneHanded}
+use Rattle.link.specs.State.{Handed}
+use Rattle.std.specs.Prelude.{None, Some}
 use Rattle.controller.specs.declared.controller.Controller.{Controller}
-use Rattle.controller.specs.declared.controller.Reply.{Reply}
+use Rattle.controller.specs.Told.{Reply}
 use Rattle.controller.specs.Controller.{fresh}
 use Rattle.controller.specs.Machine.{Call, Exchange, when_store_comes, when_report_or_reset}
 use Rattle.controller.specs.Lists.{not_refused, holds_store, held_store}
@@ -43,16 +43,16 @@ holds_store_in = when_in_hand (λ store. true) (λ store. true) (λ operation st
 -- A record that is handed back is owed, is the one that primary and secondary then show, and its store is in hand no
 -- more; where none is handed back, what is owed is in hand.
 unfoldable pub Due : Bool → Reply → Handed → Type 0
-Due owed reply (OneHanded final) =
+Due owed reply (Some final) =
     (owed ≡ true)
     × (final ≡ reply.controller.body.outcome.result)
     × (holds_store_in reply.controller.phase ≡ false)
-Due owed reply NoneHanded = owed ≡ holds_store_in reply.controller.phase
+Due owed reply None = owed ≡ holds_store_in reply.controller.phase
 
 -- one that was handed back is owed no more
 unfoldable pub owed_still : Bool → Handed → Bool
-owed_still owed (OneHanded handed) = false
-owed_still owed NoneHanded = owed
+owed_still owed (Some handed) = false
+owed_still owed None = owed
 
 -- at every call of a list
 unfoldable pub DueFrom : Bool → Controller → List Exchange → Type 0

@@ -6,7 +6,7 @@
 -- Assumes nothing.
 use Rattle.std.specs.Prelude.{◌≡◌, ℕ, ◌≤◌, ◌<◌, List, [], ◌∷◌, length, get_or}
 use Rattle.status.specs.declared.drives.Drive.{Drive}
-use Rattle.status.specs.declared.drives.Drives.{Drives}
+use Rattle.status.specs.Drives.{Drives}
 use Rattle.status.specs.declared.words.ResultRecord.{ResultRecord}
 use Rattle.status.specs.declared.words.Word.{Word}
 use Rattle.operations.specs.declared.store.Store.{Store}
@@ -19,8 +19,8 @@ use Rattle.link.specs.declared.state.Send.{Send}
 use Rattle.link.specs.declared.state.Body.{Body}
 use Rattle.link.specs.declared.state.Action.{Action}
 use Rattle.link.specs.declared.state.Action.TheVariants.{Nothing, Byte, Text, Order}
-use Rattle.link.specs.declared.state.Handed.{Handed}
-use Rattle.link.specs.declared.state.Handed.TheVariants.{NoneHanded, OneHanded}
+use Rattle.link.specs.State.{Handed}
+use Rattle.std.specs.Prelude.{None, Some}
 use Rattle.transfers.specs.Results.{Result}
 use Rattle.controller.specs.declared.controller.Controller.{Controller}
 use Rattle.controller.specs.Records.{Answer}
@@ -40,10 +40,10 @@ pub record DriveInRange (d : Drive) : Type 0 where
   pub gap : d.gap ≤ 3
 
 pub record DrivesInRange (d : Drives) : Type 0 where
-  pub d0 : DriveInRange d.d0
-  pub d1 : DriveInRange d.d1
-  pub d2 : DriveInRange d.d2
-  pub d3 : DriveInRange d.d3
+  pub zero : DriveInRange d.zero
+  pub one : DriveInRange d.one
+  pub two : DriveInRange d.two
+  pub three : DriveInRange d.three
 
 -- "motion 0-3; .. code 0-31; .. secondary 0-65,535"
 pub record ResultInRange (r : ResultRecord) : Type 0 where
@@ -170,8 +170,8 @@ ActionInRange (Order order) = FrameInRange order
 
 -- the record that is handed back (document 02, request 4)
 unfoldable pub HandedInRange : Handed → Type 0
-HandedInRange NoneHanded = Unit
-HandedInRange (OneHanded final) = ResultInRange final
+HandedInRange None = Unit
+HandedInRange (Some final) = ResultInRange final
 
 -- of an answer; the refusals of these calls are numbered 0, done, to 15; the bytes that it gives fit into the space
 -- that was lent, and are at most 66,050: the longest image, of 65,535 bytes

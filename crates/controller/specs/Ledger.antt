@@ -12,8 +12,8 @@ use Rattle.status.specs.Drives.{drive_of}
 use Rattle.link.specs.declared.frames.Frame.{Frame}
 use Rattle.link.specs.declared.state.Action.{Action}
 use Rattle.link.specs.declared.state.Action.TheVariants.{Nothing, Byte, Text, Order}
-use Rattle.link.specs.declared.state.Handed.{Handed}
-use Rattle.link.specs.declared.state.Handed.TheVariants.{NoneHanded, OneHanded}
+use Rattle.link.specs.State.{Handed}
+use Rattle.std.specs.Prelude.{None, Some}
 use Rattle.controller.specs.declared.controller.Controller.{Controller}
 use Rattle.controller.specs.Controller.{fresh}
 use Rattle.controller.specs.Machine.{Call, Exchange, when_store_comes, when_lent, when_report_or_reset}
@@ -174,14 +174,14 @@ ledger_carried l store =
 
 -- the record that a result hands back
 unfoldable pub ledger_ended : Ledger → Handed → Ledger
-ledger_ended l (OneHanded final) =
+ledger_ended l (Some final) =
     record {
       selected = l.selected;
       tape = entered l.tape l.selected (tape_left (l.tape l.selected) l.store final.code);
       store = l.store;
       was = l.was;
     }
-ledger_ended l NoneHanded = l
+ledger_ended l None = l
 
 -- a report of one of the drives
 abbrev pub ledger_reported : Ledger → ℕ → ℕ → Ledger

@@ -1,3 +1,4 @@
+pub mod Told
 pub mod Controller
 pub mod Stores
 pub mod Records

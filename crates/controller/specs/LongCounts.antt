@@ -29,7 +29,7 @@ use Rattle.link.specs.declared.state.Phase.{Phase}
 use Rattle.link.specs.declared.state.Phase.TheVariants.{Collecting, AckOffered, Sending, GoOffered, DataAwaited}
 use Rattle.link.specs.declared.state.Phase.TheVariants.{ResultAwaited, EndOffered}
 use Rattle.link.specs.declared.state.Body.{Body}
-use Rattle.link.specs.declared.state.Transition.{Transition}
+use Rattle.link.specs.State.{Transition}
 use Rattle.link.specs.Bytes.{load_lead}
 use Rattle.link.specs.Damaged.{is_sound}
 use Rattle.link.specs.Loads.{carry_out_load}
@@ -41,7 +41,7 @@ use Rattle.transfers.specs.Data.{check_store}
 use Rattle.transfers.specs.Expected.{expected_of, unmarked_refusal}
 use Rattle.transfers.specs.Results.{Result, mark_against}
 use Rattle.controller.specs.declared.controller.Controller.{Controller}
-use Rattle.controller.specs.declared.controller.Reply.{Reply}
+use Rattle.controller.specs.Told.{Reply}
 use Rattle.controller.specs.Controller.{carried, refused}
 use Rattle.controller.specs.Stores.{end_with, follow, clear_outcome}
 use Rattle.controller.specs.Records.{Answer, result_done}

@@ -15,9 +15,9 @@ use Rattle.link.specs.declared.state.Phase.TheVariants.{GoOffered, DataAwaited, 
 use Rattle.link.specs.declared.state.Body.{Body}
 use Rattle.controller.specs.declared.controller.Controller.{Controller}
 use Rattle.link.specs.declared.state.Action.TheVariants.{Nothing}
-use Rattle.link.specs.declared.state.Handed.TheVariants.{NoneHanded}
-use Rattle.link.specs.declared.state.Transition.{Transition}
-use Rattle.controller.specs.declared.controller.Reply.{Reply}
+use Rattle.std.specs.Prelude.{None}
+use Rattle.link.specs.State.{Transition}
+use Rattle.controller.specs.Told.{Reply}
 use Rattle.link.specs.State.{store_of, current_drive, note_report, reset_state, idle}
 use Rattle.link.specs.State.{when_collecting, when_ack_offered, when_data_awaited, when_result_awaited}
 use Rattle.link.specs.Completion.{complete}
@@ -105,7 +105,7 @@ report_noted c drive report =
       body = note_report c.body drive report;
       phase = c.phase;
       action = Nothing;
-      handed = NoneHanded;
+      handed = None;
     }
 
 -- "5 drive above 3"

@@ -5,8 +5,8 @@ use Rattle.std.specs.Prelude.{◌≡◌, Bool, true, false, not, List, [], ◌�
 use Rattle.common.specs.Pick.{pick}
 use Rattle.link.specs.declared.state.Action.{Action}
 use Rattle.link.specs.declared.state.Action.TheVariants.{Nothing, Byte, Text, Order}
-use Rattle.link.specs.declared.state.Handed.{Handed}
-use Rattle.link.specs.declared.state.Handed.TheVariants.{NoneHanded, OneHanded}
+use Rattle.link.specs.State.{Handed}
+use Rattle.std.specs.Prelude.{None, Some}
 use Rattle.controller.specs.declared.controller.Controller.{Controller}
 use Rattle.controller.specs.Controller.{fresh}
 use Rattle.controller.specs.Machine.{Call, Exchange, when_store_comes, when_report_or_reset}
@@ -34,12 +34,12 @@ unordered may (Text string) = may
 
 -- and so does the end of the store, whose record is handed back
 unfoldable pub may_still : Bool → Action → Handed → Bool
-may_still may action (OneHanded final) = false
-may_still may action NoneHanded = unordered may action
+may_still may action (Some final) = false
+may_still may action None = unordered may action
 
 -- an order goes out only where the store may give one, and not with its record
 unfoldable pub OrderedOnce : Bool → Handed → Action → Type 0
-OrderedOnce may handed (Order order) = (may ≡ true) × (handed ≡ NoneHanded)
+OrderedOnce may handed (Order order) = (may ≡ true) × (handed ≡ None)
 OrderedOnce may handed Nothing = Unit
 OrderedOnce may handed (Byte b) = Unit
 OrderedOnce may handed (Text string) = Unit

@@ -7,7 +7,7 @@ use Rattle.std.specs.Prelude.{◌≡◌, ℕ, ◌+◌, ◌*◌, ◌≤◌, Bool,
 use Rattle.std.specs.Prelude.{length}
 use Rattle.common.specs.Pick.{pick}
 use Rattle.status.specs.declared.drives.Drive.{Drive}
-use Rattle.status.specs.declared.drives.Drives.{Drives}
+use Rattle.status.specs.Drives.{Drives}
 use Rattle.operations.specs.declared.operation.Operation.{Operation}
 use Rattle.operations.specs.declared.operation.Operation.TheVariants.{Read, CheckBytes, SuppliedCount, Write, Erase}
 use Rattle.operations.specs.declared.operation.Operation.TheVariants.{Rewind, FastForward, SkipForward, SkipReverse}
@@ -47,7 +47,7 @@ drive_in_range d = leb d.track 3 && (leb d.gap 3 && leb d.density 1)
 
 -- of all four
 unfoldable pub drives_in_range : Drives → Bool
-drives_in_range d = drive_in_range d.d0 && (drive_in_range d.d1 && (drive_in_range d.d2 && drive_in_range d.d3))
+drives_in_range d = drive_in_range d.zero && (drive_in_range d.one && (drive_in_range d.two && drive_in_range d.three))
 
 -- ".. selected drive, motion 0-3; .. code 0-31; .. secondary 0-65,535; .."
 unfoldable pub body_in_range : Body → Bool
@@ -117,9 +117,9 @@ idle_phase (EndOffered interrupt) = false
 -- the density of the selected drive
 unfoldable pub density_now : Body → ℕ
 density_now b =
-    pick (eqb b.selected 0) b.drives.d0.density
-    (pick (eqb b.selected 1) b.drives.d1.density
-    (pick (eqb b.selected 2) b.drives.d2.density b.drives.d3.density))
+    pick (eqb b.selected 0) b.drives.zero.density
+    (pick (eqb b.selected 1) b.drives.one.density
+    (pick (eqb b.selected 2) b.drives.two.density b.drives.three.density))
 
 -- the two count bytes, and "MFM: then c bytes. GCR: n = c/256 rounded up blockettes", of 256 bytes, and two check
 -- blockettes; "c = 0 is two bytes"

@@ -1,7 +1,8 @@
 -- The data call and the result (document 01, Stores; Records), as far as they concern the state.
 -- Assumes nothing.
-use Rattle.std.specs.Prelude.{ℕ, List, length}
+use Rattle.std.specs.Prelude.{ℕ, List, Result as Step, length}
 use Rattle.common.specs.Space.{overwrite}
+use Rattle.common.specs.declared.refusals.Refusal.{Refusal}
 use Rattle.status.specs.declared.drives.Drive.{Drive}
 use Rattle.status.specs.Drives.{with_gap}
 use Rattle.operations.specs.declared.operation.Operation.{Operation}
@@ -13,8 +14,10 @@ use Rattle.transfers.specs.Data.{Host, write_image, data_check, settle_data}
 use Rattle.transfers.specs.Results.{Result, result_into, result_check_into, settle_result}
 use Rattle.link.specs.declared.state.Body.{Body}
 use Rattle.link.specs.State.{with_outcome, with_words, with_current_drive, current_drive}
-use Rattle.controller.specs.declared.controller.Reply.{Reply}
-use Rattle.controller.specs.declared.controller.Transfer.{Transfer}
+use Rattle.controller.specs.declared.controller.Controller.{Controller}
+use Rattle.controller.specs.declared.controller.Given.{Given}
+use Rattle.controller.specs.declared.controller.Reply.{Reply as Replied}
+use Rattle.controller.specs.Told.{Reply, Transfer, told_transfer, told_transfer_of}
 use Rattle.controller.specs.Controller.{carried}
 use Rattle.controller.specs.Stores.{order_move, end_operation}
 
@@ -26,9 +29,17 @@ pub record Answer : Type 0 where
   pub space : List ℕ
   pub check : List ℕ
 
--- the answer that a call's result is, with what the call left in the lent space and in the check store
-abbrev pub answered : Transfer → List ℕ → List ℕ → Answer
-answered t space check = record { reply = t.reply; bytes = t.bytes; space = space; check = check }
+-- the answer that this is, with what the call left in the lent space and in the check store
+abbrev pub answer_with : Transfer → List ℕ → List ℕ → Answer
+answer_with t space check = record { reply = t.reply; bytes = t.bytes; space = space; check = check }
+
+-- the answer that a call's result is
+abbrev pub answered : Replied Controller Given → List ℕ → List ℕ → Answer
+answered r space check = answer_with (told_transfer r) space check
+
+-- and that of a call in place, which leaves this state
+abbrev pub answered_in : Controller → Step Given Refusal → List ℕ → List ℕ → Answer
+answered_in c result space check = answer_with (told_transfer_of c result) space check
 
 -- the status words as they stand
 abbrev pub words_of : Body → Words

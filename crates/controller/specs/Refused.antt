@@ -3,7 +3,7 @@
 -- Assumes nothing.
 use Rattle.std.specs.Prelude.{◌≡◌, ℕ, List, []}
 use Rattle.link.specs.declared.state.Action.TheVariants.{Nothing}
-use Rattle.link.specs.declared.state.Handed.TheVariants.{NoneHanded}
+use Rattle.std.specs.Prelude.{None}
 use Rattle.controller.specs.declared.controller.Controller.{Controller}
 use Rattle.controller.specs.Records.{Answer}
 use Rattle.controller.specs.Machine.{Call, when_lent}
@@ -20,7 +20,7 @@ lent_check = when_lent (λ host space check. check) (λ r space check. check) []
 pub record Unchanged (c : Controller) (call : Call) (answer : Answer) : Type 0 where
   pub state : answer.reply.controller ≡ c
   pub action : answer.reply.action ≡ Nothing
-  pub handed : answer.reply.handed ≡ NoneHanded
+  pub handed : answer.reply.handed ≡ None
   pub bytes : answer.bytes ≡ 0
   pub space : answer.space ≡ lent_space call
   pub check : answer.check ≡ lent_check call

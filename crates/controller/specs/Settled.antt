@@ -4,8 +4,8 @@
 -- Assumes nothing.
 use Rattle.std.specs.Prelude.{◌≡◌, List, [], ◌∷◌}
 use Rattle.status.specs.declared.words.ResultRecord.{ResultRecord}
-use Rattle.link.specs.declared.state.Handed.{Handed}
-use Rattle.link.specs.declared.state.Handed.TheVariants.{NoneHanded, OneHanded}
+use Rattle.link.specs.State.{Handed}
+use Rattle.std.specs.Prelude.{None, Some}
 use Rattle.controller.specs.declared.controller.Controller.{Controller}
 use Rattle.controller.specs.Controller.{fresh}
 use Rattle.controller.specs.Machine.{Call, Exchange, when_lent}
@@ -26,8 +26,8 @@ pub record Settled (l : Ledger) (call : Call) (final : ResultRecord) : Type 0 wh
       (λ r space check. motion_made (operation_of l.store) l.store.first l.store.fourth final.code) 0 call
 
 unfoldable pub SettledBy : Ledger → Call → Handed → Type 0
-SettledBy l call (OneHanded final) = Settled l call final
-SettledBy l call NoneHanded = Unit
+SettledBy l call (Some final) = Settled l call final
+SettledBy l call None = Unit
 
 -- at every call of a list
 unfoldable pub SettledFrom : Ledger → Controller → List Exchange → Type 0

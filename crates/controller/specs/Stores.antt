@@ -21,8 +21,8 @@ use Rattle.operations.specs.Course.{course_of}
 use Rattle.link.specs.declared.state.Phase.TheVariants.{GoOffered, DataAwaited, ResultAwaited, EndOffered}
 use Rattle.link.specs.declared.state.Body.{Body}
 use Rattle.link.specs.declared.state.Action.TheVariants.{Nothing, Byte, Order}
-use Rattle.link.specs.declared.state.Handed.TheVariants.{NoneHanded, OneHanded}
-use Rattle.link.specs.declared.state.Transition.{Transition}
+use Rattle.std.specs.Prelude.{None, Some}
+use Rattle.link.specs.State.{Transition}
 use Rattle.link.specs.Bytes.{ack, go, end_of_record}
 use Rattle.link.specs.State.{with_selected, with_flags, with_outcome, with_current_drive, current_drive, reset_state}
 use Rattle.link.specs.Completion.{complete}
@@ -36,7 +36,7 @@ hand_back transition result =
       body = transition.body;
       phase = transition.phase;
       action = transition.action;
-      handed = OneHanded result;
+      handed = Some result;
     }
 
 -- a store is done, with the code that its record has, and completed
@@ -54,7 +54,7 @@ offer_end b store =
       body = b;
       phase = EndOffered (asks_interrupt store);
       action = Byte end_of_record;
-      handed = OneHanded b.outcome.result;
+      handed = Some b.outcome.result;
     }
 
 -- "Read, write and check bytes offer EOR when a result came"; the others are completed at once
@@ -76,17 +76,17 @@ order_move b operation store =
       body = b;
       phase = ResultAwaited operation store;
       action = Order (motion_order b operation store);
-      handed = NoneHanded;
+      handed = None;
     }
 
 -- "A write offers GO"
 abbrev pub offer_go : Body → Store → Transition
-offer_go b store = record { body = b; phase = GoOffered store; action = Byte go; handed = NoneHanded }
+offer_go b store = record { body = b; phase = GoOffered store; action = Byte go; handed = None }
 
 -- "Check bytes give no order but await a result."
 abbrev pub await_check_bytes : Body → Store → Transition
 await_check_bytes b store =
-    record { body = b; phase = ResultAwaited CheckBytes store; action = Nothing; handed = NoneHanded }
+    record { body = b; phase = ResultAwaited CheckBytes store; action = Nothing; handed = None }
 
 -- "Past the test, read, skip and write set secondary to 0."
 unfoldable pub past_test : Body → Operation → Body
@@ -108,7 +108,7 @@ no_to_go b store = offer_end (with_outcome b (with_code b.outcome no_go)) store
 
 -- "After a yes, the data call ..": it is awaited
 unfoldable pub yes_to_go : Body → Store → Transition
-yes_to_go b store = record { body = b; phase = DataAwaited store; action = Nothing; handed = NoneHanded }
+yes_to_go b store = record { body = b; phase = DataAwaited store; action = Nothing; handed = None }
 
 -- "anything but #06 is a no"
 unfoldable pub answer_to_go : Body → ℕ → Store → Transition

@@ -1,10 +1,14 @@
-// The state, and what a call hands back. The state goes into a call by value and comes back.
-ghost use Rattle.std.specs.Prelude.{◌≡◌};
-ghost use Rattle.controller.specs.Controller.{fresh, is_idle, carried, refused};
+//! The state, and what a call hands back.
+ghost use Rattle.std.specs.Prelude.{◌≡◌, true, false, OnOk, IfErr, None};
+ghost use Rattle.common.specs.declared.refusals.Refusal.TheVariants.{StateDamaged, NotIdle};
+ghost use Rattle.link.specs.Damaged.{is_sound};
+ghost use Rattle.controller.specs.Controller.{fresh, is_idle};
+ghost use Rattle.controller.specs.Machine.{is_damaged};
 
-use link::body::start_body;
-use link::state::{Action, Body, Handed, Phase, Transition, nothing_collected};
+use common::refusals::Refusal;
+use link::state::{Action, Body, Collected, Phase};
 use status::drives::fresh_drives;
+use status::words::ResultRecord;
 
 #[derive(Clone, Copy)]
 pub struct Controller {
@@ -12,74 +16,87 @@ pub struct Controller {
     pub phase: Phase,
 }
 
-// What a call hands back. The refusal is document 01's number, 0 where the call is carried out; the record is that of a
-// store whose code the call settled.
+/// What a call that is carried out has its caller do, and the record of a store whose code it settled.
 #[derive(Clone, Copy)]
-pub struct Reply {
-    pub controller: Controller,
+pub struct Answer {
     pub action: Action,
-    pub refusal: u32,
-    pub handed: Handed,
+    pub handed: Option<ResultRecord>,
 }
 
-// What a data or result call hands back: the reply, and how many bytes of the lent space it gives (the image's, or
-// those delivered).
+// An action where no code is settled.
+impl From<Action> for Answer {
+    ghost from_gives = { λ action answer. answer ≡ record { action = action; handed = None } };
+
+    fn from(action: Action) -> Answer {
+        Answer {
+            action,
+            handed: None,
+        }
+    }
+}
+
+/// The same of a call that is lent space, and how many bytes of it the call gives (the image's, or those delivered).
 #[derive(Clone, Copy)]
-pub struct Transfer {
-    pub reply: Reply,
+pub struct Given {
+    pub answer: Answer,
     pub bytes: usize,
 }
 
-// A fresh controller.
-#[tactic(auto, unfolding(crate::specs::Controller::fresh))]
-pub fn fresh_controller() -> Controller
-    ensures { result ≡ fresh }
-{
-    let body = start_body(fresh_drives());
-    let string = nothing_collected();
-    Controller {
-        body,
-        phase: Phase::Collecting(string),
+/// What a call hands back: the next state, which is the one that came where the call is refused, and its answer.
+#[derive(Clone, Copy)]
+pub struct Reply<S, A = Answer> {
+    pub state: S,
+    pub answer: Result<A, Refusal>,
+}
+
+impl Controller {
+    /// A fresh one.
+    #[tactic(auto, unfolding(crate::specs::Controller::fresh))]
+    pub fn fresh() -> Controller
+        ensures { result ≡ fresh }
+    {
+        Controller {
+            body: Body::start(fresh_drives()),
+            phase: Phase::Collecting(Collected::default()),
+        }
     }
-}
 
-// Whether nothing is collected, and nothing offered, sent or awaited either.
-#[tactic(auto, unfolding(crate::specs::Controller::is_idle_in))]
-pub fn is_idle(c: Controller) -> bool
-    ensures { result ≡ is_idle c }
-{
-    let phase = c.phase;
-    let Phase::Collecting(string) = phase else {
-        return false;
-    };
-    string.length == 0
-}
-
-// A call that is carried out.
-pub fn carried(transition: Transition) -> Reply
-    ensures { result ≡ carried transition }
-{
-    let body = transition.body;
-    let phase = transition.phase;
-    let action = transition.action;
-    let handed = transition.handed;
-    Reply {
-        controller: Controller { body, phase },
-        action,
-        refusal: 0,
-        handed,
+    /// Whether nothing is collected, and nothing offered, sent or awaited either.
+    #[tactic(auto, unfolding(crate::specs::Controller::is_idle_in))]
+    pub fn is_idle(self) -> bool
+        ensures { result ≡ is_idle self }
+    {
+        matches!(self.phase, Phase::Collecting(string) if string.length == 0)
     }
-}
 
-// A call that is refused.
-pub fn refused(number: u32, c: Controller) -> Reply
-    ensures { result ≡ refused number c }
-{
-    // the state goes back as it came
-    Reply {
-        controller: c,
-        action: Action::Nothing,
-        refusal: number,
-        handed: Handed::NoneHanded,
+    /// Whether a field of the state is out of range.
+    pub fn is_damaged(self) -> bool
+        ensures { result ≡ is_damaged self }
+    {
+        !self.body.is_sound(self.phase)
+    }
+
+    /// Refused where one is.
+    pub fn check_sound(self) -> Result<(), Refusal>
+        ensures sound { OnOk result (is_sound self.body self.phase ≡ true) }
+        ensures damaged { IfErr result (λ refusal. (refusal ≡ StateDamaged) × (is_sound self.body self.phase ≡ false)) }
+    {
+        if self.body.is_sound(self.phase) {
+            Ok(())
+        } else {
+            Err(Refusal::StateDamaged)
+        }
+    }
+
+    /// Refused unless idle.
+    pub fn check_idle(self) -> Result<(), Refusal>
+        ensures idle { OnOk result (is_idle self ≡ true) }
+        ensures busy { IfErr result (λ refusal. (refusal ≡ NotIdle) × (is_idle self ≡ false)) }
+    {
+        if self.is_idle() {
+            Ok(())
+        } else {
+            Err(Refusal::NotIdle)
+        }
     }
 }

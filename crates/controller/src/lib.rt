@@ -1,4 +1,4 @@
-// The controller: the state, what stores ask for, and the calls.
+//! The controller: the state, what stores ask for, and the calls.
 #![tactic(auto)]
 
 pub mod controller;

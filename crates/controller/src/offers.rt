@@ -1,58 +1,46 @@
-// The EOR that ends an operation, and the host's answers to GO.
-ghost use Rattle.std.specs.Prelude.{◌≡◌};
-ghost use Rattle.controller.specs.Stores.{offer_end, no_to_go, yes_to_go, answer_to_go};
+//! The EOR that ends an operation, and the host's answers to GO.
+ghost use Rattle.std.specs.Prelude.{◌≡◌, Ok};
+ghost use Rattle.controller.specs.Told.{told_of};
+ghost use Rattle.controller.specs.Controller.{carried};
+ghost use Rattle.controller.specs.Stores.{offer_end, no_to_go, answer_to_go};
 
+use crate::controller::{Answer, Controller};
 use link::bytes::{ACK, END_OF_RECORD};
-use link::state::{Action, Body, Handed, Phase, Transition};
+use link::state::{Action, Phase};
 use operations::after::with_code;
 use operations::codes::NO_GO;
-use operations::store::{Store, asks_interrupt};
+use operations::store::Store;
 
-// EOR is offered: the code is settled, and the store's record handed back.
-pub fn offer_end(b: Body, store: Store) -> Transition
-    ensures { result ≡ offer_end b store }
-{
-    let asked = asks_interrupt(store);
-    let result = b.outcome.result;
-    Transition {
-        body: b,
-        phase: Phase::EndOffered(asked),
-        action: Action::Byte(END_OF_RECORD),
-        handed: Handed::OneHanded(result),
+impl Controller {
+    /// EOR is offered: the code is settled, and the store's record handed back.
+    pub fn offer_end(&mut self, store: Store) -> Answer
+        ensures { told_of self.new (Ok result) ≡ carried (offer_end self.old.body store) }
+    {
+        self.phase = Phase::EndOffered(store.asks_interrupt());
+        Answer {
+            action: Action::Byte(END_OF_RECORD),
+            handed: Some(self.body.outcome.result),
+        }
     }
-}
 
-// GO is answered by a no: EOR is offered.
-#[tactic(auto, unfolding(crate::specs::Stores::no_to_go))]
-pub fn no_to_go(mut b: Body, store: Store) -> Transition
-    ensures { result ≡ no_to_go b store }
-{
-    let coded = with_code(b.outcome, NO_GO);
-    b.outcome = coded;
-    offer_end(b, store)
-}
-
-// GO is answered by a yes: the data call is awaited.
-#[tactic(auto, unfolding(crate::specs::Stores::yes_to_go))]
-fn yes_to_go(b: Body, store: Store) -> Transition
-    ensures { result ≡ yes_to_go b store }
-{
-    Transition {
-        body: b,
-        phase: Phase::DataAwaited(store),
-        action: Action::Nothing,
-        handed: Handed::NoneHanded,
+    /// GO is answered by a no: EOR is offered.
+    #[tactic(auto, unfolding(crate::specs::Stores::no_to_go))]
+    pub fn no_to_go(&mut self, store: Store) -> Answer
+        ensures { told_of self.new (Ok result) ≡ carried (no_to_go self.old.body store) }
+    {
+        self.body.outcome = with_code(self.body.outcome, NO_GO);
+        self.offer_end(store)
     }
-}
 
-// A byte that answers GO.
-#[tactic(auto, unfolding(crate::specs::Stores::answer_to_go, common::specs::Pick::pick))]
-pub fn answer_to_go(b: Body, byte: u8, store: Store) -> Transition
-    ensures { result ≡ answer_to_go b byte store }
-{
-    let yes = byte == ACK;
-    if yes {
-        return yes_to_go(b, store);
+    /// A byte that answers GO: by a yes, and the data call is awaited, or by a no.
+    #[tactic(auto, unfolding(crate::specs::Stores::answer_to_go, crate::specs::Stores::yes_to_go, common::specs::Pick::pick))]
+    pub fn answer_to_go(&mut self, byte: u8, store: Store) -> Answer
+        ensures { told_of self.new (Ok result) ≡ carried (answer_to_go self.old.body byte store) }
+    {
+        if byte == ACK {
+            self.phase = Phase::DataAwaited(store);
+            return Answer::from(Action::Nothing);
+        }
+        self.no_to_go(store)
     }
-    no_to_go(b, store)
 }

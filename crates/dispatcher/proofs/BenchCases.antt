@@ -68,7 +68,7 @@ selections (x ∷ xs) = at_hand x.call x.answer.reply.dispatcher.controller.body
 
 abbrev tracks : List Exchange → List ℕ
 tracks [] = []
-tracks (x ∷ xs) = at_hand x.call x.answer.reply.dispatcher.controller.body.drives.d0.track (tracks xs)
+tracks (x ∷ xs) = at_hand x.call x.answer.reply.dispatcher.controller.body.drives.zero.track (tracks xs)
 
 -- all refusals
 abbrev refusals : List Exchange → List ℕ

@@ -61,7 +61,7 @@ use Rattle.dispatcher.proofs.JobsAreALedger.{agrees, is_ledger, sound_kept, kept
 use Rattle.dispatcher.proofs.JobsAreALedger.{fresh_is_ledger, kept_after, ledger_kept, sent_run}
 use Rattle.dispatcher.proofs.InTurn.{works}
 use Rattle.dispatcher.proofs.DrivesAreSeparate.{drives_are_separate}
-use Rattle.dispatcher.proofs.dispatcher.fresh_dispatcher.Reads as fresh-reads
+use Rattle.dispatcher.proofs.dispatcher.Dispatcher.fresh.Reads as fresh-reads
 use Rattle.dispatcher.proofs.Demands.Contracts.{Allows, IsCall, Meet, all_met, answers_are_steps}
 use Rattle.dispatcher.proofs.Demands.Contracts.{steps_are_allowed}
 

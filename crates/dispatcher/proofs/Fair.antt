@@ -14,7 +14,7 @@ use Rattle.common.specs.Pick.{pick}
 use Rattle.common.proofs.PickLaws.{by_test, pick_yes, pick_no, pick_both}
 use Rattle.operations.specs.declared.store.Store.{Store}
 use Rattle.queues.specs.declared.jobs.Queues.{Queues}
-use Rattle.queues.specs.declared.jobs.Turn.TheVariants.{Nobody, Job}
+use Rattle.std.specs.Prelude.{None, Some}
 use Rattle.queues.specs.Jobs.{queued, next_store, served}
 use Rattle.queues.proofs.WaitingLaws.{waiting, AllKept, waits_some, queued_same, queued_other, queued_last, next_first}
 use Rattle.queues.proofs.WaitingLaws.{served_same, served_other, served_last}
@@ -33,10 +33,10 @@ use Rattle.dispatcher.proofs.InOrder.{handed_at, none_handed, first_handed, kept
 abbrev handing_at : Exchange → ℕ
 handing_at x = pick (not_refused x) (is_handing x.call) 0
 
-job_same : (a b : ℕ) → Job a ≡ Job b → a ≡ b
+job_same : (a b : ℕ) → Some a ≡ Some b → a ≡ b
 job_same a b e = cc
 
-job_some : {A : Type 0} (b : ℕ) → Nobody ≡ Job b → A
+job_some : {A : Type 0} (b : ℕ) → None ≡ Some b → A
 job_some b e = let z : ◌≡◌ {A = ℕ} 0 1 = cc in absurd (omega arith)
 
 module _ (job : ℕ) (within : job ≤ 3) where

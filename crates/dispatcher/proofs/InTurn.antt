@@ -27,13 +27,13 @@ use Rattle.controller.specs.Machine as machine
 use Rattle.controller.specs.Separation.{asks_reset}
 use Rattle.controller.proofs.Asking.{by_asked}
 use Rattle.controller.proofs.IdleLaws.{hand_by_idle}
-use Rattle.queues.specs.declared.jobs.Turn.{Turn}
-use Rattle.queues.specs.declared.jobs.Turn.TheVariants.{Nobody, Job}
+use Rattle.queues.specs.Jobs.{Turn}
+use Rattle.std.specs.Prelude.{None, Some}
 use Rattle.queues.specs.Jobs.{are_sound, queue_of, turn_of, next_store}
 use Rattle.queues.proofs.JobLaws.{turn_served}
 use Rattle.queues.proofs.WaitingLaws.{AllKept, waiting_length}
 use Rattle.dispatcher.specs.declared.dispatcher.Dispatcher.{Dispatcher}
-use Rattle.dispatcher.specs.declared.dispatcher.Dispatched.{Dispatched}
+use Rattle.dispatcher.specs.Told.{Dispatched}
 use Rattle.dispatcher.specs.Dispatcher.{is_whole, is_reset_store, queue_refusal, queue_call, hand_over}
 use Rattle.dispatcher.specs.Dispatcher.{hand_turn, hand_call}
 use Rattle.dispatcher.specs.Lists.{Call, plain, step, run}
@@ -191,8 +191,8 @@ module _ (d : Dispatcher) (l : JobLedger) (kept : AllKept d.queues) (same : Agre
 
   turn_accepted : is_whole d ≡ true → is_idle d.controller ≡ true → (t : Turn) → (hand_turn d t).refusal ≡ 0
   unfolding hand_turn
-  turn_accepted whole idle Nobody = refl
-  turn_accepted whole idle (Job job) = eqb-true _ 0 (hand_accepted d job whole idle)
+  turn_accepted whole idle None = refl
+  turn_accepted whole idle (Some job) = eqb-true _ 0 (hand_accepted d job whole idle)
 
   idle_accepted : is_whole d ≡ true → is_idle d.controller ≡ true → handing.refusal ≡ 0
   idle_accepted whole idle =
@@ -214,23 +214,23 @@ module _ (d : Dispatcher) (l : JobLedger) (kept : AllKept d.queues) (same : Agre
   some_next store none some = let z : ◌≡◌ {A = ℕ} 0 1 = ap length (sym none ∙ some) in omega arith
 
   module _ (whole : is_whole d ≡ true) (idle : is_idle d.controller ≡ true) where
-    job_store : (job : ℕ) → turn_of d.queues ≡ Job job → next l ≡ next_store d.queues job ∷ []
+    job_store : (job : ℕ) → turn_of d.queues ≡ Some job → next l ≡ next_store d.queues job ∷ []
     job_store job is =
         let served = turn_served d.queues (whole_ranges d whole).last job is in
         store_next d.queues l kept same job (omega (arith, served.low)) served.some is
 
     by_nothing : next l ≡ [] → (t : Turn) → turn_of d.queues ≡ t → Unchanged d hand (plain (hand_turn d t))
     unfolding hand_turn lent_space lent_check
-    by_nothing none Nobody is =
+    by_nothing none None is =
         record { state = refl; action = refl; handed = refl; bytes = refl; space = refl; check = refl }
-    by_nothing none (Job job) is = absurd (some_next _ none (job_store job is))
+    by_nothing none (Some job) is = absurd (some_next _ none (job_store job is))
 
     by_store : (store : Store) → next l ≡ store ∷ [] → (t : Turn) → turn_of d.queues ≡ t
         → AsTaken d.controller store (plain (hand_turn d t))
     unfolding hand_turn hand_over machine.step is_whole
-    by_store store some Nobody is unused check =
+    by_store store some None is unused check =
         absurd (some_next store (no_store_next d.queues l kept same is) some)
-    by_store store some (Job job) is unused check =
+    by_store store some (Some job) is unused check =
         let c = d.controller in
         let own : next_store d.queues job ≡ store = same_first (sym (job_store job is) ∙ some) in
         let sound = not-false (is_sound c.body c.phase)

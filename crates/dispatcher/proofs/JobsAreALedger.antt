@@ -19,8 +19,8 @@ use Rattle.controller.specs.Lists as lists
 use Rattle.controller.specs.Ledger.{entered}
 use Rattle.queues.specs.declared.queue.Queue.{Queue}
 use Rattle.queues.specs.declared.jobs.Queues.{Queues}
-use Rattle.queues.specs.declared.jobs.Turn.{Turn}
-use Rattle.queues.specs.declared.jobs.Turn.TheVariants.{Nobody, Job}
+use Rattle.queues.specs.Jobs.{Turn}
+use Rattle.std.specs.Prelude.{None, Some}
 use Rattle.queues.specs.Queue.{empty_queue, waiting_in}
 use Rattle.queues.specs.Jobs.{fresh_queues, queue_of, waits, turn_of, queued, next_store, served}
 use Rattle.queues.proofs.JobLaws.{Served}
@@ -113,8 +113,8 @@ fresh_sound =
 
 -- a turn as the ledger has it
 unfoldable job_of : Turn → List ℕ
-job_of Nobody = []
-job_of (Job job) = job ∷ []
+job_of None = []
+job_of (Some job) = job ∷ []
 
 positive : (n : ℕ) → ltb 0 n ≡ not (eqb n 0)
 positive n =
@@ -125,7 +125,7 @@ positive n =
     some ne = omega arith
 
 one_turn : (some none : Bool) (job : ℕ) (t : Turn) (others : List ℕ) → some ≡ not none → job_of t ≡ others
-    → job_of (pick some (Job job) t) ≡ pick none others (job ∷ [])
+    → job_of (pick some (Some job) t) ≡ pick none others (job ∷ [])
 unfolding pick job_of
 one_turn some true job t others e same = rw e same
 one_turn some false job t others e same = rw e refl
@@ -146,29 +146,29 @@ module _ (queues : Queues) (l : JobLedger) (kept : AllKept queues) (same : Agree
       let round : (last + 4) % 4 ≡ last = omega (arith, kept.low) in
       let own : waits queues last ≡ not (eqb (length (l.waiting ((last + 4) % 4))) 0) =
       waits_is last (omega (arith, kept.low)) ∙ ap (λ (n : ℕ). not (eqb (length (l.waiting n)) 0)) (sym round) in
-      let fourth : job_of (pick (waits queues last) (Job last) Nobody)
+      let fourth : job_of (pick (waits queues last) (Some last) None)
       ≡ first_waiting l.waiting ((last + 4) % 4 ∷ []) =
-      one_turn _ _ last Nobody [] own refl
+      one_turn _ _ last None [] own refl
       ∙ ap (λ (n : ℕ). pick (eqb (length (l.waiting ((last + 4) % 4))) 0) [] (n ∷ [])) (sym round) in
       one_turn _ _ _ _ _ (waits_is _ (omega arith))
       (one_turn _ _ _ _ _ (waits_is _ (omega arith))
       (one_turn _ _ _ _ _ (waits_is _ (omega arith)) fourth))
       ∙ ap (λ (n : ℕ). first_waiting l.waiting (from_last n)) same.last
 
-  pub nobody_next : turn_of queues ≡ Nobody → in_turn l ≡ []
+  pub nobody_next : turn_of queues ≡ None → in_turn l ≡ []
   unfolding job_of
   nobody_next is = sym turn_is ∙ ap job_of is
 
-  pub job_next : (job : ℕ) → turn_of queues ≡ Job job → in_turn l ≡ job ∷ []
+  pub job_next : (job : ℕ) → turn_of queues ≡ Some job → in_turn l ≡ job ∷ []
   unfolding job_of
   job_next job is = sym turn_is ∙ ap job_of is
 
   -- the store that is next
-  pub no_store_next : turn_of queues ≡ Nobody → next l ≡ []
+  pub no_store_next : turn_of queues ≡ None → next l ≡ []
   unfolding first_of
   no_store_next is = ap (first_of l.waiting) (nobody_next is)
 
-  pub store_next : (job : ℕ) → job ≤ 3 → waits queues job ≡ true → turn_of queues ≡ Job job
+  pub store_next : (job : ℕ) → job ≤ 3 → waits queues job ≡ true → turn_of queues ≡ Some job
       → next l ≡ next_store queues job ∷ []
   unfolding first_of
   store_next job low some is =
@@ -207,13 +207,13 @@ refused_sends l d call number own some =
 
 -- a handing with nothing queued: nothing
 pub nothing_sends : (l : JobLedger) (d : Dispatcher) → AllKept d.queues → Agrees d.queues l
-    → turn_of d.queues ≡ Nobody → sent_of l (exchanged hand (plain (unchanged 0 d))) ≡ []
+    → turn_of d.queues ≡ None → sent_of l (exchanged hand (plain (unchanged 0 d))) ≡ []
 unfolding not_refused sent_by sent_at pick
 nothing_sends l d kept same is = ap (sent_at (plain (unchanged 0 d))) (no_store_next d.queues l kept same is)
 
 -- and else the store whose turn it is
 pub hand_sends : (l : JobLedger) (d : Dispatcher) → AllKept d.queues → Agrees d.queues l
-    → (job : ℕ) → is_whole d ≡ true → is_idle d.controller ≡ true → turn_of d.queues ≡ Job job
+    → (job : ℕ) → is_whole d ≡ true → is_idle d.controller ≡ true → turn_of d.queues ≡ Some job
     → Served d.queues job
     → sent_of l (exchanged hand (plain (hand_over d job)))
     ≡ own_exchange (machine.hand (next_store d.queues job)) (plain (hand_over d job)) ∷ []

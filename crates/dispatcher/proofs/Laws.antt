@@ -12,7 +12,7 @@ use Rattle.link.specs.declared.state.Phase.{Phase}
 use Rattle.link.proofs.PhaseLaws.{each_phase}
 use Rattle.link.specs.Damaged.{is_sound}
 use Rattle.controller.specs.declared.controller.Controller.{Controller}
-use Rattle.controller.specs.declared.controller.Reply.{Reply}
+use Rattle.controller.specs.Told.{Reply}
 use Rattle.controller.specs.Machine as machine
 use Rattle.queues.specs.Jobs.{are_sound, queue_of}
 use Rattle.queues.proofs.JobLaws.{Ranges, sound_ranges}

@@ -1,3 +1,5 @@
+pub mod ToldLaws
+pub mod ToldAnswers
 pub mod Laws
 pub mod Steps
 pub mod RefusedCalls

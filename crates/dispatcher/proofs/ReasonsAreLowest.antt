@@ -28,12 +28,12 @@ use Rattle.controller.proofs.LowestLaws.{first_of, rising, first_is_lowest}
 use Rattle.controller.proofs.ReasonsAreLowest as controller-lowest
 use Rattle.queues.specs.declared.queue.Queue.{Queue}
 use Rattle.queues.specs.declared.jobs.Queues.{Queues}
-use Rattle.queues.specs.declared.jobs.Turn.{Turn}
-use Rattle.queues.specs.declared.jobs.Turn.TheVariants.{Nobody, Job}
+use Rattle.queues.specs.Jobs.{Turn}
+use Rattle.std.specs.Prelude.{None, Some}
 use Rattle.queues.specs.Jobs.{are_sound, queue_of, turn_of}
 use Rattle.dispatcher.specs.declared.dispatcher.Dispatcher.{Dispatcher}
-use Rattle.dispatcher.specs.declared.dispatcher.Dispatched.{Dispatched}
-use Rattle.dispatcher.specs.Dispatcher.{unchanged, answer_with_queues, answered, unchanged_transfer, is_whole}
+use Rattle.dispatcher.specs.Told.{Dispatched}
+use Rattle.dispatcher.specs.Dispatcher.{unchanged, answer_with_queues, answer_with, unchanged_transfer, is_whole}
 use Rattle.dispatcher.specs.Dispatcher.{is_reset_store, queue_refusal, queue_call, hand_turn, hand_call, passed_answer}
 use Rattle.dispatcher.specs.Lists.{Call, step}
 use Rattle.dispatcher.specs.Lists.Call.{queue, hand, passed}
@@ -48,7 +48,8 @@ unfolding are_sound queues_in_range
 sound_queues q =
     ap
     (λ (t : Bool).
-    (((leb q.q0.length 8 && leb q.q1.length 8) && leb q.q2.length 8) && leb q.q3.length 8) && t)
+    (((leb q.jobs.zero.length 8 && leb q.jobs.one.length 8) && leb q.jobs.two.length 8) && leb q.jobs.three.length 8)
+    && t)
     (by_test (leb q.last 3)
     (λ low. let below = leb-true q.last 3 low in lt-ltb q.last 4 (omega arith) ∙ sym low)
     (λ high. let above = leb-false q.last 3 high in le-ltb q.last 4 (omega arith) ∙ sym high))
@@ -122,10 +123,10 @@ length_of false q r = refl
 queue_length_lem : (q : Queues) (job : ℕ) → (queue_of q job).length ≡ queue_length q job
 unfolding queue_of queue_length
 queue_length_lem q job =
-    length_of (eqb job 0) q.q0 _
-    ∙ ap (pick (eqb job 0) q.q0.length)
-    (length_of (eqb job 1) q.q1 _
-    ∙ ap (pick (eqb job 1) q.q1.length) (length_of (eqb job 2) q.q2 q.q3))
+    length_of (eqb job 0) q.jobs.zero _
+    ∙ ap (pick (eqb job 0) q.jobs.zero.length)
+    (length_of (eqb job 1) q.jobs.one _
+    ∙ ap (pick (eqb job 1) q.jobs.one.length) (length_of (eqb job 2) q.jobs.two q.jobs.three))
 
 kept : (number : ℕ) (done left : Dispatched) → done.refusal ≡ 0 → left.refusal ≡ number
     → (pick (eqb number 0) done left).refusal ≡ number
@@ -163,8 +164,8 @@ idle_in =
 turn_taken : (d : Dispatcher) (turn : Turn) → is_whole d ≡ true → is_idle d.controller ≡ true
     → (hand_turn d turn).refusal ≡ 0
 unfolding hand_turn
-turn_taken d Nobody whole idle = refl
-turn_taken d (Job job) whole idle = eqb-true _ 0 (hand_accepted d job whole idle)
+turn_taken d None whole idle = refl
+turn_taken d (Some job) whole idle = eqb-true _ 0 (hand_accepted d job whole idle)
 
 by_two : (whole idle : Bool) (d : Dispatcher) (done : Dispatched) → (whole ≡ true → idle ≡ true → done.refusal ≡ 0)
     → (pick whole (pick idle done (unchanged 4 d)) (unchanged 1 d)).refusal ≡ pick (not whole) 1 (pick (not idle) 4 0)
@@ -207,7 +208,7 @@ gains false t own n is =
     or_else false b holds = holds
 
 by_queues : (t : Bool) (d : Dispatcher) (a : records.Answer) (space check : List ℕ)
-    → (pick t (answer_with_queues d.queues a) (answered (unchanged_transfer 1 d) space check)).reply.refusal
+    → (pick t (answer_with_queues d.queues a) (answer_with (unchanged_transfer 1 d) space check)).reply.refusal
     ≡ pick t a.reply.refusal 1
 unfolding pick
 by_queues true d a space check = refl

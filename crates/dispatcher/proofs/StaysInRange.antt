@@ -21,14 +21,15 @@ use Rattle.controller.specs.Controller.{is_idle}
 use Rattle.controller.specs.Machine as machine
 use Rattle.controller.proofs.StaysInRange as controller-stays
 use Rattle.queues.specs.declared.queue.Queue.{Queue}
+use Rattle.common.specs.declared.four.Four.{Four}
 use Rattle.queues.specs.declared.jobs.Queues.{Queues}
-use Rattle.queues.specs.declared.jobs.Turn.{Turn}
-use Rattle.queues.specs.declared.jobs.Turn.TheVariants.{Nobody, Job}
+use Rattle.queues.specs.Jobs.{Turn}
+use Rattle.std.specs.Prelude.{None, Some}
 use Rattle.queues.specs.Queue.{no_store, empty_queue, with_store, without_first}
 use Rattle.queues.specs.Jobs.{fresh_queues, are_sound, queue_of, with_queue, turn_of, queued, next_store, served}
 use Rattle.queues.proofs.JobLaws.{turn_served}
 use Rattle.dispatcher.specs.declared.dispatcher.Dispatcher.{Dispatcher}
-use Rattle.dispatcher.specs.declared.dispatcher.Dispatched.{Dispatched}
+use Rattle.dispatcher.specs.Told.{Dispatched}
 use Rattle.dispatcher.specs.Dispatcher.{fresh_dispatcher, unchanged, is_whole, is_reset_store, queue_refusal}
 use Rattle.dispatcher.specs.Dispatcher.{queue_call, hand_over, hand_turn, hand_call, passed_answer}
 use Rattle.dispatcher.specs.Lists.{Call, plain, step, run, after}
@@ -123,11 +124,12 @@ with_queue_lem : (queues : Queues) (job : ℕ) (q : Queue) → QueuesInRange que
     → QueuesInRange (with_queue queues job q)
 unfolding with_queue
 with_queue_lem queues job q all one =
-    pick_by (λ (x : Queues). QueuesInRange x) (eqb job 0)
+    let With : Four Queue → Type 0 = λ jobs. QueuesInRange (record { jobs = jobs; last = queues.last }) in
+    pick_by With (eqb job 0)
     (λ e. record { q0 = one; q1 = all.q1; q2 = all.q2; q3 = all.q3; last = all.last })
-    (λ e. pick_by (λ (x : Queues). QueuesInRange x) (eqb job 1)
+    (λ e. pick_by With (eqb job 1)
     (λ f. record { q0 = all.q0; q1 = one; q2 = all.q2; q3 = all.q3; last = all.last })
-    (λ f. pick_by (λ (x : Queues). QueuesInRange x) (eqb job 2)
+    (λ f. pick_by With (eqb job 2)
     (λ g. record { q0 = all.q0; q1 = all.q1; q2 = one; q3 = all.q3; last = all.last })
     (λ g. record { q0 = all.q0; q1 = all.q1; q2 = all.q2; q3 = one; last = all.last })))
 
@@ -155,10 +157,10 @@ unfolding are_sound
 sound_queues queues all =
     let low = all.last in
     simp (
-      le-leb queues.q0.length 8 all.q0.waiting,
-      le-leb queues.q1.length 8 all.q1.waiting,
-      le-leb queues.q2.length 8 all.q2.waiting,
-      le-leb queues.q3.length 8 all.q3.waiting,
+      le-leb queues.jobs.zero.length 8 all.q0.waiting,
+      le-leb queues.jobs.one.length 8 all.q1.waiting,
+      le-leb queues.jobs.two.length 8 all.q2.waiting,
+      le-leb queues.jobs.three.length 8 all.q3.waiting,
       lt-ltb queues.last 4 (omega arith),
     )
 
@@ -230,8 +232,8 @@ module _ (d : Dispatcher) (fine : InRange d) where
 
   turn_kept : (t : Turn) → turn_of d.queues ≡ t → Kept (hand_turn d t)
   unfolding hand_turn
-  turn_kept Nobody is = unchanged_kept 0 d (omega arith) (λ e. omega arith) fine
-  turn_kept (Job job) is =
+  turn_kept None is = unchanged_kept 0 d (omega arith) (λ e. omega arith) fine
+  turn_kept (Some job) is =
       let low = fine.queues.last in
       let due = (turn_served d.queues (omega arith) job is).low in
       handed_over job (omega arith)

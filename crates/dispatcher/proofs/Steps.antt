@@ -9,12 +9,12 @@ use borrow.Author.Tests.{eqb-true}
 use Rattle.common.proofs.PickLaws.{pick_by}
 use Rattle.operations.specs.declared.store.Store.{Store}
 use Rattle.controller.specs.Machine as machine
-use Rattle.queues.specs.declared.jobs.Turn.{Turn}
-use Rattle.queues.specs.declared.jobs.Turn.TheVariants.{Nobody, Job}
+use Rattle.queues.specs.Jobs.{Turn}
+use Rattle.std.specs.Prelude.{None, Some}
 use Rattle.queues.specs.Jobs.{are_sound, turn_of, queued}
 use Rattle.queues.proofs.JobLaws.{Served, turn_served}
 use Rattle.dispatcher.specs.declared.dispatcher.Dispatcher.{Dispatcher}
-use Rattle.dispatcher.specs.declared.dispatcher.Dispatched.{Dispatched}
+use Rattle.dispatcher.specs.Told.{Dispatched}
 use Rattle.dispatcher.specs.Dispatcher.{Answer, unchanged}
 use Rattle.dispatcher.specs.Dispatcher.{is_whole, queue_refusal, queue_call, hand_over, hand_turn}
 use Rattle.dispatcher.specs.Dispatcher.{hand_call, passed_answer}
@@ -61,12 +61,12 @@ OfQueueing P =
 
 -- a handing with nothing queued
 abbrev pub OfNothing : Claim → Type 0
-OfNothing P = (d : Dispatcher) → turn_of d.queues ≡ Nobody → P d (exchanged hand (plain (unchanged 0 d)))
+OfNothing P = (d : Dispatcher) → turn_of d.queues ≡ None → P d (exchanged hand (plain (unchanged 0 d)))
 
 -- a handing of the store whose turn it is
 abbrev pub OfHandings : Claim → Type 0
 OfHandings P =
-    (d : Dispatcher) (job : ℕ) → is_whole d ≡ true → is_idle d.controller ≡ true → turn_of d.queues ≡ Job job
+    (d : Dispatcher) (job : ℕ) → is_whole d ≡ true → is_idle d.controller ≡ true → turn_of d.queues ≡ Some job
     → Served d.queues job
     → P d (exchanged hand (plain (hand_over d job)))
 
@@ -81,8 +81,8 @@ module _ (P : Claim) (kinds : Kinds P) (d : Dispatcher) where
   hand_turn_lem : is_whole d ≡ true → is_idle d.controller ≡ true → (t : Turn) → turn_of d.queues ≡ t
       → P d (exchanged hand (plain (hand_turn d t)))
   unfolding hand_turn
-  hand_turn_lem whole idle Nobody is = kinds.nothing d is
-  hand_turn_lem whole idle (Job job) is =
+  hand_turn_lem whole idle None is = kinds.nothing d is
+  hand_turn_lem whole idle (Some job) is =
       kinds.hands d job whole idle is (turn_served d.queues (whole_ranges d whole).last job is)
 
   -- each call is of one of these kinds

@@ -11,12 +11,12 @@ use borrow.Author.Tests.{eqb-true, eqb-false}
 use Rattle.common.proofs.PickLaws.{pick_by, pick_no}
 use Rattle.operations.specs.declared.store.Store.{Store}
 use Rattle.controller.specs.Machine as machine
-use Rattle.queues.specs.declared.jobs.Turn.{Turn}
-use Rattle.queues.specs.declared.jobs.Turn.TheVariants.{Nobody}
+use Rattle.queues.specs.Jobs.{Turn}
+use Rattle.std.specs.Prelude.{None}
 use Rattle.queues.specs.Jobs.{fresh_queues, are_sound, queue_of, turn_of}
 use Rattle.queues.proofs.WaitingLaws.{waiting, fresh_waiting}
 use Rattle.dispatcher.specs.declared.dispatcher.Dispatcher.{Dispatcher}
-use Rattle.dispatcher.specs.declared.dispatcher.Dispatched.{Dispatched}
+use Rattle.dispatcher.specs.Told.{Dispatched}
 use Rattle.dispatcher.specs.Dispatcher.{Answer, fresh_dispatcher, is_whole, queue_refusal, queue_call, hand_turn}
 use Rattle.dispatcher.specs.Dispatcher.{hand_call, passed_answer}
 use Rattle.controller.specs.Controller.{is_idle}
@@ -25,7 +25,7 @@ use Rattle.dispatcher.specs.Lists.Call.{queue, hand, passed}
 use Rattle.dispatcher.proofs.Laws.{queue_room}
 use Rattle.dispatcher.proofs.Steps.{passed_queues}
 use Rattle.dispatcher.proofs.Demands.Contracts.{Allows, answers_are_steps}
-use Rattle.dispatcher.proofs.dispatcher.fresh_dispatcher.Reads as fresh-reads
+use Rattle.dispatcher.proofs.dispatcher.Dispatcher.fresh.Reads as fresh-reads
 
 -- no allowed answer is wrong
 abbrev Excludes : Dispatcher → Call → (Answer → Type 0) → Type 0
@@ -71,7 +71,7 @@ hand_while_busy d busy =
     (λ hurt done. omega arith))
 
 -- with nothing queued something is done
-pub hand_with_nothing_queued : (d : Dispatcher) → turn_of d.queues ≡ Nobody
+pub hand_with_nothing_queued : (d : Dispatcher) → turn_of d.queues ≡ None
     → Excludes d hand (λ a. a.reply.dispatcher ≡ d → ⊥)
 unfolding step hand_call hand_turn
 hand_with_nothing_queued d nobody =

@@ -2,28 +2,31 @@
 -- taking jobs in turn from the one after the last served and passing over empty queues". Its calls, over the machine's.
 -- Assumes nothing.
 use Rattle.std.specs.Prelude.{ℕ, Bool, not, ◌&&◌, ◌||◌, List, leb, eqb}
+use Rattle.std.specs.Prelude.{Result as Step}
 use Rattle.common.specs.Pick.{pick}
+use Rattle.common.specs.declared.refusals.Refusal.{Refusal}
 use Rattle.common.specs.Refusals.{done, state_damaged, not_idle, store_not_taken, queue_full}
 use Rattle.operations.specs.declared.store.Store.{Store}
 use Rattle.operations.specs.Store.{names_drive, asked_for}
 use Rattle.link.specs.declared.state.Action.TheVariants.{Nothing}
-use Rattle.link.specs.declared.state.Handed.TheVariants.{NoneHanded}
+use Rattle.std.specs.Prelude.{None}
 use Rattle.transfers.specs.Data.{Host}
 use Rattle.transfers.specs.Results.{Result}
-use Rattle.controller.specs.declared.controller.Reply.{Reply}
-use Rattle.controller.specs.declared.controller.Transfer.{Transfer}
+use Rattle.controller.specs.declared.controller.Given.{Given}
+use Rattle.controller.specs.declared.controller.Reply.{Reply as Replied}
+use Rattle.controller.specs.Told.{Reply, Transfer}
 use Rattle.controller.specs.Controller.{fresh, is_idle}
 use Rattle.controller.specs.Records as records
 use Rattle.controller.specs.Machine as machine
 use Rattle.controller.specs.Separation.{asks_reset}
 use Rattle.queues.specs.declared.jobs.Queues.{Queues}
-use Rattle.queues.specs.declared.jobs.Turn.{Turn}
-use Rattle.queues.specs.declared.jobs.Turn.TheVariants.{Nobody, Job}
+use Rattle.queues.specs.Jobs.{Turn}
+use Rattle.std.specs.Prelude.{None, Some}
 use Rattle.queues.specs.Queue.{queue_limit}
 use Rattle.queues.specs.Jobs.{jobs, fresh_queues, are_sound, queue_of, turn_of, queued, next_store, served}
 use Rattle.dispatcher.specs.declared.dispatcher.Dispatcher.{Dispatcher}
-use Rattle.dispatcher.specs.declared.dispatcher.Dispatched.{Dispatched}
-use Rattle.dispatcher.specs.declared.dispatcher.DispatchedTransfer.{DispatchedTransfer}
+use Rattle.dispatcher.specs.Told.{Dispatched}
+use Rattle.dispatcher.specs.Told.{DispatchedTransfer, told_transfer, told_transfer_of}
 
 -- "job 0 comes first at the start"
 unfoldable pub fresh_dispatcher : Dispatcher
@@ -33,7 +36,7 @@ fresh_dispatcher = record { controller = fresh; queues = fresh_queues }
 
 -- all as it is: refused, or nothing is done
 abbrev pub unchanged : ℕ → Dispatcher → Dispatched
-unchanged refusal d = record { dispatcher = d; action = Nothing; refusal = refusal; handed = NoneHanded }
+unchanged refusal d = record { dispatcher = d; action = Nothing; refusal = refusal; handed = None }
 
 -- the controller's reply, beside these queues
 abbrev pub with_queues : Queues → Reply → Dispatched
@@ -60,8 +63,17 @@ unchanged_transfer refusal d = record { reply = unchanged refusal d; bytes = 0 }
 abbrev pub transfer_with_queues : Queues → Transfer → DispatchedTransfer
 transfer_with_queues queues transfer = record { reply = with_queues queues transfer.reply; bytes = transfer.bytes }
 
-abbrev pub answered : DispatchedTransfer → List ℕ → List ℕ → Answer
-answered t space check = record { reply = t.reply; bytes = t.bytes; space = space; check = check }
+-- the answer that this is, with what the call left in the lent space and in the check store
+abbrev pub answer_with : DispatchedTransfer → List ℕ → List ℕ → Answer
+answer_with t space check = record { reply = t.reply; bytes = t.bytes; space = space; check = check }
+
+-- the answer that a call's result is
+abbrev pub answered : Replied Dispatcher Given → List ℕ → List ℕ → Answer
+answered r space check = answer_with (told_transfer r) space check
+
+-- and that of a call in place, which leaves this state
+abbrev pub answered_in : Dispatcher → Step Given Refusal → List ℕ → List ℕ → Answer
+answered_in d result space check = answer_with (told_transfer_of d result) space check
 
 -- the controller's answer, beside these queues
 abbrev pub answer_with_queues : Queues → records.Answer → Answer
@@ -100,8 +112,8 @@ hand_over d job = with_queues (served d.queues job) (machine.hand_call d.control
 
 -- by whose turn it is; "with nothing queued it does nothing"
 unfoldable pub hand_turn : Dispatcher → Turn → Dispatched
-hand_turn d Nobody = unchanged done d
-hand_turn d (Job job) = hand_over d job
+hand_turn d None = unchanged done d
+hand_turn d (Some job) = hand_over d job
 
 -- "A handing when not idle is refused as 4"
 unfoldable pub hand_call : Dispatcher → Dispatched
@@ -137,7 +149,7 @@ reset_call d = pass_on d (machine.reset_call d.controller)
 unfoldable pub passed_answer : Dispatcher → records.Answer → List ℕ → List ℕ → Answer
 passed_answer d a space check =
     pick (are_sound d.queues) (answer_with_queues d.queues a)
-    (answered (unchanged_transfer state_damaged d) space check)
+    (answer_with (unchanged_transfer state_damaged d) space check)
 
 abbrev pub data_call : Dispatcher → Host → List ℕ → List ℕ → Answer
 data_call d host space check = passed_answer d (machine.data_call d.controller host space check) space check

@@ -23,10 +23,10 @@ pub record QueueInRange (q : Queue) : Type 0 where
 
 -- "a queue's length, 0-8, and the last job served, 0-3"
 pub record QueuesInRange (queues : Queues) : Type 0 where
-  pub q0 : QueueInRange queues.q0
-  pub q1 : QueueInRange queues.q1
-  pub q2 : QueueInRange queues.q2
-  pub q3 : QueueInRange queues.q3
+  pub q0 : QueueInRange queues.jobs.zero
+  pub q1 : QueueInRange queues.jobs.one
+  pub q2 : QueueInRange queues.jobs.two
+  pub q3 : QueueInRange queues.jobs.three
   pub last : queues.last ≤ 3
 
 pub record InRange (d : Dispatcher) : Type 0 where

@@ -79,16 +79,16 @@ pub record SoundQueue (queue : Queue) : Type 0 where
 
 -- "Refusal 1 gains a queue's length, 0-8, and the last job served, 0-3"
 pub record SoundQueues (queues : Queues) : Type 0 where
-  pub q0 : SoundQueue queues.q0
-  pub q1 : SoundQueue queues.q1
-  pub q2 : SoundQueue queues.q2
-  pub q3 : SoundQueue queues.q3
+  pub q0 : SoundQueue queues.jobs.zero
+  pub q1 : SoundQueue queues.jobs.one
+  pub q2 : SoundQueue queues.jobs.two
+  pub q3 : SoundQueue queues.jobs.three
   pub last : queues.last ≤ 3
 
 -- the claim: in each queue waits what the ledger has of its job, and the last job served is the ledger's
 pub record IsLedger (queues : Queues) (l : JobLedger) : Type 0 where
-  pub q0 : take queues.q0.length queues.q0.stores ≡ l.waiting 0
-  pub q1 : take queues.q1.length queues.q1.stores ≡ l.waiting 1
-  pub q2 : take queues.q2.length queues.q2.stores ≡ l.waiting 2
-  pub q3 : take queues.q3.length queues.q3.stores ≡ l.waiting 3
+  pub q0 : take queues.jobs.zero.length queues.jobs.zero.stores ≡ l.waiting 0
+  pub q1 : take queues.jobs.one.length queues.jobs.one.stores ≡ l.waiting 1
+  pub q2 : take queues.jobs.two.length queues.jobs.two.stores ≡ l.waiting 2
+  pub q3 : take queues.jobs.three.length queues.jobs.three.stores ≡ l.waiting 3
   pub last : queues.last ≡ l.last

@@ -1,3 +1,4 @@
+pub mod Told
 pub mod Dispatcher
 pub mod Lists
 pub mod Refused

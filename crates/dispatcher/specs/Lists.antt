@@ -8,7 +8,7 @@ use Rattle.controller.specs.Refused.{lent_space, lent_check}
 use Rattle.queues.specs.Queue.{waiting_in}
 use Rattle.queues.specs.Jobs.{queue_of}
 use Rattle.dispatcher.specs.declared.dispatcher.Dispatcher.{Dispatcher}
-use Rattle.dispatcher.specs.declared.dispatcher.Dispatched.{Dispatched}
+use Rattle.dispatcher.specs.Told.{Dispatched}
 use Rattle.dispatcher.specs.Dispatcher.{Answer, queue_call, hand_call, passed_answer}
 
 -- a call with all its inputs: a job queues a store, a handing, or a call of the controller that is passed on

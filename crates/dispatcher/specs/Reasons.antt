@@ -17,7 +17,7 @@ use Rattle.dispatcher.specs.Lists.Call.{queue, hand, passed}
 -- "Refusal 1 gains a queue's length, 0-8, and the last job served, 0-3; a queued store's bytes may have any value."
 unfoldable pub queues_in_range : Queues → Bool
 queues_in_range q =
-    (((leb q.q0.length 8 && leb q.q1.length 8) && leb q.q2.length 8) && leb q.q3.length 8)
+    (((leb q.jobs.zero.length 8 && leb q.jobs.one.length 8) && leb q.jobs.two.length 8) && leb q.jobs.three.length 8)
     && leb q.last 3
 
 unfoldable pub in_range : Dispatcher → Bool
@@ -26,8 +26,8 @@ in_range d = queues_in_range d.queues && controller-reasons.in_range d.controlle
 -- how many stores "that job's queue holds"
 unfoldable pub queue_length : Queues → ℕ → ℕ
 queue_length q job =
-    pick (eqb job 0) q.q0.length
-    (pick (eqb job 1) q.q1.length (pick (eqb job 2) q.q2.length q.q3.length))
+    pick (eqb job 0) q.jobs.zero.length
+    (pick (eqb job 1) q.jobs.one.length (pick (eqb job 2) q.jobs.two.length q.jobs.three.length))
 
 -- What refuses a call in a sound state: "A handing when not idle is refused as 4"; "16 a job above 3, a store naming no
 -- drive or a reset store", which is one of operation 0; "17 that job's queue holds eight"

@@ -3,7 +3,7 @@
 -- Assumes nothing.
 use Rattle.std.specs.Prelude.{◌≡◌, List, [], ℕ}
 use Rattle.link.specs.declared.state.Action.TheVariants.{Nothing}
-use Rattle.link.specs.declared.state.Handed.TheVariants.{NoneHanded}
+use Rattle.std.specs.Prelude.{None}
 use Rattle.controller.specs.Refused as controller-refused
 use Rattle.dispatcher.specs.declared.dispatcher.Dispatcher.{Dispatcher}
 use Rattle.dispatcher.specs.Dispatcher.{Answer}
@@ -25,7 +25,7 @@ lent_check (passed call) = controller-refused.lent_check call
 pub record Unchanged (d : Dispatcher) (call : Call) (answer : Answer) : Type 0 where
   pub state : answer.reply.dispatcher ≡ d
   pub action : answer.reply.action ≡ Nothing
-  pub handed : answer.reply.handed ≡ NoneHanded
+  pub handed : answer.reply.handed ≡ None
   pub bytes : answer.bytes ≡ 0
   pub space : answer.space ≡ lent_space call
   pub check : answer.check ≡ lent_check call

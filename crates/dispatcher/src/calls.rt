@@ -1,89 +1,191 @@
-// The controller's eight calls, passed on. Each refuses queues out of range, and is the controller's own otherwise; the
-// queues stay as they are.
+//! The controller's eight calls, passed on: in place, and by value on top. Each refuses queues out of range, and is the
+//! controller's own otherwise; the queues stay as they are.
 ghost use Rattle.std.specs.Prelude.{◌≡◌};
-ghost use Rattle.transfers.specs.Data.{host_of};
-ghost use Rattle.transfers.specs.Results.{result_of};
-ghost use Rattle.dispatcher.specs.Dispatcher.{pass_on, byte_call, taken_call, broken_call, report_call, tick_call};
-ghost use Rattle.dispatcher.specs.Dispatcher.{reset_call};
-ghost use Rattle.dispatcher.specs.Dispatcher.{answered, data_call, result_call};
+ghost use Rattle.transfers.specs.Data.{host_of, host_with};
+ghost use Rattle.transfers.specs.Results.{result_of, result_with};
+ghost use Rattle.dispatcher.specs.Told.{told, told_of};
+ghost use Rattle.dispatcher.specs.Dispatcher.{byte_call, taken_call, broken_call, report_call, tick_call, reset_call};
+ghost use Rattle.dispatcher.specs.Dispatcher.{answered, answered_in, data_call, result_call};
 
-use crate::dispatcher::{
-    Dispatched, DispatchedTransfer, Dispatcher, transfer_with_queues, unchanged,
-    unchanged_transfer, with_queues,
-};
-use common::refusals::STATE_DAMAGED;
-use controller::controller::Reply;
-use queues::jobs::are_sound;
-
-// The controller's own reply, beside the queues as they are.
-#[tactic(auto, using(common::proofs::PickLaws::pick_yes, common::proofs::PickLaws::pick_no), unfolding(crate::specs::Dispatcher::pass_on))]
-pub fn pass_on(d: Dispatcher, reply: Reply) -> Dispatched
-    ensures { result ≡ pass_on d reply }
-{
-    if !are_sound(d.queues) {
-        return unchanged(STATE_DAMAGED, d);
-    }
-    with_queues(d.queues, reply)
-}
+use crate::dispatcher::Dispatcher;
+use common::refusals::Refusal;
+use controller::controller::{Answer, Given, Reply};
+use transfers::data::HostBytes;
+use transfers::verdict::TapeResult;
 
 impl Dispatcher {
-    pub fn byte(self, byte: u8) -> Dispatched
-        ensures { result ≡ byte_call self byte }
+    /// A byte from the host, in place.
+    #[tactic(auto, using(common::proofs::PickLaws::pick_yes, common::proofs::PickLaws::pick_no, crate::proofs::ToldLaws::told_beside), unfolding(crate::specs::Dispatcher::pass_on))]
+    pub fn byte_in_place(&mut self, byte: u8) -> Result<Answer, Refusal>
+        ensures { told_of self.new result ≡ byte_call self.old byte }
     {
-        pass_on(self, self.controller.byte(byte))
+        self.queues.check_sound()?;
+        self.controller.byte_in_place(byte)
     }
 
-    pub fn taken(self) -> Dispatched
-        ensures { result ≡ taken_call self }
+    /// The same by value.
+    pub fn byte(mut self, byte: u8) -> Reply<Dispatcher>
+        ensures { told result ≡ byte_call self byte }
     {
-        pass_on(self, self.controller.taken())
+        let answer = self.byte_in_place(byte);
+        Reply {
+            state: self,
+            answer,
+        }
     }
 
-    pub fn broken(self) -> Dispatched
-        ensures { result ≡ broken_call self }
+    /// The ACK that was offered is taken, in place.
+    #[tactic(auto, using(common::proofs::PickLaws::pick_yes, common::proofs::PickLaws::pick_no, crate::proofs::ToldLaws::told_beside), unfolding(crate::specs::Dispatcher::pass_on))]
+    pub fn taken_in_place(&mut self) -> Result<Answer, Refusal>
+        ensures { told_of self.new result ≡ taken_call self.old }
     {
-        pass_on(self, self.controller.broken())
+        self.queues.check_sound()?;
+        self.controller.taken_in_place()
     }
 
-    pub fn report(self, drive: u8, report: u8) -> Dispatched
-        ensures { result ≡ report_call self drive report }
+    /// The same by value.
+    pub fn taken(mut self) -> Reply<Dispatcher>
+        ensures { told result ≡ taken_call self }
     {
-        pass_on(self, self.controller.report(drive, report))
+        let answer = self.taken_in_place();
+        Reply {
+            state: self,
+            answer,
+        }
     }
 
-    pub fn tick(self) -> Dispatched
-        ensures { result ≡ tick_call self }
+    /// The link is broken, in place.
+    #[tactic(auto, using(common::proofs::PickLaws::pick_yes, common::proofs::PickLaws::pick_no, crate::proofs::ToldLaws::told_beside), unfolding(crate::specs::Dispatcher::pass_on))]
+    pub fn broken_in_place(&mut self) -> Result<Answer, Refusal>
+        ensures { told_of self.new result ≡ broken_call self.old }
     {
-        pass_on(self, self.controller.tick())
+        self.queues.check_sound()?;
+        self.controller.broken_in_place()
     }
 
-    pub fn reset(self) -> Dispatched
-        ensures { result ≡ reset_call self }
+    /// The same by value.
+    pub fn broken(mut self) -> Reply<Dispatcher>
+        ensures { told result ≡ broken_call self }
     {
-        pass_on(self, self.controller.reset())
+        let answer = self.broken_in_place();
+        Reply {
+            state: self,
+            answer,
+        }
     }
 
-    #[tactic(auto, using(common::proofs::PickLaws::pick_yes, common::proofs::PickLaws::pick_no), unfolding(crate::specs::Dispatcher::passed_answer))]
+    /// A drive reports, in place.
+    #[tactic(auto, using(common::proofs::PickLaws::pick_yes, common::proofs::PickLaws::pick_no, crate::proofs::ToldLaws::told_beside), unfolding(crate::specs::Dispatcher::pass_on))]
+    pub fn report_in_place(&mut self, drive: u8, report: u8) -> Result<Answer, Refusal>
+        ensures { told_of self.new result ≡ report_call self.old drive report }
+    {
+        self.queues.check_sound()?;
+        self.controller.report_in_place(drive, report)
+    }
+
+    /// The same by value.
+    pub fn report(mut self, drive: u8, report: u8) -> Reply<Dispatcher>
+        ensures { told result ≡ report_call self drive report }
+    {
+        let answer = self.report_in_place(drive, report);
+        Reply {
+            state: self,
+            answer,
+        }
+    }
+
+    /// A tick, while idle, in place.
+    #[tactic(auto, using(common::proofs::PickLaws::pick_yes, common::proofs::PickLaws::pick_no, crate::proofs::ToldLaws::told_beside), unfolding(crate::specs::Dispatcher::pass_on))]
+    pub fn tick_in_place(&mut self) -> Result<Answer, Refusal>
+        ensures { told_of self.new result ≡ tick_call self.old }
+    {
+        self.queues.check_sound()?;
+        self.controller.tick_in_place()
+    }
+
+    /// The same by value.
+    pub fn tick(mut self) -> Reply<Dispatcher>
+        ensures { told result ≡ tick_call self }
+    {
+        let answer = self.tick_in_place();
+        Reply {
+            state: self,
+            answer,
+        }
+    }
+
+    /// A reset, in place.
+    #[tactic(auto, using(common::proofs::PickLaws::pick_yes, common::proofs::PickLaws::pick_no, crate::proofs::ToldLaws::told_beside), unfolding(crate::specs::Dispatcher::pass_on))]
+    pub fn reset_in_place(&mut self) -> Result<Answer, Refusal>
+        ensures { told_of self.new result ≡ reset_call self.old }
+    {
+        self.queues.check_sound()?;
+        self.controller.reset_in_place()
+    }
+
+    /// The same by value.
+    pub fn reset(mut self) -> Reply<Dispatcher>
+        ensures { told result ≡ reset_call self }
+    {
+        let answer = self.reset_in_place();
+        Reply {
+            state: self,
+            answer,
+        }
+    }
+
+    /// The host's bytes for a write, and the place of the one that came with bad parity, or NO_PLACE, in place.
+    #[tactic(auto, using(common::proofs::PickLaws::pick_yes, common::proofs::PickLaws::pick_no, crate::proofs::ToldLaws::given_beside), unfolding(crate::specs::Dispatcher::passed_answer))]
+    pub fn data_in_place(
+        &mut self,
+        host: &HostBytes,
+        space: &mut [u8],
+        check: &mut [u8],
+    ) -> Result<Given, Refusal>
+        ensures { answered_in self.new result space.new check.new
+            ≡ data_call self.old (host_with host.now) space.old check.old }
+    {
+        self.queues.check_sound()?;
+        self.controller.data_in_place(host, space, check)
+    }
+
+    /// The same by value.
     pub fn data(
-        self,
+        mut self,
         host: &[u8],
         place: usize,
         space: &mut [u8],
         check: &mut [u8],
-    ) -> DispatchedTransfer
+    ) -> Reply<Dispatcher, Given>
         ensures { answered result space.new check.new
             ≡ data_call self (host_of host.now place) space.old check.old }
     {
-        if !are_sound(self.queues) {
-            return unchanged_transfer(STATE_DAMAGED, self);
+        let host = HostBytes { bytes: host, place };
+        let answer = self.data_in_place(&host, space, check);
+        Reply {
+            state: self,
+            answer,
         }
-        let controller = self.controller;
-        transfer_with_queues(self.queues, controller.data(host, place, space, check))
     }
 
-    #[tactic(auto, using(common::proofs::PickLaws::pick_yes, common::proofs::PickLaws::pick_no), unfolding(crate::specs::Dispatcher::passed_answer))]
+    /// What came of an operation, in place.
+    #[tactic(auto, using(common::proofs::PickLaws::pick_yes, common::proofs::PickLaws::pick_no, crate::proofs::ToldLaws::given_beside), unfolding(crate::specs::Dispatcher::passed_answer))]
+    pub fn result_in_place(
+        &mut self,
+        tape: &TapeResult,
+        space: &mut [u8],
+        check: &mut [u8],
+    ) -> Result<Given, Refusal>
+        ensures { answered_in self.new result space.new check.new
+            ≡ result_call self.old (result_with tape.now) space.old check.old }
+    {
+        self.queues.check_sound()?;
+        self.controller.result_in_place(tape, space, check)
+    }
+
+    /// The same by value.
     pub fn result(
-        self,
+        mut self,
         code: u8,
         mark: bool,
         late: u8,
@@ -91,18 +193,22 @@ impl Dispatcher {
         marks: &[u8],
         space: &mut [u8],
         check: &mut [u8],
-    ) -> DispatchedTransfer
+    ) -> Reply<Dispatcher, Given>
         ensures { answered result space.new check.new
             ≡ result_call self (result_of code mark late image.now marks.now)
             space.old check.old }
     {
-        if !are_sound(self.queues) {
-            return unchanged_transfer(STATE_DAMAGED, self);
+        let tape = TapeResult {
+            code,
+            mark,
+            late,
+            image,
+            marks,
+        };
+        let answer = self.result_in_place(&tape, space, check);
+        Reply {
+            state: self,
+            answer,
         }
-        let controller = self.controller;
-        transfer_with_queues(
-            self.queues,
-            controller.result(code, mark, late, image, marks, space, check),
-        )
     }
 }

@@ -308,10 +308,10 @@ queue_sound q one = record { places = one.places; within = one.waiting }
 queues_sound : (queues : Queues) → QueuesInRange queues → SoundQueues queues
 queues_sound queues all =
     record {
-      q0 = queue_sound queues.q0 all.q0;
-      q1 = queue_sound queues.q1 all.q1;
-      q2 = queue_sound queues.q2 all.q2;
-      q3 = queue_sound queues.q3 all.q3;
+      q0 = queue_sound queues.jobs.zero all.q0;
+      q1 = queue_sound queues.jobs.one all.q1;
+      q2 = queue_sound queues.jobs.two all.q2;
+      q3 = queue_sound queues.jobs.three all.q3;
       last = all.last;
     }
 

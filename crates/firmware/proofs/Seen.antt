@@ -11,7 +11,7 @@ use borrow.Author.Tests.{eqb-true, eqb-false}
 use Rattle.common.specs.Pick.{pick}
 use Rattle.common.proofs.PickLaws.{by_test, pick_yes, pick_no}
 use Rattle.link.specs.declared.state.Action.{Action}
-use Rattle.link.specs.declared.state.Handed.{Handed}
+use Rattle.link.specs.State.{Handed}
 use Rattle.dispatcher.specs.declared.dispatcher.Dispatcher.{Dispatcher}
 use Rattle.dispatcher.specs.Dispatcher.{Answer}
 use Rattle.dispatcher.specs.Lists.{Call, step}

@@ -1,14 +1,19 @@
 -- The functions for C: each is the dispatcher's own call on the state that its bytes hold.
 -- Assumes nothing.
-use Rattle.std.specs.Prelude.{ℕ, Bool, not, List, [], eqb}
+use Rattle.std.specs.Prelude.{ℕ, Bool, not, List, [], Result as Outcome, Ok, Err, eqb}
+use Rattle.common.specs.declared.refusals.Refusal.{Refusal}
 use Rattle.common.specs.Pick.{pick}
+use Rattle.common.specs.Told.{number_of}
 use Rattle.common.specs.Refusals.{done, state_damaged}
 use Rattle.operations.specs.declared.store.Store.{Store}
 use Rattle.transfers.specs.Data.{Host}
 use Rattle.transfers.specs.Results.{Result}
-use Rattle.controller.specs.declared.controller.Reply.{Reply}
+use Rattle.controller.specs.declared.controller.Controller.{Controller}
+use Rattle.controller.specs.declared.controller.Answer.{Answer as Told}
+use Rattle.controller.specs.declared.controller.Given.{Given}
+use Rattle.controller.specs.Told.{Reply, told_transfer_of}
 use Rattle.controller.specs.Machine as machine
-use Rattle.dispatcher.specs.declared.dispatcher.Dispatched.{Dispatched}
+use Rattle.dispatcher.specs.Told.{Dispatched}
 use Rattle.dispatcher.specs.Dispatcher.{Answer, fresh_dispatcher, with_queues}
 use Rattle.dispatcher.specs.Lists.{Call, step}
 use Rattle.dispatcher.specs.Lists.Call.{queue, hand, passed}
@@ -54,6 +59,22 @@ end_call reply given state answer =
 -- of a call that is passed on, by the controller's own reply: the queues stay as they stand in the state's bytes
 abbrev pub end_passed : Reply → ℕ → List ℕ → List ℕ → Ended
 end_passed reply given state answer = end_call (with_queues (queues_of state) reply) given state answer
+
+-- by what the program hands back, with the bytes of its next state
+abbrev pub end_stored : List ℕ → Outcome Given Refusal → List ℕ → List ℕ → Ended
+end_stored next (Ok g) state answer = ended done next (answer_bytes g.answer.action g.answer.handed g.bytes)
+end_stored next (Err e) state answer = ended (number_of e) state answer
+
+-- and of a call that is passed on
+abbrev pub end_given : Controller → Outcome Given Refusal → List ℕ → List ℕ → Ended
+end_given c a state answer =
+    let t = told_transfer_of c a in
+    end_passed t.reply t.bytes state answer
+
+-- the answer of a call that is lent no space: it gives no bytes of any
+abbrev pub giving_none : Outcome Told Refusal → Outcome Given Refusal
+giving_none (Ok a) = Ok (record { answer = a; bytes = 0 })
+giving_none (Err e) = Err e
 
 -- what the dispatcher's answer leaves
 abbrev pub left_by : Answer → List ℕ → List ℕ → Left

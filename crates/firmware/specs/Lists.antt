@@ -4,7 +4,7 @@
 use Rattle.std.specs.Prelude.{◌≡◌, ℕ, List, [], ◌∷◌, eqb}
 use Rattle.common.specs.Pick.{pick}
 use Rattle.link.specs.declared.state.Action.TheVariants.{Nothing}
-use Rattle.link.specs.declared.state.Handed.TheVariants.{NoneHanded}
+use Rattle.std.specs.Prelude.{None}
 use Rattle.dispatcher.specs.Dispatcher.{Answer}
 use Rattle.dispatcher.specs.Lists as dispatcher
 use Rattle.dispatcher.specs.Lists.{Call}
@@ -32,7 +32,7 @@ seen_answer l =
             dispatcher = state_of l.ended.state;
             action = pick carried (action_of l.ended.answer) Nothing;
             refusal = l.ended.refusal;
-            handed = pick carried (handed_of l.ended.answer) NoneHanded;
+            handed = pick carried (handed_of l.ended.answer) None;
           };
       bytes = pick carried (given_of l.ended.answer) 0;
       space = l.space;

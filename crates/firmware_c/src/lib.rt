@@ -12,7 +12,7 @@ ghost use Rattle.firmware.specs.Calls.{ctc_hand};
 use firmware::interface;
 use layout::places::{ANSWER_LENGTH, STATE_LENGTH};
 
-// A fresh state, whatever stood there.
+/// A fresh state, whatever stood there.
 #[unsafe(no_mangle)]
 pub extern "C" fn ctc_fresh(state: &mut [u8; STATE_LENGTH]) -> u32
     ensures answered { result ≡ 0 }
@@ -21,7 +21,7 @@ pub extern "C" fn ctc_fresh(state: &mut [u8; STATE_LENGTH]) -> u32
     interface::ctc_fresh(state)
 }
 
-// A byte comes from the host.
+/// A byte comes from the host.
 #[unsafe(no_mangle)]
 pub extern "C" fn ctc_byte(
     state: &mut [u8; STATE_LENGTH],
@@ -34,7 +34,7 @@ pub extern "C" fn ctc_byte(
     interface::ctc_byte(state, byte, answer)
 }
 
-// The ACK that is offered is taken.
+/// The ACK that is offered is taken.
 #[unsafe(no_mangle)]
 pub extern "C" fn ctc_taken(state: &mut [u8; STATE_LENGTH], answer: &mut [u8; ANSWER_LENGTH]) -> u32
     ensures { plainly result state.new answer.new
@@ -43,7 +43,7 @@ pub extern "C" fn ctc_taken(state: &mut [u8; STATE_LENGTH], answer: &mut [u8; AN
     interface::ctc_taken(state, answer)
 }
 
-// The host breaks off.
+/// The host breaks off.
 #[unsafe(no_mangle)]
 pub extern "C" fn ctc_broken(
     state: &mut [u8; STATE_LENGTH],
@@ -55,7 +55,7 @@ pub extern "C" fn ctc_broken(
     interface::ctc_broken(state, answer)
 }
 
-// A drive reports.
+/// A drive reports.
 #[unsafe(no_mangle)]
 pub extern "C" fn ctc_report(
     state: &mut [u8; STATE_LENGTH],
@@ -69,7 +69,7 @@ pub extern "C" fn ctc_report(
     interface::ctc_report(state, drive, report, answer)
 }
 
-// The host's bytes for a write, and the place of one that came with bad parity.
+/// The host's bytes for a write, and the place of one that came with bad parity.
 #[unsafe(no_mangle)]
 pub extern "C" fn ctc_data(
     state: &mut [u8; STATE_LENGTH],
@@ -86,7 +86,7 @@ pub extern "C" fn ctc_data(
     interface::ctc_data(state, host, place, space, check, answer)
 }
 
-// What came of an operation. Any mark but 0 is set.
+/// What came of an operation. Any mark but 0 is set.
 #[unsafe(no_mangle)]
 pub extern "C" fn ctc_result(
     state: &mut [u8; STATE_LENGTH],
@@ -106,7 +106,7 @@ pub extern "C" fn ctc_result(
     interface::ctc_result(state, code, mark, late, image, marks, space, check, answer)
 }
 
-// A tick.
+/// A tick.
 #[unsafe(no_mangle)]
 pub extern "C" fn ctc_tick(state: &mut [u8; STATE_LENGTH], answer: &mut [u8; ANSWER_LENGTH]) -> u32
     ensures { plainly result state.new answer.new
@@ -115,7 +115,7 @@ pub extern "C" fn ctc_tick(state: &mut [u8; STATE_LENGTH], answer: &mut [u8; ANS
     interface::ctc_tick(state, answer)
 }
 
-// A reset.
+/// A reset.
 #[unsafe(no_mangle)]
 pub extern "C" fn ctc_reset(state: &mut [u8; STATE_LENGTH], answer: &mut [u8; ANSWER_LENGTH]) -> u32
     ensures { plainly result state.new answer.new
@@ -124,7 +124,7 @@ pub extern "C" fn ctc_reset(state: &mut [u8; STATE_LENGTH], answer: &mut [u8; AN
     interface::ctc_reset(state, answer)
 }
 
-// A job queues a store, given as its address and its four operand bytes.
+/// A job queues a store, given as its address and its four operand bytes.
 #[unsafe(no_mangle)]
 pub extern "C" fn ctc_queue(
     state: &mut [u8; STATE_LENGTH],
@@ -142,7 +142,7 @@ pub extern "C" fn ctc_queue(
     interface::ctc_queue(state, job, address, first, second, third, fourth, answer)
 }
 
-// The store whose turn it is is handed over.
+/// The store whose turn it is is handed over.
 #[unsafe(no_mangle)]
 pub extern "C" fn ctc_hand(state: &mut [u8; STATE_LENGTH], answer: &mut [u8; ANSWER_LENGTH]) -> u32
     ensures { plainly result state.new answer.new

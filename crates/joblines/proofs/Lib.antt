@@ -1,4 +1,3 @@
-pub mod TextLaws
 pub mod LineLaws
 pub mod PlayLaws
 pub mod WrongAnswers

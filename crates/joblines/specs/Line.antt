@@ -3,17 +3,17 @@
 -- more: Q,job,address,operand, the job in decimal, 0 to 255, the address two hexadecimal digits and the operand eight,
 -- letters capital; and H. A line is given without its #0A.
 -- Assumes nothing.
-use Rattle.std.specs.Prelude.{ℕ, ◌≡◌, Bool, ◌&&◌, List, leb, eqb, length, drop, get_or}
+use Rattle.std.specs.Prelude.{ℕ, Bool, ◌&&◌, List, leb, eqb, length, drop, get_or, Option, None, Some}
 use Rattle.common.specs.Pick.{pick}
 use Rattle.operations.specs.declared.store.Store.{Store}
 use Rattle.text.specs.Limits.{byte_limit}
 use Rattle.text.specs.Characters.{comma}
 use Rattle.text.specs.Digits.{all_digits, is_byte, byte_of, bytes_of, is_decimal, decimal_of}
 use Rattle.text.specs.Fields.{field_of, after_fields}
-use Rattle.lines.specs.Line.{Line, unreadable, line_of, line_read}
+use Rattle.lines.specs.Line.{Line, unreadable, line_of, call_read}
 use Rattle.joblines.specs.Limits.{operand_length}
-use Rattle.joblines.specs.declared.line.JobReading.{JobReading}
-use Rattle.joblines.specs.declared.line.JobReading.TheVariants.{Queueing, Handing, SessionLine}
+use Rattle.joblines.specs.declared.line.JobCall.{JobCall}
+use Rattle.joblines.specs.declared.line.JobCall.TheVariants.{Queue, Hand, Session}
 
 -- Q,job,address,operand; H; or one of the session program's lines, readable or not
 pub data JobLine : Type 0 where
@@ -74,14 +74,11 @@ unfoldable pub job_line_of : List ℕ → JobLine
 job_line_of line =
     pick (is_hand line) handing (pick (is_queue line) (queue_line (drop 2 line)) (session_line (line_of line)))
 
--- ---- what the code reads: a host string or an image stands in one buffer, marks in another
+-- ---- what the code reads
 
 -- the line that was read
-unfoldable pub job_line_read : JobReading → List ℕ → List ℕ → JobLine
-job_line_read (Queueing job store) bytes marks = queueing job store
-job_line_read Handing bytes marks = handing
-job_line_read (SessionLine reading) bytes marks = session_line (line_read reading bytes marks)
-
--- what the code reads, whatever stands in the buffers
-abbrev pub JobReadAs : JobReading → JobLine → Type 0
-JobReadAs r line = (bytes marks : List ℕ) → job_line_read r bytes marks ≡ line
+unfoldable pub job_line_read : Option JobCall → JobLine
+job_line_read None = session_line unreadable
+job_line_read (Some (Queue job store)) = queueing job store
+job_line_read (Some Hand) = handing
+job_line_read (Some (Session call)) = session_line (call_read call)

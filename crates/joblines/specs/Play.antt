@@ -6,17 +6,17 @@ use Rattle.records.specs.Place.{no_place}
 use Rattle.transfers.specs.Data.{host_of}
 use Rattle.transfers.specs.Results.{result_of}
 use Rattle.dispatcher.specs.declared.dispatcher.Dispatcher.{Dispatcher}
-use Rattle.dispatcher.specs.declared.dispatcher.Dispatched.{Dispatched}
+use Rattle.dispatcher.specs.Told.{Dispatched}
 use Rattle.dispatcher.specs.Dispatcher.{Answer, pass_on, passed_answer}
 use Rattle.dispatcher.specs.Dispatcher.{byte_call, taken_call, broken_call, report_call, tick_call, reset_call}
 use Rattle.dispatcher.specs.Dispatcher.{data_call, result_call, queue_call, hand_call}
 use Rattle.lines.specs.Line.{Line, unreadable, byte, taken, broken, report, host_data, result, tick, reset}
 use Rattle.lines.specs.Play.{plain_reply, lent_answer}
 use Rattle.lines.specs.declared.line.PlainCall.{PlainCall}
-use Rattle.lines.specs.declared.play.LentCall.{LentCall}
-use Rattle.joblines.specs.Line.{JobLine, queueing, handing, session_line}
+use Rattle.lines.specs.declared.line.LentCall.{LentCall}
+use Rattle.joblines.specs.Line.{JobLine, queueing, handing, session_line, job_line_of}
 use Rattle.joblines.specs.Print.{job_answer_text, job_unreadable_text}
-use Rattle.joblines.specs.declared.play.JobAnswered.{JobAnswered}
+use Rattle.joblines.specs.declared.play.Jobs.{Jobs}
 
 -- ---- what is left of a line
 
@@ -76,13 +76,17 @@ job_line_left d (queueing job store) space check = reply_left (queue_call d job 
 job_line_left d handing space check = reply_left (hand_call d) space check
 job_line_left d (session_line line) space check = session_left d line space check
 
--- what the code leaves
-abbrev pub job_left : JobAnswered → List ℕ → List ℕ → List ℕ → JobLeft
-job_left r space check out = record {
-  dispatcher = r.dispatcher;
-  space = space;
-  check = check;
-  text = take r.count out;
+-- the answer to a line, as its bytes stand
+abbrev pub job_answer : Jobs → List ℕ → JobLeft
+job_answer j line = job_line_left j.dispatcher (job_line_of line) j.buffers.space j.buffers.check
+
+-- what the code leaves, with the text that it puts
+abbrev pub job_left : Jobs → List ℕ → JobLeft
+job_left j text = record {
+  dispatcher = j.dispatcher;
+  space = j.buffers.space;
+  check = j.buffers.check;
+  text = text;
 }
 
 -- ---- what the code does with a line of the session program's: the call that the session program makes, passed on
@@ -92,10 +96,9 @@ unfoldable pub plain_dispatched : Dispatcher → PlainCall → Dispatched
 plain_dispatched d call = pass_on d (plain_reply d.controller call)
 
 -- the answer to a call that is lent space
-unfoldable pub lent_dispatched : Dispatcher → LentCall → List ℕ → List ℕ → List ℕ → List ℕ → Answer
-lent_dispatched d call bytes marks space check =
-    passed_answer d (lent_answer d.controller call bytes marks space check) space check
+unfoldable pub lent_dispatched : Dispatcher → LentCall → List ℕ → List ℕ → Answer
+lent_dispatched d call space check = passed_answer d (lent_answer d.controller call space check) space check
 
 -- and what is left of it
-abbrev pub lent_left : Dispatcher → LentCall → List ℕ → List ℕ → List ℕ → List ℕ → JobLeft
-lent_left d call bytes marks space check = dispatched_left (lent_dispatched d call bytes marks space check)
+abbrev pub lent_left : Jobs → LentCall → JobLeft
+lent_left j call = dispatched_left (lent_dispatched j.dispatcher call j.buffers.space j.buffers.check)

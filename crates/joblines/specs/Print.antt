@@ -3,18 +3,24 @@
 -- as CC:M:N, the code in two hexadecimal digits, motion and count in decimal, or - for none; an unreadable line prints
 -- ?,-,,,-. Each text ends with its #0A.
 -- Assumes nothing.
-use Rattle.std.specs.Prelude.{ℕ, List, [], ◌∷◌, ◌++◌}
+use Rattle.std.specs.Prelude.{ℕ, List, [], ◌∷◌, ◌++◌, None, Some, Result, Ok, Err}
+use Rattle.common.specs.declared.refusals.Refusal.{Refusal}
+use Rattle.controller.specs.declared.controller.Answer.{Answer}
 use Rattle.text.specs.Characters.{comma, line_feed, none_sign, unreadable_sign}
 use Rattle.text.specs.Print.{bytes_text, record_text}
 use Rattle.link.specs.declared.state.Action.{Action}
-use Rattle.link.specs.declared.state.Handed.{Handed}
-use Rattle.link.specs.declared.state.Handed.TheVariants.{NoneHanded, OneHanded}
+use Rattle.link.specs.State.{Handed}
 use Rattle.lines.specs.Print.{head_text}
 
--- the record handed back as CC:M:N, or -
+-- the record that a call's answer hands back
+abbrev pub handed_of : Result Answer Refusal → Handed
+handed_of (Ok a) = a.handed
+handed_of (Err e) = None
+
+-- and as CC:M:N, or -
 unfoldable pub handed_text : Handed → List ℕ
-handed_text NoneHanded = none_sign ∷ []
-handed_text (OneHanded r) = record_text r.code r.motion r.count
+handed_text None = none_sign ∷ []
+handed_text (Some r) = record_text r.code r.motion r.count
 
 -- refusal, action, its bytes, bytes delivered or image, and the record handed back
 unfoldable pub job_answer_text : ℕ → Action → List ℕ → Handed → List ℕ

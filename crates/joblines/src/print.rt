@@ -1,70 +1,59 @@
-// What is printed for a line. The functions are of the kind of `text::print`; `lines::print` has the first four fields.
-ghost use Rattle.std.specs.Prelude.{◌≡◌, ◌+◌, ◌*◌, ◌≤◌, ◌++◌, length, take};
+//! What is put for a line behind the text that is there. The functions are of the kind of those of `text::space`;
+//! `lines::print` has the first four fields.
+ghost use Rattle.std.specs.Prelude.{◌≡◌, ◌+◌, ◌*◌, ◌≤◌, ◌++◌, length};
+ghost use Rattle.common.specs.Told.{refusal_number};
 ghost use Rattle.text.specs.Limits.{record_most};
+ghost use Rattle.lines.specs.Print.{action_of};
 ghost use Rattle.joblines.specs.Limits.{job_reply_most, job_unreadable_length};
-ghost use Rattle.joblines.specs.Print.{handed_text, job_reply_text, job_answer_text, job_unreadable_text};
+ghost use Rattle.joblines.specs.Print.{handed_of, handed_text, job_answer_text, job_unreadable_text};
 
-use common::overwrite;
-use lines::print::print_head;
-use link::state::{Action, Handed};
-use text::print::{put, put_bytes, put_record};
+use common::refusals::{Refusal, refusal_number};
+use controller::controller::Answer;
+use lines::print::{action_of, put_fields};
+use status::words::ResultRecord;
+use text::space::Text;
 
-// What a call hands back of a store.
+/// What a call hands back of a store.
 #[tactic(auto, unfolding(crate::specs::Print::handed_text))]
-fn put_handed(handed: Handed, out: &mut [u8], at: usize) -> usize
-    requires { at + record_most ≤ length out.old }
-    ensures ends { result ≤ at + record_most }
-    ensures text { take result out.new ≡ take at out.old ++ handed_text handed }
+pub fn put_handed<const N: usize>(handed: Option<ResultRecord>, out: &mut Text<N>)
+    requires { length out.old + record_most ≤ N }
+    ensures fits { length out.new ≤ length out.old + record_most }
+    ensures text { out.new ≡ out.old ++ handed_text handed }
 {
     match handed {
-        Handed::NoneHanded => put(b'-', out, at),
-        Handed::OneHanded(result) => {
-            put_record(result.code, result.motion, result.count, out, at)
-        },
+        None => out.put(b'-'),
+        Some(result) => out.put_record(result.code, result.motion, result.count),
     }
 }
 
-// The answer to a call that gives no bytes.
-#[tactic(auto, using(crate::proofs::TextLaws::job_reply_text_lem), unfolding(crate::specs::Print::job_answer_text, text::specs::Print::bytes_text))]
-pub fn print_job_reply(refusal: u32, action: Action, handed: Handed, out: &mut [u8]) -> usize
-    requires { job_reply_most ≤ length out.old }
-    ensures ends { result ≤ job_reply_most }
-    ensures text { take result out.new ≡ job_reply_text refusal action handed }
-{
-    let head = print_head(refusal, action, out);
-    let comma = put(b',', out, head);
-    let fifth = put_handed(handed, out, comma);
-    put(b'\n', out, fifth)
-}
-
-// A call's answer, with the bytes that it gives, if any, and what it hands back.
-#[tactic(auto, using(crate::proofs::TextLaws::job_answer_text_lem), unfolding(crate::specs::Print::job_answer_text))]
-pub fn print_job_answer(
-    refusal: u32,
-    action: Action,
+/// A call's answer, with the bytes that it gives, if any, and what it hands back.
+#[tactic(auto, unfolding(crate::specs::Print::job_answer_text, lines::specs::Print::fields_text))]
+pub fn put_job_answer<const N: usize>(
+    answer: Result<Answer, Refusal>,
     bytes: &[u8],
-    handed: Handed,
-    out: &mut [u8],
-) -> usize
-    requires { job_reply_most + 2 * length bytes.now ≤ length out.old }
-    ensures ends { result ≤ job_reply_most + 2 * length bytes.now }
-    ensures text { take result out.new ≡ job_answer_text refusal action bytes.now handed }
+    out: &mut Text<N>,
+)
+    requires { length out.old + job_reply_most + 2 * length bytes.now ≤ N }
+    ensures fits { length out.new ≤ length out.old + job_reply_most + 2 * length bytes.now }
+    ensures text { out.new ≡ out.old
+        ++ job_answer_text (refusal_number answer) (action_of answer) bytes.now (handed_of answer) }
 {
-    let head = print_head(refusal, action, out);
-    let fourth = put_bytes(bytes, out, head);
-    let comma = put(b',', out, fourth);
-    let fifth = put_handed(handed, out, comma);
-    put(b'\n', out, fifth)
+    let handed = match answer {
+        Ok(answer) => answer.handed,
+        Err(_) => None,
+    };
+    put_fields(refusal_number(&answer), action_of(&answer), bytes, out);
+    out.put(b',');
+    put_handed(handed, out);
+    out.put(b'\n');
 }
 
-// The answer to an unreadable line.
-#[tactic(auto, using(common::proofs::SpaceLaws::overwritten_front), unfolding(crate::specs::Print::job_unreadable_text))]
-pub fn print_job_unreadable(out: &mut [u8]) -> usize
-    requires { job_unreadable_length ≤ length out.old }
-    ensures ends { result ≡ job_unreadable_length }
-    ensures text { take result out.new ≡ job_unreadable_text }
+/// The answer to an unreadable line.
+#[tactic(auto, unfolding(crate::specs::Print::job_unreadable_text))]
+pub fn put_job_unreadable<const N: usize>(out: &mut Text<N>)
+    requires { length out.old + job_unreadable_length ≤ N }
+    ensures fits { length out.new ≡ length out.old + job_unreadable_length }
+    ensures text { out.new ≡ out.old ++ job_unreadable_text }
 {
-    let text = [b'?', b',', b'-', b',', b',', b',', b'-', b'\n'];
-    overwrite(&text, out);
-    text.len()
+    out.put_all(b"?,-,,,-\n");
 }

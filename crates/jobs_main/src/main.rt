@@ -1,108 +1,30 @@
-// The jobs program: plays lines against the dispatcher, and so the queues of four jobs beside the controller.
+//! The jobs program: plays lines against the dispatcher, and so the queues of four jobs beside the controller.
 #![tactic(auto)]
 
-ghost use Rattle.std.specs.Prelude.{◌≡◌, ◌≤◌, length};
-ghost use Rattle.console.specs.Places.{IsWithin};
-ghost use Rattle.console.specs.Sizes.{input_size, output_size};
-ghost use Rattle.joblines.specs.Limits.{job_answer_most};
-
-use console::{
-    Failure, Found, INPUT_SIZE, Kind, OUTPUT_SIZE, answered, finish, fresh_console, is_open,
-    next_line, tell,
-};
-use dispatcher::dispatcher::{Dispatcher, fresh_dispatcher};
-use joblines::play::{JobAnswered, answer_job_line};
-use joblines::print::print_job_unreadable;
-use lines::limits::{CHECK_STORE, IMAGE_LIMIT, MARKS_LIMIT};
+use console::{OUTPUT_SIZE, Player, play, tell};
+use joblines::play::Jobs;
+use joblines::print::put_job_unreadable;
 use std::process::ExitCode;
+use text::space::Text;
 
-// The answer to what was found, put behind the text that waits.
-fn answer_found(
-    d: Dispatcher,
-    found: Found,
-    input: &[u8],
-    bytes: &mut [u8; IMAGE_LIMIT],
-    marks: &mut [u8; MARKS_LIMIT],
-    space: &mut [u8; IMAGE_LIMIT],
-    check: &mut [u8; CHECK_STORE],
-    out: &mut [u8],
-) -> JobAnswered
-    requires within { IsWithin found }
-    requires input_len { (length input.now ≡ input_size) × (length out.old ≡ output_size) }
-    ensures { result.count ≤ job_answer_most }
-{
-    let kind = found.kind;
-    let start = found.start;
-    let end = found.end;
-    let at = found.console.count;
-    match kind {
-        Kind::Nothing => JobAnswered {
-            dispatcher: d,
-            count: 0,
-        },
-        Kind::Long => JobAnswered {
-            dispatcher: d,
-            count: print_job_unreadable(&mut out[at..]),
-        },
-        Kind::Line => answer_job_line(
-            d,
-            &input[start..end],
-            bytes,
-            marks,
-            space,
-            check,
-            &mut out[at..],
-        ),
-    }
+// A session of jobs, which a line that is too long leaves as it is.
+#[derive(Drop)]
+struct JobsPlayer {
+    jobs: Jobs,
 }
 
-// A proved loop has to end, and nothing says that the input does. So the loop counts its turns down, from a number that
-// no run uses up. The pace hangs on two things: the state is a local of the loop, taken out of the answer once, and it
-// is handed to the loop, not made beside it.
-fn play(
-    rt: HostRuntime,
-    mut dispatcher: Dispatcher,
-    input: &mut [u8],
-    bytes: &mut [u8; IMAGE_LIMIT],
-    marks: &mut [u8; MARKS_LIMIT],
-    space: &mut [u8; IMAGE_LIMIT],
-    check: &mut [u8; CHECK_STORE],
-    out: &mut [u8],
-) -> Result<(), Failure>
-    requires { (length input.old ≡ input_size) × (length out.old ≡ output_size) }
-{
-    let mut console = fresh_console();
-    let mut turns = u64::MAX;
-    while turns > 0 {
-        if !is_open(console) {
-            break;
+impl Player for JobsPlayer {
+    fn answer(&mut self, line: Option<&[u8]>, out: &mut Text<OUTPUT_SIZE>) {
+        match line {
+            Some(line) => self.jobs.answer(line, out),
+            None => put_job_unreadable(out),
         }
-        turns -= 1;
-        let found = next_line(rt, console, input, out)?;
-        let answer = answer_found(dispatcher, found, input, bytes, marks, space, check, out);
-        dispatcher = answer.dispatcher;
-        console = answered(found.console, answer.count);
     }
-    finish(rt, console, out)
 }
 
 fn main(rt: HostRuntime) -> ExitCode {
-    let mut input = [0u8; INPUT_SIZE];
-    let mut bytes = [0u8; IMAGE_LIMIT];
-    let mut marks = [0u8; MARKS_LIMIT];
-    let mut space = [0u8; IMAGE_LIMIT];
-    let mut check = [0u8; CHECK_STORE];
-    let mut out = [0u8; OUTPUT_SIZE];
-    let end = play(
-        rt,
-        fresh_dispatcher(),
-        &mut input,
-        &mut bytes,
-        &mut marks,
-        &mut space,
-        &mut check,
-        &mut out,
-    );
+    let mut player = JobsPlayer { jobs: Jobs::new() };
+    let end = play(&mut rt.stdin(), &mut rt.stdout(), &mut player);
     tell(
         rt,
         end,

@@ -6,8 +6,8 @@ use native.Mathlib.Omega.{arith}
 use Rattle.common.specs.Pick.{pick}
 use Rattle.link.specs.declared.state.Action.{Action}
 use Rattle.link.specs.declared.state.Action.TheVariants.{Nothing, Byte, Text, Order}
-use Rattle.link.specs.declared.state.Handed.{Handed}
-use Rattle.link.specs.declared.state.Handed.TheVariants.{NoneHanded, OneHanded}
+use Rattle.link.specs.State.{Handed}
+use Rattle.std.specs.Prelude.{None, Some}
 use Rattle.layout.specs.Answers.{action_kind, action_frame, is_settled, settled_record, answer_bytes, action_of}
 use Rattle.layout.specs.Answers.{handed_of, given_of}
 use Rattle.layout.specs.Fitting.{AnswerFits}
@@ -23,9 +23,9 @@ action_round (Order frame) h n = refl
 pub handed_round : (a : Action) (h : Handed) (n : ℕ) → (settled_record h).count ≤ 65535
     → handed_of (answer_bytes a h n) ≡ h
 unfolding handed_of answer_bytes is_settled settled_record pick
-handed_round a NoneHanded n fits = refl
-handed_round a (OneHanded result) n fits =
-    ap (λ (k : ℕ). OneHanded (record { code = result.code; motion = result.motion; count = k }))
+handed_round a None n fits = refl
+handed_round a (Some result) n fits =
+    ap (λ (k : ℕ). Some (record { code = result.code; motion = result.motion; count = k }))
     (count_round result.count fits)
 
 four_round : (n : ℕ) → n ≤ 4294967295

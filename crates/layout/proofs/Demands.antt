@@ -2,7 +2,7 @@
 -- `written_states_are_told_apart`, `written_bytes_are_a_state`, `written_controllers_read_back`; of answers
 -- `answers_read_back` and `answers_are_told_apart`; and what fits: `states_in_range_fit`, `answers_in_range_fit`.
 -- Assumes nothing.
-use mathlib.Core.Path.{◌≡◌, refl, sym, ap, ◌∙◌}
+use mathlib.Core.Path.{◌≡◌, refl, sym, ap, ap₂, ◌∙◌}
 use mathlib.Core.Bool.{Bool, true}
 use mathlib.Core.List.{List}
 use contract.Lifetimes.{Lfts}
@@ -10,14 +10,14 @@ use denote.Ref.{Bor, MutBor, at_last}
 use Prim.Native.Nat.{ℕ, ◌≤◌}
 use native.Mathlib.Omega.{arith}
 use Rattle.link.specs.declared.state.Action.{Action}
-use Rattle.link.specs.declared.state.Handed.{Handed}
-use Rattle.link.specs.declared.state.Handed.TheVariants.{NoneHanded, OneHanded}
+use Rattle.link.specs.State.{Handed}
+use Rattle.std.specs.Prelude.{None, Some}
 use Rattle.controller.specs.declared.controller.Controller.{Controller}
 use Rattle.controller.specs.InRange.{HandedInRange}
 use Rattle.dispatcher.specs.declared.dispatcher.Dispatcher.{Dispatcher}
 use Rattle.dispatcher.specs.InRange.{InRange}
 use Rattle.layout.specs.Reading.{queue_at, queues_of, state_of, is_state}
-use Rattle.layout.specs.Writing.{controller_bytes}
+use Rattle.layout.specs.Writing.{state_bytes, controller_bytes}
 use Rattle.layout.specs.Answers.{settled_record, action_of, handed_of, given_of}
 use Rattle.layout.specs.Fitting.{Fits, AnswerFits}
 use Rattle.layout.proofs.RoundTrip.{state_round, state_bytes_tell, state_readable}
@@ -48,9 +48,11 @@ use Rattle.layout.proofs.answers.answer_bytes.Statement as answer-statement
 
 -- a state is written into a space, wherever that lies, and it then holds these bytes
 pub record Written (d : Dispatcher) (bytes : List ℕ) : Type 0 where
-  pub lifetimes : Lfts 1
+  pub lifetimes : Lfts 2
+  pub state : Bor Dispatcher
   pub space : MutBor (List ℕ)
-  pub promise : put_reads.Post lifetimes (d, (space, tt)) tt (d, (at_last space bytes, tt))
+  pub holds_state : state.now ≡ d
+  pub promise : put_reads.Post lifetimes (state, (space, tt)) tt (state, (at_last space bytes, tt))
 
 -- a state is read from these bytes, wherever they lie
 pub record Read (bytes : List ℕ) (d : Dispatcher) : Type 0 where
@@ -82,10 +84,12 @@ pub record ToldSound (bytes : List ℕ) (told : Bool) : Type 0 where
 
 -- a controller is written beside the queues that stand in a space
 pub record WrittenBeside (c : Controller) (before bytes : List ℕ) : Type 0 where
-  pub lifetimes : Lfts 1
+  pub lifetimes : Lfts 2
+  pub controller : Bor Controller
   pub space : MutBor (List ℕ)
+  pub holds_controller : controller.now ≡ c
   pub holds : space.now ≡ before
-  pub promise : beside-reads.Post lifetimes (c, (space, tt)) tt (c, (at_last space bytes, tt))
+  pub promise : beside-reads.Post lifetimes (controller, (space, tt)) tt (controller, (at_last space bytes, tt))
 
 -- these bytes are an answer's
 pub record Answered (action : Action) (handed : Handed) (given : ℕ) (bytes : List ℕ) : Type 0 where
@@ -115,25 +119,34 @@ functions_meet_their_contracts =
       answering = answer-met.met;
     }
 
+-- ---- what is written
+
+pub written_is : (d : Dispatcher) (bytes : List ℕ) → Written d bytes → bytes ≡ state_bytes d
+written_is d bytes written = written.promise ∙ ap state_bytes written.holds_state
+
+pub beside_is : (c : Controller) (before bytes : List ℕ) → WrittenBeside c before bytes
+    → bytes ≡ controller_bytes c before
+beside_is c before bytes written = written.promise ∙ ap₂ controller_bytes written.holds_controller written.holds
+
 -- ---- states
 
 -- Reading back what was written gives the state, for every state that fits.
 pub written_states_read_back : (d e : Dispatcher) (bytes : List ℕ) → Fits d → Written d bytes → Read bytes e → e ≡ d
 written_states_read_back d e bytes fits written read =
-    read.promise ∙ ap state_of (read.holds ∙ written.promise) ∙ state_round d fits
+    read.promise ∙ ap state_of (read.holds ∙ written_is d bytes written) ∙ state_round d fits
 
 -- Two states that fit have different bytes.
 pub written_states_are_told_apart : (d e : Dispatcher) (bytes : List ℕ) → Fits d → Fits e → Written d bytes
     → Written e bytes
     → d ≡ e
 written_states_are_told_apart d e bytes one two first second =
-    state_bytes_tell d e one two (sym first.promise ∙ second.promise)
+    state_bytes_tell d e one two (sym (written_is d bytes first) ∙ written_is e bytes second)
 
 -- What was written is a state's, whether its fields are in range or not.
 pub written_bytes_are_a_state : (d : Dispatcher) (bytes : List ℕ) (told : Bool) → Written d bytes → Told bytes told
     → told ≡ true
 written_bytes_are_a_state d bytes told written is =
-    is.promise ∙ ap is_state (is.holds ∙ written.promise) ∙ state_readable d
+    is.promise ∙ ap is_state (is.holds ∙ written_is d bytes written) ∙ state_readable d
 
 -- A controller that is written beside queues is read back, and so are the queues that stood there.
 pub beside_round : (c : Controller) (before : List ℕ) → c.body.outcome.result.count ≤ 65535
@@ -150,7 +163,7 @@ pub written_controllers_read_back : (c : Controller) (e : Dispatcher) (before by
     → e ≡ record { controller = c; queues = queues_of before }
 written_controllers_read_back c e before bytes few written read =
     read.promise
-    ∙ ap state_of (read.holds ∙ written.promise ∙ ap (controller_bytes c) written.holds)
+    ∙ ap state_of (read.holds ∙ beside_is c before bytes written)
     ∙ beside_round c before few
 
 -- ---- answers
@@ -196,5 +209,5 @@ states_in_range_fit d fine =
 pub answers_in_range_fit : (handed : Handed) (given : ℕ) → HandedInRange handed → given ≤ 4294967295
     → AnswerFits handed given
 unfolding HandedInRange settled_record
-answers_in_range_fit NoneHanded given fine few = record { count = omega arith; bytes = few }
-answers_in_range_fit (OneHanded result) given fine few = record { count = fine.count; bytes = few }
+answers_in_range_fit None given fine few = record { count = omega arith; bytes = few }
+answers_in_range_fit (Some result) given fine few = record { count = fine.count; bytes = few }

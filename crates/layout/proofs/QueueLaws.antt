@@ -4,11 +4,13 @@ use mathlib.Core.Path.{◌≡◌, sym, ap, ◌∙◌}
 use Prim.Native.Nat.{ℕ, zero, suc, ◌+◌, ◌≤◌}
 use native.Mathlib.Omega.{arith}
 use mathlib.Core.List.{List, [], ◌∷◌, ◌++◌, append_assoc}
-use lib.ListN.{length, drop, drop_of_length-le}
+use lib.ListN.{length, length-append, drop, drop_of_length-le}
 use lib.Seq.{drop-cons}
 use Rattle.controller.specs.declared.controller.Controller.{Controller}
 use Rattle.layout.specs.Reading.{byte_at, queue_at, queues_of}
 use Rattle.layout.specs.Writing.{head_bytes, phase_bytes, queue_bytes, state_bytes, controller_bytes}
+use Rattle.layout.proofs.PlacedLaws.{Front}
+use Rattle.layout.proofs.Lengths.{head_length_lem, phase_length_lem}
 
 -- so many bytes from a place on, one by one
 abbrev bytes_from : ℕ → ℕ → List ℕ → List ℕ
@@ -45,3 +47,12 @@ queues_stay c s long =
     ∙ sym (append_assoc (front ++ q0) q1 (q2 ++ (q3 ++ last)))
     ∙ sym (append_assoc (front ++ q0 ++ q1) q2 (q3 ++ last))
     ∙ sym (append_assoc (front ++ q0 ++ q1 ++ q2) q3 last)
+
+-- and so a controller that is put beside them is the front of a state
+pub controller_put : (c : Controller) (space now : List ℕ) → length space ≡ 224 → now ≡ controller_bytes c space
+    → Front space now (head_bytes c.body ++ phase_bytes c.phase) 59
+controller_put c space now long put =
+    record {
+      is = put ∙ sym (queues_stay c space long);
+      long = simp (length-append, head_length_lem c.body, phase_length_lem c.phase);
+    }

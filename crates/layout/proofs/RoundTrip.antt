@@ -107,26 +107,29 @@ queue_round q long = ap (λ (l : List Store). record { stores = l; length = q.le
 
 queues_round : (d : Dispatcher) → Fits d
     → record {
-      q0 = queue_at (queue_bytes d.queues.q0) 0;
-      q1 = queue_at (queue_bytes d.queues.q1) 0;
-      q2 = queue_at (queue_bytes d.queues.q2) 0;
-      q3 = queue_at (queue_bytes d.queues.q3) 0;
+      jobs =
+          record {
+            zero = queue_at (queue_bytes d.queues.jobs.zero) 0;
+            one = queue_at (queue_bytes d.queues.jobs.one) 0;
+            two = queue_at (queue_bytes d.queues.jobs.two) 0;
+            three = queue_at (queue_bytes d.queues.jobs.three) 0;
+          };
       last = d.queues.last;
     }
     ≡ d.queues
 queues_round d f =
     simp (
-      queue_round d.queues.q0 f.q0,
-      queue_round d.queues.q1 f.q1,
-      queue_round d.queues.q2 f.q2,
-      queue_round d.queues.q3 f.q3,
+      queue_round d.queues.jobs.zero f.q0,
+      queue_round d.queues.jobs.one f.q1,
+      queue_round d.queues.jobs.two f.q2,
+      queue_round d.queues.jobs.three f.q3,
     )
 
 -- ten bytes of a phase, whatever they are
 queues_read : (b : Body) (p : Phase) (d : Dispatcher) → Fits d
     → queues_of
-    (joined b (phase_bytes p) (queue_bytes d.queues.q0) (queue_bytes d.queues.q1) (queue_bytes d.queues.q2)
-    (queue_bytes d.queues.q3) d.queues.last)
+    (joined b (phase_bytes p) (queue_bytes d.queues.jobs.zero) (queue_bytes d.queues.jobs.one)
+    (queue_bytes d.queues.jobs.two) (queue_bytes d.queues.jobs.three) d.queues.last)
     ≡ d.queues
 unfolding queues_of queue_at head_bytes phase_bytes queue_bytes
 queues_read b (Collecting s) d f = queues_round d f
@@ -144,10 +147,10 @@ unfolding state_of state_bytes
 state_round d f =
     let b = d.controller.body in
     let p = d.controller.phase in
-    let body = body_read b (phase_bytes p) (queue_bytes d.queues.q0) (queue_bytes d.queues.q1)
-    (queue_bytes d.queues.q2) (queue_bytes d.queues.q3) d.queues.last f.count in
-    let phase = phase_read b p (queue_bytes d.queues.q0) (queue_bytes d.queues.q1) (queue_bytes d.queues.q2)
-    (queue_bytes d.queues.q3) d.queues.last in
+    let body = body_read b (phase_bytes p) (queue_bytes d.queues.jobs.zero) (queue_bytes d.queues.jobs.one)
+    (queue_bytes d.queues.jobs.two) (queue_bytes d.queues.jobs.three) d.queues.last f.count in
+    let phase = phase_read b p (queue_bytes d.queues.jobs.zero) (queue_bytes d.queues.jobs.one)
+    (queue_bytes d.queues.jobs.two) (queue_bytes d.queues.jobs.three) d.queues.last in
     let queues = queues_read b p d f in
     simp (body, phase, queues)
 
@@ -208,10 +211,10 @@ unfolding is_state state_bytes
 state_readable d =
     let b = d.controller.body in
     let p = d.controller.phase in
-    let x0 = queue_bytes d.queues.q0 in
-    let x1 = queue_bytes d.queues.q1 in
-    let x2 = queue_bytes d.queues.q2 in
-    let x3 = queue_bytes d.queues.q3 in
+    let x0 = queue_bytes d.queues.jobs.zero in
+    let x1 = queue_bytes d.queues.jobs.one in
+    let x2 = queue_bytes d.queues.jobs.two in
+    let x3 = queue_bytes d.queues.jobs.three in
     let last = d.queues.last in
     ap₂ ◌&&◌
     (ap₂ ◌&&◌ (layout_good b (phase_bytes p) x0 x1 x2 x3 last) (flags_good b (phase_bytes p) x0 x1 x2 x3 last))

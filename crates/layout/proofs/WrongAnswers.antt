@@ -16,20 +16,20 @@ use Rattle.status.specs.declared.words.Outcome.{Outcome}
 use Rattle.link.specs.declared.frames.Frame.{Frame}
 use Rattle.link.specs.declared.state.Action.{Action}
 use Rattle.link.specs.declared.state.Action.TheVariants.{Order}
-use Rattle.link.specs.declared.state.Handed.{Handed}
-use Rattle.link.specs.declared.state.Handed.TheVariants.{OneHanded}
+use Rattle.link.specs.State.{Handed}
+use Rattle.std.specs.Prelude.{Some}
 use Rattle.controller.specs.declared.controller.Controller.{Controller}
 use Rattle.queues.specs.Jobs.{are_sound}
 use Rattle.dispatcher.specs.declared.dispatcher.Dispatcher.{Dispatcher}
 use Rattle.layout.specs.Reading.{byte_at, outcome_of, body_of, queue_at, queues_of, controller_of, state_of, are_flags}
 use Rattle.layout.specs.Reading.{is_phase, is_state, has_sound_queues}
-use Rattle.layout.specs.Writing.{head_bytes, phase_bytes, controller_bytes}
+use Rattle.layout.specs.Writing.{head_bytes, phase_bytes}
 use Rattle.layout.specs.Answers.{action_kind, settled_record, answer_bytes}
 use Rattle.layout.specs.Fitting.{Fits}
 use Rattle.layout.proofs.Lengths.{head_length_lem, phase_length_lem}
 use Rattle.layout.proofs.QueueLaws.{queues_stay}
 use Rattle.layout.proofs.Demands.{Written, Read, Told, ReadController, ToldSound, WrittenBeside, Answered}
-use Rattle.layout.proofs.Demands.{written_states_are_told_apart, beside_round}
+use Rattle.layout.proofs.Demands.{written_is, beside_is, written_states_are_told_apart, beside_round}
 
 -- ---- is_state
 
@@ -154,7 +154,8 @@ two_states_are_written_alike d e bytes one two differ first second =
 -- what stood in the space before shows
 pub what_stood_there_shows : (d : Dispatcher) (some others : List ℕ) → Written d some → Written d others
     → (some ≡ others → ⊥) → ⊥
-what_stood_there_shows d some others first second differ = differ (first.promise ∙ sym second.promise)
+what_stood_there_shows d some others first second differ =
+    differ (written_is d some first ∙ sym (written_is d others second))
 
 -- ---- put_controller_bytes
 
@@ -164,7 +165,7 @@ pub the_queues_are_written : (c : Controller) (before bytes : List ℕ) → leng
 the_queues_are_written c before bytes long written wrong =
     let front = head_bytes c.body ++ phase_bytes c.phase in
     let many : length front ≡ 59 = simp (length-append, head_length_lem c.body, phase_length_lem c.phase) in
-    let is = written.promise ∙ ap (controller_bytes c) written.holds ∙ sym (queues_stay c before long) in
+    let is = beside_is c before bytes written ∙ sym (queues_stay c before long) in
     wrong (ap (λ (s : List ℕ). drop 59 s) is ∙ drop_at front (drop 59 before) 59 many)
 
 -- two controllers that fit are written alike
@@ -172,8 +173,8 @@ pub two_controllers_are_written_alike : (c k : Controller) (before bytes : List 
     → c.body.outcome.result.count ≤ 65535 → k.body.outcome.result.count ≤ 65535 → (c ≡ k → ⊥)
     → WrittenBeside c before bytes → WrittenBeside k before bytes → ⊥
 two_controllers_are_written_alike c k before bytes few less differ first second =
-    let one = first.promise ∙ ap (controller_bytes c) first.holds in
-    let two = second.promise ∙ ap (controller_bytes k) second.holds in
+    let one = beside_is c before bytes first in
+    let two = beside_is k before bytes second in
     differ
     (ap (λ (d : Dispatcher). d.controller)
     (sym (beside_round c before few) ∙ ap state_of (sym one ∙ two) ∙ beside_round k before less))
@@ -190,7 +191,7 @@ module _ (action : Action) (handed : Handed) (given : ℕ) (bytes : List ℕ)
       omega arith
 
   -- code and motion are exchanged
-  pub code_and_motion_are_exchanged : (r : ResultRecord) → handed ≡ OneHanded r → (r.code ≡ r.motion → ⊥)
+  pub code_and_motion_are_exchanged : (r : ResultRecord) → handed ≡ Some r → (r.code ≡ r.motion → ⊥)
       → byte_at bytes 8 ≡ r.motion → ⊥
   unfolding answer_bytes settled_record
   code_and_motion_are_exchanged r settled differ wrong =

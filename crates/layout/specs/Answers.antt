@@ -7,8 +7,8 @@ use Rattle.status.specs.declared.words.ResultRecord.{ResultRecord}
 use Rattle.link.specs.declared.frames.Frame.{Frame}
 use Rattle.link.specs.declared.state.Action.{Action}
 use Rattle.link.specs.declared.state.Action.TheVariants.{Nothing, Byte, Text, Order}
-use Rattle.link.specs.declared.state.Handed.{Handed}
-use Rattle.link.specs.declared.state.Handed.TheVariants.{NoneHanded, OneHanded}
+use Rattle.link.specs.State.{Handed}
+use Rattle.std.specs.Prelude.{None, Some}
 use Rattle.layout.specs.Places.{action_place, settled_place, given_place}
 use Rattle.layout.specs.Reading.{byte_at, flag_at, count_at}
 
@@ -28,12 +28,12 @@ action_frame (Order frame) = frame
 
 -- whether a store's code is settled, and its record; zeros where none is
 unfoldable pub is_settled : Handed → Bool
-is_settled NoneHanded = false
-is_settled (OneHanded result) = true
+is_settled None = false
+is_settled (Some result) = true
 
 unfoldable pub settled_record : Handed → ResultRecord
-settled_record NoneHanded = record { code = 0; motion = 0; count = 0 }
-settled_record (OneHanded result) = result
+settled_record None = record { code = 0; motion = 0; count = 0 }
+settled_record (Some result) = result
 
 -- counts have the high byte first
 unfoldable pub answer_bytes : Action → Handed → ℕ → List ℕ
@@ -69,13 +69,13 @@ action_of s =
 unfoldable pub handed_of : List ℕ → Handed
 handed_of s =
     pick (flag_at s settled_place)
-    (OneHanded
+    (Some
     (record {
       code = byte_at s (settled_place + 1);
       motion = byte_at s (settled_place + 2);
       count = count_at s (settled_place + 3);
     }))
-    NoneHanded
+    None
 
 -- how many bytes are given
 unfoldable pub given_of : List ℕ → ℕ

@@ -2,7 +2,7 @@
 -- queues has eight places.
 -- Assumes nothing.
 use Rattle.std.specs.Prelude.{◌≡◌, ℕ, ◌≤◌, length}
-use Rattle.link.specs.declared.state.Handed.{Handed}
+use Rattle.link.specs.State.{Handed}
 use Rattle.queues.specs.declared.queue.Queue.{Queue}
 use Rattle.dispatcher.specs.declared.dispatcher.Dispatcher.{Dispatcher}
 use Rattle.layout.specs.Answers.{settled_record}
@@ -14,10 +14,10 @@ Eight queue = length queue.stores ≡ 8
 -- the count in two bytes, and eight places of each queue
 pub record Fits (d : Dispatcher) : Type 0 where
   pub count : d.controller.body.outcome.result.count ≤ 65535
-  pub q0 : Eight d.queues.q0
-  pub q1 : Eight d.queues.q1
-  pub q2 : Eight d.queues.q2
-  pub q3 : Eight d.queues.q3
+  pub q0 : Eight d.queues.jobs.zero
+  pub q1 : Eight d.queues.jobs.one
+  pub q2 : Eight d.queues.jobs.two
+  pub q3 : Eight d.queues.jobs.three
 
 -- of an answer: the count in two bytes, and at most 4,294,967,295 bytes given
 pub record AnswerFits (handed : Handed) (given : ℕ) : Type 0 where

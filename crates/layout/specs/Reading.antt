@@ -3,14 +3,12 @@
 use Rattle.std.specs.Prelude.{ℕ, ◌+◌, ◌*◌, Bool, ◌&&◌, List, [], ◌∷◌, leb, eqb, get_or}
 use Rattle.common.specs.Pick.{pick}
 use Rattle.status.specs.declared.drives.Drive.{Drive}
-use Rattle.status.specs.declared.drives.Drives.{Drives}
+use Rattle.status.specs.Drives.{Drives}
 use Rattle.status.specs.declared.words.Word.{Word}
 use Rattle.status.specs.declared.words.Outcome.{Outcome}
 use Rattle.operations.specs.declared.store.Store.{Store}
 use Rattle.operations.specs.declared.operation.Operation.{Operation}
-use Rattle.operations.specs.declared.operation.Operation.TheVariants.{Read, CheckBytes, SuppliedCount, Write, Erase}
-use Rattle.operations.specs.declared.operation.Operation.TheVariants.{Rewind, FastForward, SkipForward, SkipReverse}
-use Rattle.operations.specs.declared.operation.Operation.TheVariants.{SearchForward, SearchReverse, WriteMark}
+use Rattle.operations.specs.Operation as operation
 use Rattle.link.specs.declared.state.Collected.{Collected}
 use Rattle.link.specs.declared.state.Kind.{Kind}
 use Rattle.link.specs.declared.state.Kind.TheVariants.{Load, Secondary, Completion, Change}
@@ -60,10 +58,10 @@ drive_at s place =
 unfoldable pub drives_of : List ℕ → Drives
 drives_of s =
     record {
-      d0 = drive_at s drives_place;
-      d1 = drive_at s (drives_place + drive_length);
-      d2 = drive_at s (drives_place + 2 * drive_length);
-      d3 = drive_at s (drives_place + 3 * drive_length);
+      zero = drive_at s drives_place;
+      one = drive_at s (drives_place + drive_length);
+      two = drive_at s (drives_place + 2 * drive_length);
+      three = drive_at s (drives_place + 3 * drive_length);
     }
 
 unfoldable pub outcome_of : List ℕ → Outcome
@@ -152,16 +150,7 @@ send_of s =
 
 -- by the number that the core's table of answers has for it
 unfoldable pub operation_of : ℕ → Operation
-operation_of n =
-    pick (eqb n 0) Read
-    (pick (eqb n 1) CheckBytes
-    (pick (eqb n 2) SuppliedCount
-    (pick (eqb n 3) Write
-    (pick (eqb n 4) Erase
-    (pick (eqb n 5) Rewind
-    (pick (eqb n 6) FastForward
-    (pick (eqb n 7) SkipForward
-    (pick (eqb n 8) SkipReverse (pick (eqb n 9) SearchForward (pick (eqb n 10) SearchReverse WriteMark))))))))))
+operation_of n = operation.operation_of n
 
 unfoldable pub phase_of : List ℕ → Phase
 phase_of s =
@@ -196,10 +185,13 @@ queue_at s place =
 unfoldable pub queues_of : List ℕ → Queues
 queues_of s =
     record {
-      q0 = queue_at s queues_place;
-      q1 = queue_at s (queues_place + queue_length);
-      q2 = queue_at s (queues_place + 2 * queue_length);
-      q3 = queue_at s (queues_place + 3 * queue_length);
+      jobs =
+          record {
+            zero = queue_at s queues_place;
+            one = queue_at s (queues_place + queue_length);
+            two = queue_at s (queues_place + 2 * queue_length);
+            three = queue_at s (queues_place + 3 * queue_length);
+          };
       last = byte_at s last_place;
     }
 
@@ -244,8 +236,8 @@ is_phase number first =
 
 -- bytes of a state, whether its fields are in range or not
 unfoldable pub is_state : List ℕ → Bool
-is_state s = (eqb (byte_at s layout_place) layout && are_flags s)
-    && is_phase (byte_at s phase_place) (byte_at s held_place)
+is_state s =
+    (eqb (byte_at s layout_place) layout && are_flags s) && is_phase (byte_at s phase_place) (byte_at s held_place)
 
 -- bytes of a state whose queues are in range, which every call of the controller asks before it is passed on
 unfoldable pub has_sound_queues : List ℕ → Bool

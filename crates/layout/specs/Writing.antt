@@ -33,10 +33,10 @@ unfoldable pub head_bytes : Body → List ℕ
 head_bytes b =
     let o = b.outcome in
     (layout ∷ [])
-    ++ drive_bytes b.drives.d0
-    ++ drive_bytes b.drives.d1
-    ++ drive_bytes b.drives.d2
-    ++ drive_bytes b.drives.d3
+    ++ drive_bytes b.drives.zero
+    ++ drive_bytes b.drives.one
+    ++ drive_bytes b.drives.two
+    ++ drive_bytes b.drives.three
     ++ (b.selected ∷ bool_byte b.changed ∷ bool_byte b.enable ∷ [])
     ++ (bool_byte o.retry ∷ bool_byte o.mark ∷ o.result.code ∷ o.result.motion ∷ [])
     ++ (o.result.count / 256 % 256 ∷ o.result.count % 256 ∷ [])
@@ -99,10 +99,10 @@ unfoldable pub state_bytes : Dispatcher → List ℕ
 state_bytes d =
     head_bytes d.controller.body
     ++ phase_bytes d.controller.phase
-    ++ queue_bytes d.queues.q0
-    ++ queue_bytes d.queues.q1
-    ++ queue_bytes d.queues.q2
-    ++ queue_bytes d.queues.q3
+    ++ queue_bytes d.queues.jobs.zero
+    ++ queue_bytes d.queues.jobs.one
+    ++ queue_bytes d.queues.jobs.two
+    ++ queue_bytes d.queues.jobs.three
     ++ (d.queues.last ∷ [])
 
 -- the same of a controller beside the queues that stand in these bytes

@@ -1,10 +1,10 @@
-// The bytes of an answer.
+//! The bytes of an answer.
 ghost use Rattle.std.specs.Prelude.{◌≡◌};
-ghost use Rattle.layout.specs.Answers.{action_kind, action_frame, is_settled, settled_record, answer_bytes};
+ghost use Rattle.layout.specs.Answers.{action_kind, action_frame, answer_bytes};
 
 use crate::places::ANSWER_LENGTH;
 use link::frames::Frame;
-use link::state::{Action, Handed};
+use link::state::Action;
 use status::words::ResultRecord;
 
 #[tactic(auto, unfolding(crate::specs::Answers::action_kind))]
@@ -24,59 +24,32 @@ fn action_kind(action: Action) -> u8
 fn action_frame(action: Action) -> Frame
     ensures { result ≡ action_frame action }
 {
-    let mut frame = Frame {
-        b0: 0,
-        b1: 0,
-        b2: 0,
-        b3: 0,
-        b4: 0,
-        b5: 0,
-    };
     match action {
-        Action::Nothing => frame,
-        Action::Byte(byte) => {
-            frame.b0 = byte;
-            frame
-        }
+        Action::Nothing => Frame::default(),
+        Action::Byte(byte) => Frame {
+            b0: byte,
+            ..Frame::default()
+        },
         Action::Text(text) => text,
         Action::Order(order) => order,
     }
 }
 
-#[tactic(auto, unfolding(crate::specs::Answers::is_settled))]
-fn is_settled(handed: Handed) -> bool
-    ensures { result ≡ is_settled handed }
-{
-    match handed {
-        Handed::NoneHanded => false,
-        Handed::OneHanded(_) => true,
-    }
-}
-
-// The record of a settled store, zeros where none is.
-#[tactic(auto, unfolding(crate::specs::Answers::settled_record))]
-fn settled_record(handed: Handed) -> ResultRecord
-    ensures { result ≡ settled_record handed }
-{
-    match handed {
-        Handed::NoneHanded => ResultRecord {
-            code: 0,
-            motion: 0,
-            count: 0,
-        },
-        Handed::OneHanded(result) => result,
-    }
-}
-
-// A whole answer, with how many bytes of the lent space are given.
-#[tactic(auto, unfolding(crate::specs::Answers::answer_bytes))]
-pub fn answer_bytes(action: Action, handed: Handed, given: usize) -> [u8; ANSWER_LENGTH]
+/// A whole answer, with how many bytes of the lent space are given. Where no store is settled, its record is zeros.
+#[tactic(auto, unfolding(crate::specs::Answers::answer_bytes, crate::specs::Answers::is_settled, crate::specs::Answers::settled_record))]
+pub fn answer_bytes(
+    action: Action,
+    handed: Option<ResultRecord>,
+    given: usize,
+) -> [u8; ANSWER_LENGTH]
     ensures { result ≡ answer_bytes action handed given }
 {
     let kind = action_kind(action);
     let frame = action_frame(action);
-    let settled = is_settled(handed);
-    let record = settled_record(handed);
+    let settled = handed.is_some();
+    let record = handed.unwrap_or_default();
+    let [_, _, count_high, count_low] = record.count.to_be_bytes();
+    let [_, _, _, _, given_0, given_1, given_2, given_3] = (given as u64).to_be_bytes();
     [
         kind,
         frame.b0,
@@ -88,11 +61,11 @@ pub fn answer_bytes(action: Action, handed: Handed, given: usize) -> [u8; ANSWER
         settled as u8,
         record.code,
         record.motion,
-        (record.count / 256 % 256) as u8,
-        (record.count % 256) as u8,
-        (given / 16777216 % 256) as u8,
-        (given / 65536 % 256) as u8,
-        (given / 256 % 256) as u8,
-        (given % 256) as u8,
+        count_high,
+        count_low,
+        given_0,
+        given_1,
+        given_2,
+        given_3,
     ]
 }

@@ -1,4 +1,4 @@
-// The layout of a dispatcher's state, and of an answer, as bytes. It knows nothing of the calls.
+//! The layout of a dispatcher's state, and of an answer, as bytes. It knows nothing of the calls.
 #![tactic(auto)]
 
 pub mod answers;

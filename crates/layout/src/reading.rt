@@ -1,4 +1,4 @@
-// The state that bytes hold. Any bytes are read; whether a field can mean its byte is told apart by is_state.
+//! The state that bytes hold. Any bytes are read; whether a field can mean its byte is told apart by is_state.
 ghost use Rattle.std.specs.Prelude.{◌≡◌, ◌+◌, ◌≤◌};
 ghost use Rattle.layout.specs.Places.{state_length, drive_length, store_length, queue_length};
 ghost use Rattle.layout.specs.Reading.{drive_at, drives_of, count_at, outcome_of, word_at, body_of, store_at};
@@ -13,6 +13,7 @@ use crate::places::{
     RDL_PLACE, RESULT_AWAITED, RETRY_PLACE, SELECTED_PLACE, SENDING, STATE_LENGTH, STORE_LENGTH,
     SUPPLIED_PLACE, TERTIARY_PLACE, UNDERFLOW_PLACE, WDL_PLACE,
 };
+use common::four::Four;
 use controller::controller::Controller;
 use dispatcher::dispatcher::Dispatcher;
 use link::frames::Frame;
@@ -42,20 +43,12 @@ fn drive_at(s: &[u8; STATE_LENGTH], place: usize) -> Drive
 fn drives_of(s: &[u8; STATE_LENGTH]) -> Drives
     ensures { result ≡ drives_of s.now }
 {
-    Drives {
-        d0: drive_at(s, DRIVES_PLACE),
-        d1: drive_at(s, DRIVES_PLACE + DRIVE_LENGTH),
-        d2: drive_at(s, DRIVES_PLACE + 2 * DRIVE_LENGTH),
-        d3: drive_at(s, DRIVES_PLACE + 3 * DRIVE_LENGTH),
+    Four {
+        zero: drive_at(s, DRIVES_PLACE),
+        one: drive_at(s, DRIVES_PLACE + DRIVE_LENGTH),
+        two: drive_at(s, DRIVES_PLACE + 2 * DRIVE_LENGTH),
+        three: drive_at(s, DRIVES_PLACE + 3 * DRIVE_LENGTH),
     }
-}
-
-// A byte as a number.
-fn byte(byte: u8) -> u32
-    ensures value { result ≡ byte }
-    ensures upper_bound { result ≤ 255 }
-{
-    byte as u32
 }
 
 // Two bytes, the high one first.
@@ -63,7 +56,7 @@ fn count_at(s: &[u8; STATE_LENGTH], place: usize) -> u32
     requires { place + 2 ≤ state_length }
     ensures { result ≡ count_at s.now place }
 {
-    byte(s[place]) * 256 + byte(s[place + 1])
+    u32::from(u16::from_be_bytes([s[place], s[place + 1]]))
 }
 
 #[tactic(auto, unfolding(crate::specs::Reading::outcome_of))]
@@ -106,18 +99,14 @@ fn word_at(s: &[u8; STATE_LENGTH], place: usize) -> Word
 fn body_of(s: &[u8; STATE_LENGTH]) -> Body
     ensures { result ≡ body_of s.now }
 {
-    let drives = drives_of(s);
-    let outcome = outcome_of(s);
-    let tertiary = word_at(s, TERTIARY_PLACE);
-    let quintary = word_at(s, QUINTARY_PLACE);
     Body {
-        drives,
+        drives: drives_of(s),
         selected: s[SELECTED_PLACE],
         changed: s[CHANGED_PLACE] == 1,
         enable: s[ENABLE_PLACE] == 1,
-        outcome,
-        tertiary,
-        quintary,
+        outcome: outcome_of(s),
+        tertiary: word_at(s, TERTIARY_PLACE),
+        quintary: word_at(s, QUINTARY_PLACE),
     }
 }
 
@@ -182,24 +171,12 @@ fn send_of(s: &[u8; STATE_LENGTH]) -> Send
     }
 }
 
-#[tactic(auto, unfolding(crate::specs::Reading::operation_of, common::specs::Pick::pick))]
+// The operation of a number; from 11 on the last.
+#[tactic(auto, unfolding(crate::specs::Reading::operation_of))]
 fn operation_of(number: u8) -> Operation
     ensures { result ≡ operation_of number }
 {
-    match number {
-        0 => Operation::Read,
-        1 => Operation::CheckBytes,
-        2 => Operation::SuppliedCount,
-        3 => Operation::Write,
-        4 => Operation::Erase,
-        5 => Operation::Rewind,
-        6 => Operation::FastForward,
-        7 => Operation::SkipForward,
-        8 => Operation::SkipReverse,
-        9 => Operation::SearchForward,
-        10 => Operation::SearchReverse,
-        _ => Operation::WriteMark,
-    }
+    Operation::try_from(number).unwrap_or(Operation::WriteMark)
 }
 
 #[tactic(auto, unfolding(crate::specs::Reading::phase_of, common::specs::Pick::pick))]
@@ -245,36 +222,36 @@ fn queue_at(s: &[u8; STATE_LENGTH], place: usize) -> Queue
 fn queues_of(s: &[u8; STATE_LENGTH]) -> Queues
     ensures { result ≡ queues_of s.now }
 {
-    let q0 = queue_at(s, QUEUES_PLACE);
-    let q1 = queue_at(s, QUEUES_PLACE + QUEUE_LENGTH);
-    let q2 = queue_at(s, QUEUES_PLACE + 2 * QUEUE_LENGTH);
-    let q3 = queue_at(s, QUEUES_PLACE + 3 * QUEUE_LENGTH);
     Queues {
-        q0,
-        q1,
-        q2,
-        q3,
+        jobs: Four {
+            zero: queue_at(s, QUEUES_PLACE),
+            one: queue_at(s, QUEUES_PLACE + QUEUE_LENGTH),
+            two: queue_at(s, QUEUES_PLACE + 2 * QUEUE_LENGTH),
+            three: queue_at(s, QUEUES_PLACE + 3 * QUEUE_LENGTH),
+        },
         last: s[LAST_PLACE],
     }
 }
 
-// The controller alone, a quarter of the bytes.
+/// The controller alone, a quarter of the bytes.
 pub fn controller_of(s: &[u8; STATE_LENGTH]) -> Controller
     ensures { result ≡ controller_of s.now }
 {
-    let body = body_of(s);
-    let phase = phase_of(s);
-    Controller { body, phase }
+    Controller {
+        body: body_of(s),
+        phase: phase_of(s),
+    }
 }
 
-// The whole state.
+/// The whole state.
 #[tactic(auto, unfolding(crate::specs::Reading::state_of))]
 pub fn state_of(s: &[u8; STATE_LENGTH]) -> Dispatcher
     ensures { result ≡ state_of s.now }
 {
-    let controller = controller_of(s);
-    let queues = queues_of(s);
-    Dispatcher { controller, queues }
+    Dispatcher {
+        controller: controller_of(s),
+        queues: queues_of(s),
+    }
 }
 
 // Whether each flag is 0 or 1.
@@ -312,7 +289,7 @@ fn is_phase(number: u8, first: u8) -> bool
     }
 }
 
-// Whether bytes are those of a state, whose fields may be out of range.
+/// Whether bytes are those of a state, whose fields may be out of range.
 #[tactic(auto, unfolding(crate::specs::Reading::is_state))]
 pub fn is_state(s: &[u8; STATE_LENGTH]) -> bool
     ensures { result ≡ is_state s.now }
@@ -320,7 +297,7 @@ pub fn is_state(s: &[u8; STATE_LENGTH]) -> bool
     (s[LAYOUT_PLACE] == LAYOUT) & are_flags(s) & is_phase(s[PHASE_PLACE], s[HELD_PLACE])
 }
 
-// The same, and whether the lengths of the queues and the last job served are in range: by these five bytes of them.
+/// The same, and whether the lengths of the queues and the last job served are in range: by these five bytes of them.
 #[tactic(auto, unfolding(crate::specs::Reading::has_sound_queues, queues::specs::Jobs::are_sound, crate::specs::Reading::queues_of, crate::specs::Reading::queue_at))]
 pub fn has_sound_queues(s: &[u8; STATE_LENGTH]) -> bool
     ensures { result ≡ has_sound_queues s.now }

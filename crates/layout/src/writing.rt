@@ -1,7 +1,6 @@
-// The bytes of a state: each part as an array, put where it stands.
+//! The bytes of a state: each part as an array, put where it stands.
 ghost use Rattle.std.specs.Prelude.{◌≡◌, ◌+◌, ◌≤◌, length};
-ghost use Rattle.operations.specs.Operation.{number_of};
-ghost use Rattle.layout.specs.Writing.{placed, head_bytes, collected_bytes, held_bytes, kind_number, phase_bytes};
+ghost use Rattle.layout.specs.Writing.{placed, head_bytes, collected_bytes, held_bytes, phase_bytes};
 ghost use Rattle.layout.specs.Writing.{queue_bytes, state_bytes, controller_bytes};
 
 use crate::places::{
@@ -9,11 +8,9 @@ use crate::places::{
     LAYOUT, LAYOUT_PLACE, PHASE_LENGTH, PHASE_PLACE, QUEUE_LENGTH, QUEUES_PLACE, RESULT_AWAITED,
     SENDING, STATE_LENGTH,
 };
-use common::overwrite;
 use controller::controller::Controller;
 use dispatcher::dispatcher::Dispatcher;
-use link::state::{Body, Collected, Kind, Phase};
-use operations::operation::Operation;
+use link::state::{Body, Collected, Phase};
 use operations::store::Store;
 use queues::queue::Queue;
 
@@ -22,39 +19,40 @@ use queues::queue::Queue;
 fn head_bytes(b: Body) -> [u8; HEAD_LENGTH]
     ensures { result ≡ head_bytes b }
 {
-    let d0 = b.drives.d0;
-    let d1 = b.drives.d1;
-    let d2 = b.drives.d2;
-    let d3 = b.drives.d3;
+    let zero = b.drives.zero;
+    let one = b.drives.one;
+    let two = b.drives.two;
+    let three = b.drives.three;
     let o = b.outcome;
     let t = b.tertiary;
     let q = b.quintary;
+    let [_, _, count_high, count_low] = o.result.count.to_be_bytes();
     [
         LAYOUT,
-        d0.report,
-        d0.reviewed,
-        d0.track,
-        d0.density,
-        d0.gap,
-        d0.guard as u8,
-        d1.report,
-        d1.reviewed,
-        d1.track,
-        d1.density,
-        d1.gap,
-        d1.guard as u8,
-        d2.report,
-        d2.reviewed,
-        d2.track,
-        d2.density,
-        d2.gap,
-        d2.guard as u8,
-        d3.report,
-        d3.reviewed,
-        d3.track,
-        d3.density,
-        d3.gap,
-        d3.guard as u8,
+        zero.report,
+        zero.reviewed,
+        zero.track,
+        zero.density,
+        zero.gap,
+        zero.guard as u8,
+        one.report,
+        one.reviewed,
+        one.track,
+        one.density,
+        one.gap,
+        one.guard as u8,
+        two.report,
+        two.reviewed,
+        two.track,
+        two.density,
+        two.gap,
+        two.guard as u8,
+        three.report,
+        three.reviewed,
+        three.track,
+        three.density,
+        three.gap,
+        three.guard as u8,
         b.selected,
         b.changed as u8,
         b.enable as u8,
@@ -62,8 +60,8 @@ fn head_bytes(b: Body) -> [u8; HEAD_LENGTH]
         o.mark as u8,
         o.result.code,
         o.result.motion,
-        (o.result.count / 256 % 256) as u8,
-        (o.result.count % 256) as u8,
+        count_high,
+        count_low,
         o.parity as u8,
         o.overflow as u8,
         o.underflow as u8,
@@ -109,26 +107,7 @@ fn held_bytes(number: u8, store: Store) -> [u8; PHASE_LENGTH]
     ]
 }
 
-#[tactic(auto, unfolding(crate::specs::Writing::kind_number))]
-fn kind_number(kind: Kind) -> u8
-    ensures { result ≡ kind_number kind }
-{
-    match kind {
-        Kind::Load => 0,
-        Kind::Secondary => 1,
-        Kind::Completion => 2,
-        Kind::Change => 3,
-    }
-}
-
-// The number of an operation, which is below 12.
-fn number_of(operation: Operation) -> u8
-    ensures { result ≡ number_of operation }
-{
-    operations::operation::number_of(operation) as u8
-}
-
-#[tactic(auto, unfolding(crate::specs::Writing::phase_bytes))]
+#[tactic(auto, unfolding(crate::specs::Writing::phase_bytes, crate::specs::Writing::kind_number))]
 fn phase_bytes(phase: Phase) -> [u8; PHASE_LENGTH]
     ensures { result ≡ phase_bytes phase }
 {
@@ -136,11 +115,10 @@ fn phase_bytes(phase: Phase) -> [u8; PHASE_LENGTH]
         Phase::Collecting(s) => collected_bytes(COLLECTING, s),
         Phase::AckOffered(s) => collected_bytes(ACK_OFFERED, s),
         Phase::Sending(send) => {
-            let kind = send.kind;
             let f = send.bytes;
             [
                 SENDING,
-                kind_number(kind),
+                send.kind as u8,
                 f.b0,
                 f.b1,
                 f.b2,
@@ -155,7 +133,7 @@ fn phase_bytes(phase: Phase) -> [u8; PHASE_LENGTH]
         Phase::DataAwaited(store) => held_bytes(DATA_AWAITED, store),
         Phase::ResultAwaited(operation, store) => [
             RESULT_AWAITED,
-            number_of(operation),
+            operation.number(),
             store.address,
             store.first,
             store.second,
@@ -228,46 +206,39 @@ fn queue_bytes(queue: Queue) -> [u8; QUEUE_LENGTH]
 }
 
 // Puts bytes at a place.
-#[tactic(auto, using(common::proofs::SpaceLaws::overwritten_all), unfolding(crate::specs::Writing::placed))]
+#[tactic(auto, unfolding(crate::specs::Writing::placed))]
 fn put_placed(bytes: &[u8], place: usize, space: &mut [u8])
     requires { place + length bytes.now ≤ length space.old }
     ensures { space.new ≡ placed bytes.now place space.old }
 {
-    let end = place + bytes.len();
-    overwrite(bytes, &mut space[place..end]);
+    space[place..place + bytes.len()].copy_from_slice(bytes);
 }
 
-// Puts the controller's part of a state, and leaves the queues as they stand.
-#[tactic(auto, using(crate::proofs::PlacedLaws::nothing_put, crate::proofs::PlacedLaws::put_behind, crate::proofs::Lengths::head_length_lem, crate::proofs::Lengths::phase_length_lem, crate::proofs::QueueLaws::queues_stay))]
-pub fn put_controller_bytes(c: Controller, space: &mut [u8; STATE_LENGTH])
-    ensures { space.new ≡ controller_bytes c space.old }
+/// Puts the controller's part of a state, and leaves the queues as they stand.
+pub fn put_controller_bytes(c: &Controller, space: &mut [u8; STATE_LENGTH])
+    ensures { space.new ≡ controller_bytes c.now space.old }
 {
-    let phase = c.phase;
-    let head = head_bytes(c.body);
-    let held = phase_bytes(phase);
-    put_placed(&head, LAYOUT_PLACE, space);
-    put_placed(&held, PHASE_PLACE, space);
+    put_placed(&head_bytes(c.body), LAYOUT_PLACE, space);
+    put_placed(&phase_bytes(c.phase), PHASE_PLACE, space);
 }
 
-// Puts a whole state.
-#[tactic(auto, using(crate::proofs::PlacedLaws::nothing_put, crate::proofs::PlacedLaws::put_behind, crate::proofs::PlacedLaws::all_put, crate::proofs::Lengths::head_length_lem, crate::proofs::Lengths::phase_length_lem, crate::proofs::Lengths::queue_length_lem), unfolding(crate::specs::Writing::state_bytes))]
-pub fn put_state_bytes(d: Dispatcher, space: &mut [u8; STATE_LENGTH])
-    ensures { space.new ≡ state_bytes d }
+/// Puts a whole state.
+pub fn put_state_bytes(d: &Dispatcher, space: &mut [u8; STATE_LENGTH])
+    ensures { space.new ≡ state_bytes d.now }
 {
-    let controller = d.controller;
-    let phase = controller.phase;
-    let head = head_bytes(controller.body);
-    let held = phase_bytes(phase);
-    let first = queue_bytes(d.queues.q0);
-    let second = queue_bytes(d.queues.q1);
-    let third = queue_bytes(d.queues.q2);
-    let fourth = queue_bytes(d.queues.q3);
-    let last = [d.queues.last];
-    put_placed(&head, LAYOUT_PLACE, space);
-    put_placed(&held, PHASE_PLACE, space);
-    put_placed(&first, QUEUES_PLACE, space);
-    put_placed(&second, QUEUES_PLACE + QUEUE_LENGTH, space);
-    put_placed(&third, QUEUES_PLACE + 2 * QUEUE_LENGTH, space);
-    put_placed(&fourth, QUEUES_PLACE + 3 * QUEUE_LENGTH, space);
-    put_placed(&last, LAST_PLACE, space);
+    let jobs = d.queues.jobs;
+    put_controller_bytes(&d.controller, space);
+    put_placed(&queue_bytes(jobs.zero), QUEUES_PLACE, space);
+    put_placed(&queue_bytes(jobs.one), QUEUES_PLACE + QUEUE_LENGTH, space);
+    put_placed(
+        &queue_bytes(jobs.two),
+        QUEUES_PLACE + 2 * QUEUE_LENGTH,
+        space,
+    );
+    put_placed(
+        &queue_bytes(jobs.three),
+        QUEUES_PLACE + 3 * QUEUE_LENGTH,
+        space,
+    );
+    put_placed(&[d.queues.last], LAST_PLACE, space);
 }

@@ -1,4 +1,2 @@
-pub mod LineLaws
-pub mod TextLaws
 pub mod PlayLaws
 pub mod WrongAnswers

@@ -5,25 +5,26 @@ use Prim.Native.Nat.{ℕ, ◌≤◌, ◌<◌, min}
 use native.Mathlib.Nat.{lt_of_not-le}
 use native.Mathlib.Decide.{dec_le}
 use native.Mathlib.Omega.{arith}
-use mathlib.Core.List.{List, ◌++◌}
-use lib.ListN.{length, take, drop, drop_of_length-le}
-use lib.Seq.{take_all, take-append-le, length-take-le}
-use Rattle.transfers.specs.Results.{result_of}
+use mathlib.Core.List.{List, []}
+use lib.ListN.{length, take}
+use lib.Seq.{take_all, take-append-le}
+use Rattle.std.proofs.Common.{Result as Step, Ok, Err}
+use Rattle.common.specs.declared.refusals.Refusal.{Refusal}
+use Rattle.common.specs.Told.{refusal_number}
+use Rattle.controller.specs.declared.controller.Answer.{Answer as Answered}
+use Rattle.controller.specs.declared.controller.Given.{Given}
 use Rattle.controller.specs.declared.controller.Controller.{Controller}
-use Rattle.controller.specs.declared.controller.Transfer.{Transfer}
-use Rattle.controller.specs.Records.{Answer, answered}
-use Rattle.controller.specs.Machine.{result_call}
-use Rattle.lines.specs.Print.{answer_text}
-use Rattle.lines.specs.Line.{plain_line, call_read}
-use Rattle.lines.specs.Play.{left, transfer_left, with_rest, line_left, plain_reply, in_whole_space}
-use Rattle.lines.specs.Play.{fields_answer, lent_answer, plain_left, lent_left}
-use Rattle.lines.specs.declared.line.ResultFields.{ResultFields}
+use Rattle.controller.specs.Told.{told_of, told_transfer_of}
+use Rattle.lines.specs.declared.play.Session.{Session}
+use Rattle.controller.specs.Records.{Answer, answered_in}
+use Rattle.lines.specs.Print.{action_of, answer_text, reply_text}
+use Rattle.lines.specs.Line.{Line, plain_line, lent_line}
+use Rattle.lines.specs.Play.{Left, transfer_left, reply_left, session_left, left, with_rest, line_left, plain_reply}
+use Rattle.lines.specs.Play.{in_whole_space, fields_answer, lent_answer, plain_left, lent_left}
 use Rattle.lines.specs.declared.line.PlainCall.{PlainCall}
 use Rattle.lines.specs.declared.line.PlainCall.TheVariants.{Byte, Taken, Broken, Report, Tick, Reset}
-use Rattle.lines.specs.declared.line.Call.{Call}
-use Rattle.lines.specs.declared.line.Call.TheVariants.{HostData as DataCall, Result as ResultCall}
-use Rattle.lines.specs.declared.play.LentCall.{LentCall}
-use Rattle.lines.specs.declared.play.LentCall.TheVariants.{HostData, Result}
+use Rattle.lines.specs.declared.line.LentCall.{LentCall}
+use Rattle.lines.specs.declared.line.LentCall.TheVariants.{HostData, Result}
 
 pub take_min : (l : List ℕ) (n k : ℕ) → k ≡ min n (length l) → take k l ≡ take n l
 take_min l n k e =
@@ -34,35 +35,7 @@ take_min l n k e =
           take_all k l (omega arith) ∙ sym (take_all n l (omega arith))
     ]
 
-pub drop_min : (l : List ℕ) (n k : ℕ) → k ≡ min n (length l) → drop k l ≡ drop n l
-drop_min l n k e =
-    elim (dec_le n (length l)) [
-      | yes within ↦ let same : k ≡ n = omega arith in ap (λ (x : ℕ). drop x l) same
-      | no over ↦
-          let past : length l < n = lt_of_not-le over in
-          let all : length l ≤ k = omega arith in
-          let passed : length l ≤ n = omega arith in
-          drop_of_length-le l all ∙ sym (drop_of_length-le l passed)
-    ]
-
-pub length-min : (l : List ℕ) (n k : ℕ) → k ≡ min n (length l) → k ≡ length (take k l)
-length-min l n k e = sym (length-take-le k l (omega arith))
-
--- a call's answer, with the bytes that it gives printed
-pub transfer_left_lem : (t : Transfer) (space check out : List ℕ) (k count : ℕ)
-    → k ≡ min t.bytes (length space)
-    → take count out ≡ answer_text t.reply.refusal t.reply.action (take k space)
-    → left (record { controller = t.reply.controller; count = count }) space check out
-    ≡ transfer_left (answered t space check)
-unfolding transfer_left
-transfer_left_lem t space check out k count e p = rw (p, take_min space t.bytes k e)
-
 -- ---- what a call answers is what is left of its line
-
--- the call of a line that is lent space
-abbrev pub call_of : LentCall → Call
-call_of (HostData count) = DataCall count
-call_of (Result f) = ResultCall f
 
 pub plain_left_lem : (c : Controller) (call : PlainCall) (space check : List ℕ)
     → plain_left c call space check ≡ line_left c (plain_line call) space check
@@ -85,34 +58,74 @@ whole_left a rest =
           (min a.bytes (length a.space)) refl,
     )
 
-pub lent_left_lem : (c : Controller) (call : LentCall) (bytes marks space check : List ℕ)
-    → lent_left c call bytes marks space check ≡ line_left c (call_read (call_of call) bytes marks) space check
-unfolding lent_answer fields_answer call_read line_left
-lent_left_lem c (HostData count) bytes marks space check = refl
-lent_left_lem c (Result f) bytes marks space check = whole_left _ _
+pub lent_left_lem : (c : Controller) (call : LentCall) (space check : List ℕ)
+    → lent_left c call space check ≡ line_left c (lent_line call) space check
+unfolding lent_answer fields_answer lent_line line_left
+lent_left_lem c (HostData host) space check = refl
+lent_left_lem c (Result f) space check = whole_left _ _
 
--- what was answered in the start of a space, with no more given than was lent
-pub in_whole : (t : Transfer) (part rest check : List ℕ) (k : ℕ) {a : Answer}
-    → k ≡ min t.bytes (length part)
-    → answered t part check ≡ a
-    → answered (record { reply = t.reply; bytes = k }) (part ++ rest) check ≡ in_whole_space a rest
-in_whole t part rest check k e h = rw e (ap (λ (x : Answer). in_whole_space x rest) h)
+-- ---- what a session leaves
 
--- a result, of which the buffers and the space are cut where they end
-pub fields_cut : (c : Controller) (f : ResultFields) (bytes marks space check : List ℕ) (image_end marks_end end : ℕ)
-    → image_end ≡ min f.image (length bytes)
-    → marks_end ≡ min f.marks (length marks)
-    → end ≡ min f.space (length space)
-    → in_whole_space
-    (result_call c (result_of f.code f.mark f.late (take image_end bytes) (take marks_end marks))
-    (take end space) check)
-    (drop end space)
-    ≡ fields_answer c f bytes marks space check
-unfolding fields_answer
-fields_cut c f bytes marks space check image_end marks_end end e1 e2 e3 =
-    simp (
-      take_min bytes f.image image_end e1,
-      take_min marks f.marks marks_end e2,
-      take_min space f.space end e3,
-      drop_min space f.space end e3,
-    )
+-- an answer, as the definitions have it
+told_state : (c : Controller) (a : Step Answered Refusal) → (told_of c a).controller ≡ c
+told_state c (Ok a) = refl
+told_state c (Err e) = refl
+
+told_text : (c : Controller) (a : Step Answered Refusal) (bytes : List ℕ)
+    → answer_text (refusal_number a) (action_of a) bytes ≡ answer_text (told_of c a).refusal (told_of c a).action bytes
+told_text c (Ok a) bytes = refl
+told_text c (Err e) bytes = refl
+
+module _ (s : Session) (call : PlainCall) (c : Controller) (a : Step Answered Refusal)
+    (e : told_of c a ≡ plain_reply s.controller call)
+    (line : Line)
+    (says : plain_line call ≡ line) where
+  plain_is : reply_left (told_of c a) s.buffers.space s.buffers.check ≡ session_left s line
+  plain_is = rw (e, sym says) (plain_left_lem s.controller call s.buffers.space s.buffers.check)
+
+  pub plain_text : answer_text (refusal_number a) (action_of a) [] ≡ (session_left s line).text
+  unfolding reply_left
+  plain_text = told_text c a [] ∙ ap (λ (l : Left). l.text) plain_is
+
+  pub plain_leaves : left (record { controller = c; buffers = s.buffers }) (session_left s line).text
+      ≡ session_left s line
+  unfolding reply_left
+  plain_leaves =
+      rw (sym plain_is) (ap (λ (x : Controller). record {
+        controller = x;
+        space = s.buffers.space;
+        check = s.buffers.check;
+        text = reply_text (told_of c a).refusal (told_of c a).action;
+      }) (sym (told_state c a)))
+
+given_state : (c : Controller) (g : Step Given Refusal) → (told_transfer_of c g).reply.controller ≡ c
+given_state c (Ok g) = refl
+given_state c (Err e) = refl
+
+module _ (s new : Session) (call : LentCall) (g : Step Given Refusal)
+    (e : answered_in new.controller g new.buffers.space new.buffers.check
+    ≡ lent_answer s.controller call s.buffers.space s.buffers.check) where
+  lent_is : transfer_left (answered_in new.controller g new.buffers.space new.buffers.check)
+      ≡ session_left s (lent_line call)
+  lent_is = rw e (lent_left_lem s.controller call s.buffers.space s.buffers.check)
+
+  pub lent_text : (a : Step Answered Refusal) (k : ℕ)
+      → told_of new.controller a ≡ (told_transfer_of new.controller g).reply
+      → k ≡ min (told_transfer_of new.controller g).bytes (length new.buffers.space)
+      → answer_text (refusal_number a) (action_of a) (take k new.buffers.space)
+      ≡ (session_left s (lent_line call)).text
+  unfolding transfer_left
+  lent_text a k same within =
+      let cut = take_min new.buffers.space (told_transfer_of new.controller g).bytes k within in
+      rw (told_text new.controller a, same, cut)
+      (ap (λ (l : Left). l.text) lent_is)
+
+  pub lent_leaves : left new (session_left s (lent_line call)).text ≡ session_left s (lent_line call)
+  unfolding transfer_left
+  lent_leaves =
+      rw (sym lent_is) (ap (λ (x : Controller). record {
+        controller = x;
+        space = new.buffers.space;
+        check = new.buffers.check;
+        text = (transfer_left (answered_in new.controller g new.buffers.space new.buffers.check)).text;
+      }) (sym (given_state new.controller g)))

@@ -7,7 +7,7 @@ use mathlib.Core.List.{List, [], ◌∷◌}
 use contract.Lifetimes.{Lfts}
 use denote.Ref.{Bor, MutBor, at_last}
 use Prim.Native.Nat.{ℕ}
-use lib.ListN.{take, get_or}
+use lib.ListN.{get_or}
 use borrow.Author.Tests.{eqb-false}
 use Rattle.common.specs.Pick.{pick}
 use Rattle.status.specs.Drives.{fresh_drives}
@@ -28,14 +28,15 @@ use Rattle.text.specs.Fields.{part_of, after_field}
 use Rattle.lines.specs.Line.{byte_line, report_line, call_line, line_of, plain_line, call_read, line_read}
 use Rattle.text.specs.Print.{digit_of, decimal_text}
 use Rattle.lines.specs.Print.{action_letter, head_text, answer_text}
-use Rattle.lines.specs.Play.{Left, reply_left, line_left}
-use Rattle.lines.specs.declared.line.Reading.{Reading}
-use Rattle.lines.specs.declared.line.Reading.TheVariants.{Readable}
+use Rattle.lines.specs.Play.{Left, reply_left, line_left, session_left}
+use Rattle.std.proofs.Common.{Option, Some, Fits, w64, ◌++◌}
+use Rattle.std.proofs.lemmas.List.{append_cancel_left}
+use Rattle.lines.specs.declared.line.Call.{Call}
 use Rattle.lines.specs.declared.line.Call.TheVariants.{Plain}
 use Rattle.lines.specs.declared.line.PlainCall.TheVariants.{Byte, Report}
-use Rattle.lines.specs.declared.play.Answered.{Answered}
+use Rattle.lines.specs.declared.play.Session.{Session}
 use Rattle.lines.proofs.line.read_line.Reads as read-reads
-use Rattle.lines.proofs.play.answer_line.Reads as answer-reads
+use Rattle.lines.proofs.play.Session.answer.Reads as answer-reads
 
 abbrev is_unreadable : Line → Bool
 is_unreadable unreadable = true
@@ -50,70 +51,54 @@ is_unreadable reset = false
 
 -- ---- read_line
 
-module _
-    (κs : Lfts 3)
-    (line : Bor (List ℕ)) (bytes marks : MutBor (List ℕ))
-    (r : Reading)
-    (bytes' marks' : List ℕ)
-    (allowed : read-reads.Post κs (line, (bytes, (marks, tt))) r
-    (line, (at_last bytes bytes', (at_last marks marks', tt)))) where
+module _ (κs : Lfts 1) (line : Bor (List ℕ)) (r : Option Call)
+    (allowed : read-reads.Post κs (line, tt) r (line, tt)) where
   -- small letters are read: B,6a
   pub read_line_reads_small_letters : line.now ≡ byte_letter ∷ comma ∷ 54 ∷ 97 ∷ [] → (b : ℕ)
-      → r ≡ Readable (Plain (Byte b)) → ⊥
+      → r ≡ Some (Plain (Byte b)) → ⊥
   unfolding line_read call_read plain_line line_of call_line byte_line is_byte all_digits is_digit digit_value pick
   read_line_reads_small_letters says b e =
-      false≢true
-      (ap is_unreadable (sym (ap (λ (x : Reading). line_read x bytes' marks') e) ∙ allowed ∙ ap line_of says))
+      false≢true (ap is_unreadable (sym (ap line_read e) ∙ allowed ∙ ap line_of says))
 
   -- drive 256 is read: S,256,22
   pub read_line_reads_drive_256 : line.now ≡ report_letter ∷ comma ∷ 50 ∷ 53 ∷ 54 ∷ comma ∷ 50 ∷ 50 ∷ []
       → (drive value : ℕ)
-      → r ≡ Readable (Plain (Report drive value))
+      → r ≡ Some (Plain (Report drive value))
       → ⊥
   unfolding line_read call_read plain_line line_of call_line report_line part_of after_field is_decimal decimal_of
       decimal_from is_byte all_digits is_digit digit_value pick
   read_line_reads_drive_256 says drive value e =
-      false≢true
-      (ap is_unreadable (sym (ap (λ (x : Reading). line_read x bytes' marks') e) ∙ allowed ∙ ap line_of says))
+      false≢true (ap is_unreadable (sym (ap line_read e) ∙ allowed ∙ ap line_of says))
 
 -- ---- answer_line
 
-module _
-    (κs : Lfts 6)
-    (c : Controller)
-    (line : Bor (List ℕ)) (bytes marks space check out : MutBor (List ℕ))
-    (r : Answered)
-    (bytes' marks' space' check' out' : List ℕ)
-    (allowed : answer-reads.Post κs (c, (line, (bytes, (marks, (space, (check, (out, tt)))))))
-    r (
-      c,
-      (
-        line,
-        (
-          at_last bytes bytes',
-          (at_last marks marks', (at_last space space', (at_last check check', (at_last out out', tt)))),
-        ),
-      ),
-    )) where
+module _ (N : ℕ) (fits : Fits w64 N) (κs : Lfts 4) (s : MutBor Session) (line : Bor (List ℕ)) (out : MutBor (List ℕ))
+    (s' : Session)
+    (out' : List ℕ)
+    (allowed : answer-reads.Post N fits κs (s, (line, (out, tt))) tt
+    (at_last s s', (line, (at_last out out', tt)))) where
   -- an unreadable line changes the state
-  pub answer_line_unreadable_changes_the_state : line_of line.now ≡ unreadable → (r.controller ≡ c → ⊥) → ⊥
+  pub answer_line_unreadable_changes_the_state : line_of line.now ≡ unreadable
+      → (s'.controller ≡ s.now.controller → ⊥)
+      → ⊥
   unfolding line_left
   answer_line_unreadable_changes_the_state says wrong =
-      wrong (ap (λ (l : Left). l.controller) allowed.1
-      ∙ ap (λ (l : Line). (line_left c l space.now check.now).controller) says)
+      wrong (ap (λ (l : Left). l.controller) allowed.1.0 ∙ ap (λ (l : Line). (session_left s.now l).controller) says)
 
   -- the first byte of a load, B,62, is answered by NACK: 0,A,15,
-  pub answer_line_nack_to_a_load : c ≡ fresh
+  pub answer_line_nack_to_a_load : s.now.controller ≡ fresh
       → line.now ≡ byte_letter ∷ comma ∷ 54 ∷ 50 ∷ []
-      → take r.count out' ≡ answer_text 0 (OneByte 0x15) []
+      → out' ≡ out.now ++ answer_text 0 (OneByte 0x15) []
       → ⊥
   unfolding line_left reply_left line_of call_line byte_line byte_of byte_value is_byte all_digits is_digit digit_value
       fresh start_body fresh_drives is_sound sound_body sound_drives sound_drive no_outcome sound_phase sound_part
       byte_call byte_in collect_byte first_byte
       answer_text head_text decimal_text digit_of action_letter pick
   answer_line_nack_to_a_load begins says wrong =
-      let right : take r.count out' ≡ answer_text 0 Nothing [] =
-      ap (λ (l : Left). l.text) allowed.1
-      ∙ ap₂ (λ (x : Controller) (l : List ℕ). (line_left x (line_of l) space.now check.now).text) begins says
+      let space = s.now.buffers.space in
+      let check = s.now.buffers.check in
+      let right : (session_left s.now (line_of line.now)).text ≡ answer_text 0 Nothing [] =
+      ap₂ (λ (x : Controller) (l : List ℕ). (line_left x (line_of l) space check).text) begins says
       in
-      eqb-false none_sign byte_sign refl (ap (λ (l : List ℕ). get_or l 2 0) (sym right ∙ wrong))
+      let same = append_cancel_left out.now _ _ (sym allowed.1.1 ∙ wrong) in
+      eqb-false none_sign byte_sign refl (ap (λ (l : List ℕ). get_or l 2 0) (sym right ∙ same))

@@ -1,7 +1,7 @@
 -- What a line of the session says (document 01, Loads, restorer, session): "The session program reads lines B,byte; T;
 -- X (broken); S,drive,byte; D,host; R,code,mark,late,image,marks,space; K; Z (reset)". A line is given without its #0A.
 -- Assumes nothing.
-use Rattle.std.specs.Prelude.{ℕ, ◌≡◌, Bool, ◌&&◌, List, ltb, eqb, length, take, drop, get_or}
+use Rattle.std.specs.Prelude.{ℕ, Bool, ◌&&◌, List, ltb, eqb, length, drop, get_or, Option, None, Some}
 use Rattle.common.specs.Pick.{pick}
 use Rattle.text.specs.Limits.{byte_limit}
 use Rattle.text.specs.Characters.{comma}
@@ -10,10 +10,10 @@ use Rattle.text.specs.Fields.{field_of, after_field, after_fields}
 use Rattle.lines.specs.Limits.{host_limit, image_limit, marks_limit, flag_limit}
 use Rattle.lines.specs.Characters.{byte_letter, taken_letter, broken_letter, report_letter}
 use Rattle.lines.specs.Characters.{data_letter, result_letter, tick_letter, reset_letter}
-use Rattle.lines.specs.declared.line.Reading.{Reading}
-use Rattle.lines.specs.declared.line.Reading.TheVariants.{Unreadable, Readable}
 use Rattle.lines.specs.declared.line.Call.{Call}
-use Rattle.lines.specs.declared.line.Call.TheVariants.{Plain, HostData, Result}
+use Rattle.lines.specs.declared.line.Call.TheVariants.{Plain, Lent}
+use Rattle.lines.specs.declared.line.LentCall.{LentCall}
+use Rattle.lines.specs.declared.line.LentCall.TheVariants.{HostData, Result}
 use Rattle.lines.specs.declared.line.PlainCall.{PlainCall}
 use Rattle.lines.specs.declared.line.PlainCall.TheVariants.{Byte, Taken, Broken, Report, Tick, Reset}
 
@@ -85,7 +85,7 @@ line_of line =
     pick (ltb (length line) 2) (pick (eqb (length line) 1) (bare_line (get_or line 0 0)) unreadable)
     (pick (eqb (get_or line 1 0) comma) (call_line (get_or line 0 0) (drop 2 line)) unreadable)
 
--- ---- what the code reads: a host string or an image stands in one buffer, marks in another
+-- ---- what the code reads
 
 -- a call that is lent nothing
 unfoldable pub plain_line : PlainCall → Line
@@ -96,22 +96,17 @@ plain_line (Report drive b) = report drive b
 plain_line Tick = tick
 plain_line Reset = reset
 
--- a call, with what stands in the buffers
-unfoldable pub call_read : Call → List ℕ → List ℕ → Line
-call_read (Plain call) bytes marks = plain_line call
-call_read (HostData count) bytes marks = host_data (take count bytes)
-call_read (Result f) bytes marks =
-    result f.code f.mark f.late (take f.image bytes) (take f.marks marks) f.space
+-- a call that is lent space
+unfoldable pub lent_line : LentCall → Line
+lent_line (HostData host) = host_data host
+lent_line (Result f) = result f.code f.mark f.late f.image f.marks f.space
+
+-- a call
+unfoldable pub call_read : Call → Line
+call_read (Plain call) = plain_line call
+call_read (Lent call) = lent_line call
 
 -- the line that was read
-unfoldable pub line_read : Reading → List ℕ → List ℕ → Line
-line_read Unreadable bytes marks = unreadable
-line_read (Readable call) bytes marks = call_read call bytes marks
-
--- what the code reads, whatever stands in the buffers that it does not use
-abbrev pub ReadAs : Reading → Line → Type 0
-ReadAs r line = (bytes marks : List ℕ) → line_read r bytes marks ≡ line
-
--- the same for a line with bytes and no marks
-abbrev pub ReadWith : Reading → List ℕ → Line → Type 0
-ReadWith r bytes line = (marks : List ℕ) → line_read r bytes marks ≡ line
+unfoldable pub line_read : Option Call → Line
+line_read None = unreadable
+line_read (Some call) = call_read call

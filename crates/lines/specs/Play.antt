@@ -2,9 +2,9 @@
 -- session).
 -- Assumes nothing.
 use Rattle.std.specs.Prelude.{ℕ, min, List, ◌++◌, length, take, drop}
-use Rattle.transfers.specs.Results.{result_of}
+use Rattle.transfers.specs.Results.{Result, result_of}
 use Rattle.controller.specs.declared.controller.Controller.{Controller}
-use Rattle.controller.specs.declared.controller.Reply.{Reply}
+use Rattle.controller.specs.Told.{Reply}
 use Rattle.controller.specs.Records.{Answer}
 use Rattle.records.specs.Place.{no_place}
 use Rattle.transfers.specs.Data.{host_of}
@@ -15,9 +15,9 @@ use Rattle.lines.specs.Print.{reply_text, answer_text, unreadable_text}
 use Rattle.lines.specs.declared.line.ResultFields.{ResultFields}
 use Rattle.lines.specs.declared.line.PlainCall.{PlainCall}
 use Rattle.lines.specs.declared.line.PlainCall.TheVariants.{Byte, Taken, Broken, Report, Tick, Reset}
-use Rattle.lines.specs.declared.play.LentCall.{LentCall}
-use Rattle.lines.specs.declared.play.LentCall.TheVariants.{HostData, Result}
-use Rattle.lines.specs.declared.play.Answered.{Answered}
+use Rattle.lines.specs.declared.line.LentCall.{LentCall}
+use Rattle.lines.specs.declared.line.LentCall.TheVariants.{HostData, Result as OfResult}
+use Rattle.lines.specs.declared.play.Session.{Session}
 
 -- ---- what is left of a line
 
@@ -66,9 +66,13 @@ line_left c (result code mark late image marks lent) space check =
 line_left c tick space check = reply_left (tick_call c) space check
 line_left c reset space check = reply_left (reset_call c) space check
 
--- what the code leaves
-abbrev pub left : Answered → List ℕ → List ℕ → List ℕ → Left
-left r space check out = record { controller = r.controller; space = space; check = check; text = take r.count out }
+-- what a session's line leaves
+abbrev pub session_left : Session → Line → Left
+session_left s line = line_left s.controller line s.buffers.space s.buffers.check
+
+-- what the code leaves, with the text that it puts
+abbrev pub left : Session → List ℕ → Left
+left s text = record { controller = s.controller; space = s.buffers.space; check = s.buffers.check; text = text }
 
 -- ---- what the code does: a call that was read is made, and then its answer is printed
 
@@ -90,22 +94,23 @@ in_whole_space a rest = record {
   check = a.check;
 }
 
--- the answer to a result
-unfoldable pub fields_answer : Controller → ResultFields → List ℕ → List ℕ → List ℕ → List ℕ → Answer
-fields_answer c f bytes marks space check =
-    in_whole_space
-    (result_call c (result_of f.code f.mark f.late (take f.image bytes) (take f.marks marks))
-    (take f.space space) check)
-    (drop f.space space)
+-- the answer to a result that is lent so much of a space
+abbrev pub part_answer : Controller → Result → ℕ → List ℕ → List ℕ → Answer
+part_answer c r most space check = in_whole_space (result_call c r (take most space) check) (drop most space)
+
+-- and to one that says how much
+unfoldable pub fields_answer : Controller → ResultFields → List ℕ → List ℕ → Answer
+fields_answer c f space check =
+    part_answer c (result_of f.code f.mark f.late f.image f.marks) f.space space check
 
 -- the answer to a call that is lent space
-unfoldable pub lent_answer : Controller → LentCall → List ℕ → List ℕ → List ℕ → List ℕ → Answer
-lent_answer c (HostData count) bytes marks space check = data_call c (host_of (take count bytes) no_place) space check
-lent_answer c (Result fields) bytes marks space check = fields_answer c fields bytes marks space check
+unfoldable pub lent_answer : Controller → LentCall → List ℕ → List ℕ → Answer
+lent_answer c (HostData host) space check = data_call c (host_of host no_place) space check
+lent_answer c (OfResult fields) space check = fields_answer c fields space check
 
 -- and what is left of either
 abbrev pub plain_left : Controller → PlainCall → List ℕ → List ℕ → Left
 plain_left c call space check = reply_left (plain_reply c call) space check
 
-abbrev pub lent_left : Controller → LentCall → List ℕ → List ℕ → List ℕ → List ℕ → Left
-lent_left c call bytes marks space check = transfer_left (lent_answer c call bytes marks space check)
+abbrev pub lent_left : Controller → LentCall → List ℕ → List ℕ → Left
+lent_left c call space check = transfer_left (lent_answer c call space check)

@@ -2,10 +2,12 @@
 -- byte, P string, M order),its bytes,bytes delivered or image. An unreadable line prints ?,-,,". Each text ends with
 -- its #0A.
 -- Assumes nothing.
-use Rattle.std.specs.Prelude.{ℕ, List, [], ◌∷◌, ◌++◌}
+use Rattle.std.specs.Prelude.{ℕ, Result, Ok, Err, List, [], ◌∷◌, ◌++◌}
 use Rattle.text.specs.Characters.{comma, line_feed, none_sign, unreadable_sign}
 use Rattle.text.specs.Print.{bytes_text, refusal_text}
 use Rattle.lines.specs.Characters.{byte_sign, string_sign, order_sign}
+use Rattle.common.specs.declared.refusals.Refusal.{Refusal}
+use Rattle.controller.specs.declared.controller.Answer.{Answer}
 use Rattle.link.specs.declared.frames.Frame.{Frame}
 use Rattle.link.specs.declared.state.Action.{Action}
 use Rattle.link.specs.declared.state.Action.TheVariants.{Nothing, Byte, Text, Order}
@@ -40,6 +42,15 @@ action_text action = bytes_text (action_bytes action)
 unfoldable pub head_text : ℕ → Action → List ℕ
 head_text refusal action =
     refusal_text refusal ++ (comma ∷ action_letter action ∷ comma ∷ (action_text action ++ (comma ∷ [])))
+
+-- the action that a call's answer has its caller take
+abbrev pub action_of : Result Answer Refusal → Action
+action_of (Ok a) = a.action
+action_of (Err e) = Nothing
+
+-- "refusal,action .. ,its bytes,bytes delivered or image", without the line's end
+unfoldable pub fields_text : ℕ → Action → List ℕ → List ℕ
+fields_text refusal action bytes = head_text refusal action ++ bytes_text bytes
 
 -- "refusal,action .. ,its bytes,bytes delivered or image"
 unfoldable pub answer_text : ℕ → Action → List ℕ → List ℕ

@@ -1,5 +1,5 @@
-// The lines of the session program: what a line says, and what is printed for it. What a function promises is named
-// after it as in `text`.
+//! The lines of the session program: what a line says, and what is printed for it. What a function promises is named
+//! after it as in `text`.
 #![tactic(auto)]
 
 pub mod limits;

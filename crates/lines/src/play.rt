@@ -1,193 +1,188 @@
-// A line's answer: the call that it makes, and the text that is printed for it. `plain_reply` and `lent_answer` make
-// the call for the jobs program too.
-ghost use Rattle.std.specs.Prelude.{◌≡◌, ℕ, ◌+◌, ◌*◌, ◌≤◌, List, length};
-ghost use Rattle.controller.specs.Records.{answered};
-ghost use Rattle.lines.specs.Limits.{reply_most, answer_most};
-ghost use Rattle.lines.specs.Line.{line_of};
-ghost use Rattle.lines.specs.Play.{plain_reply, fields_answer, lent_answer};
-ghost use Rattle.lines.specs.Play.{transfer_left, plain_left, lent_left, line_left, left};
+//! A session: the controller, the call that a line makes, and the text that is put for it. `plain_reply` and
+//! `lent_answer` make the call for the jobs program too.
+ghost use Rattle.std.specs.Prelude.{◌≡◌, ◌+◌, ◌≤◌, ◌++◌, length};
+ghost use Rattle.transfers.specs.Results.{result_with};
+ghost use Rattle.controller.specs.Told.{told_of};
+ghost use Rattle.controller.specs.Records.{answered_in};
+ghost use Rattle.lines.specs.Limits.{answer_most};
+ghost use Rattle.lines.specs.Line.{line_of, lent_line};
+ghost use Rattle.lines.specs.Play.{plain_reply, part_answer, fields_answer, lent_answer, session_left, left};
 
 use crate::limits::{CHECK_STORE, IMAGE_LIMIT, MARKS_LIMIT};
-use crate::line::{Call, PlainCall, Reading, ResultFields, read_line};
-use crate::print::{print_answer, print_reply, print_unreadable};
-use common::min;
-use controller::controller::{Controller, Reply, Transfer};
+use crate::line::{Call, LentCall, PlainCall, ResultFields, read_line};
+use crate::print::{put_answer, put_unreadable};
+use common::refusals::Refusal;
+use controller::controller::{Answer, Controller, Given};
 use records::place::NO_PLACE;
+use text::space::Text;
+use transfers::data::HostBytes;
+use transfers::verdict::TapeResult;
 
-// A call that is lent space. Host bytes and an image stand in the buffer of an image; here is how many.
-#[derive(Clone, Copy)]
-pub enum LentCall {
-    HostData(usize),
-    Result(ResultFields),
-}
-
-// The next state, and how many bytes of text there are.
-#[derive(Clone, Copy)]
-pub struct Answered {
-    pub controller: Controller,
-    pub count: usize,
-}
-
-// A call that is lent nothing.
+/// A call that is lent nothing.
 #[tactic(auto, unfolding(crate::specs::Play::plain_reply))]
-pub fn plain_reply(c: Controller, call: PlainCall) -> Reply
-    ensures { result ≡ plain_reply c call }
+pub fn plain_reply(c: &mut Controller, call: PlainCall) -> Result<Answer, Refusal>
+    ensures { told_of c.new result ≡ plain_reply c.old call }
 {
     match call {
-        PlainCall::Byte(byte) => c.byte(byte),
-        PlainCall::Taken => c.taken(),
-        PlainCall::Broken => c.broken(),
-        PlainCall::Report(drive, report) => c.report(drive, report),
-        PlainCall::Tick => c.tick(),
-        PlainCall::Reset => c.reset(),
+        PlainCall::Byte(byte) => c.byte_in_place(byte),
+        PlainCall::Taken => c.taken_in_place(),
+        PlainCall::Broken => c.broken_in_place(),
+        PlainCall::Report(drive, report) => c.report_in_place(drive, report),
+        PlainCall::Tick => c.tick_in_place(),
+        PlainCall::Reset => c.reset_in_place(),
     }
 }
 
-// A result: it is handed as much of the buffers as they have for it, and lent as much of the space as it says.
-#[tactic(auto, using(crate::proofs::PlayLaws::in_whole, crate::proofs::PlayLaws::fields_cut))]
-fn fields_answer(
-    c: Controller,
-    fields: ResultFields,
-    bytes: &[u8],
-    marks: &[u8],
-    space: &mut [u8],
-    check: &mut [u8],
-) -> Transfer
-    ensures { answered result space.new check.new
-        ≡ fields_answer c fields bytes.now marks.now space.old check.old }
-{
-    let image_end = min(fields.image, bytes.len());
-    let marks_end = min(fields.marks, marks.len());
-    let end = min(fields.space, space.len());
-    let transfer = c.result(
-        fields.code,
-        fields.mark,
-        fields.late,
-        &bytes[..image_end],
-        &marks[..marks_end],
-        &mut space[..end],
-        check,
-    );
-    let reply = transfer.reply;
-    Transfer {
-        reply,
-        bytes: min(transfer.bytes, end),
-    }
+/// What a call is lent: two buffers for host bytes, or an image and its marks, a space and a check store.
+#[derive(Drop)]
+pub struct Buffers {
+    pub bytes: [u8; IMAGE_LIMIT],
+    pub marks: [u8; MARKS_LIMIT],
+    pub space: [u8; IMAGE_LIMIT],
+    pub check: [u8; CHECK_STORE],
 }
 
-// A call that is lent space.
-#[tactic(auto, using(crate::proofs::PlayLaws::take_min), unfolding(crate::specs::Play::lent_answer))]
-pub fn lent_answer(
-    c: Controller,
-    call: LentCall,
-    bytes: &[u8],
-    marks: &[u8],
-    space: &mut [u8],
-    check: &mut [u8],
-) -> Transfer
-    ensures { answered result space.new check.new
-        ≡ lent_answer c call bytes.now marks.now space.old check.old }
-{
-    match call {
-        LentCall::HostData(count) => {
-            let end = min(count, bytes.len());
-            c.data(&bytes[..end], NO_PLACE, space, check)
+impl Buffers {
+    ghost use Rattle.std.specs.Prelude.{replicate};
+    ghost use Rattle.transfers.specs.Data.{check_store};
+    ghost use Rattle.lines.specs.Limits.{image_limit, marks_limit};
+
+    /// Nothing but zeros.
+    pub fn new() -> Self
+        ensures bytes { result.bytes ≡ replicate image_limit 0 }
+        ensures marks { result.marks ≡ replicate marks_limit 0 }
+        ensures space { result.space ≡ replicate image_limit 0 }
+        ensures check { result.check ≡ replicate check_store 0 }
+    {
+        Buffers {
+            bytes: [0; IMAGE_LIMIT],
+            marks: [0; MARKS_LIMIT],
+            space: [0; IMAGE_LIMIT],
+            check: [0; CHECK_STORE],
         }
-        LentCall::Result(fields) => fields_answer(c, fields, bytes, marks, space, check),
     }
 }
 
-// The answer to a call that is lent nothing.
-#[tactic(auto, unfolding(crate::specs::Play::reply_left))]
-fn answer_plain(c: Controller, call: PlainCall, out: &mut [u8]) -> Answered
-    requires { reply_most ≤ length out.old }
-    ensures counted { result.count ≤ reply_most }
-    ensures left { (space check : List ℕ)
-        → left result space check out.new ≡ plain_left c call space check }
-{
-    let reply = plain_reply(c, call);
-    let action = reply.action;
-    let count = print_reply(reply.refusal, action, out);
-    let controller = reply.controller;
-    Answered { controller, count }
-}
-
-// What a call answered: its reply, and the bytes that it gives at the start of the space.
-#[tactic(auto, using(crate::proofs::PlayLaws::transfer_left_lem))]
-fn answer_transfer(transfer: Transfer, space: &[u8], out: &mut [u8]) -> Answered
-    requires { reply_most + 2 * length space.now ≤ length out.old }
-    ensures counted { result.count ≤ reply_most + 2 * length space.now }
-    ensures left { (check : List ℕ) → left result space.now check out.new
-        ≡ transfer_left (answered transfer space.now check) }
-{
-    let reply = transfer.reply;
-    let controller = reply.controller;
-    let action = reply.action;
-    let given = min(transfer.bytes, space.len());
-    let count = print_answer(reply.refusal, action, &space[..given], out);
-    Answered { controller, count }
-}
-
-// The answer to a call that is lent space.
-fn answer_lent(
-    c: Controller,
-    call: LentCall,
-    bytes: &[u8],
-    marks: &[u8],
+// A result that is lent so much of a space: no more of it is given.
+fn part_answer(
+    c: &mut Controller,
+    tape: &TapeResult,
+    most: usize,
     space: &mut [u8],
     check: &mut [u8],
-    out: &mut [u8],
-) -> Answered
-    requires { reply_most + 2 * length space.old ≤ length out.old }
-    ensures counted { result.count ≤ reply_most + 2 * length space.old }
-    ensures left { left result space.new check.new out.new
-        ≡ lent_left c call bytes.now marks.now space.old check.old }
+) -> Result<Given, Refusal>
+    ensures { answered_in c.new result space.new check.new
+        ≡ part_answer c.old (result_with tape.now) most space.old check.old }
 {
-    let transfer = lent_answer(c, call, bytes, marks, space, check);
-    answer_transfer(transfer, space, out)
+    let end = most.min(space.len());
+    let given = c.result_in_place(tape, &mut space[..end], check)?;
+    Ok(Given {
+        bytes: given.bytes.min(end),
+        ..given
+    })
 }
 
-// A line, without its #0A. A call that is lent space is made out of line, of a copy of the state, so that the state of
-// the others, which are short and many, can stay where the program's loop has it.
-#[tactic(auto, using(crate::proofs::PlayLaws::plain_left_lem, crate::proofs::PlayLaws::lent_left_lem), unfolding(crate::specs::Play::line_left, crate::specs::Line::line_read, crate::specs::Line::call_read))]
-pub fn answer_line(
-    c: Controller,
-    line: &[u8],
-    bytes: &mut [u8; IMAGE_LIMIT],
-    marks: &mut [u8; MARKS_LIMIT],
-    space: &mut [u8; IMAGE_LIMIT],
-    check: &mut [u8; CHECK_STORE],
-    out: &mut [u8],
-) -> Answered
-    requires { answer_most ≤ length out.old }
-    ensures counted { result.count ≤ answer_most }
-    ensures left { left result space.new check.new out.new
-        ≡ line_left c (line_of line.now) space.old check.old }
+// A result: it is lent as much of the space as it says.
+#[tactic(auto, unfolding(crate::specs::Play::fields_answer))]
+fn fields_answer(
+    c: &mut Controller,
+    fields: ResultFields<'_>,
+    lent: &mut Buffers,
+) -> Result<Given, Refusal>
+    ensures { answered_in c.new result lent.new.space lent.new.check
+        ≡ fields_answer c.old fields.entry lent.old.space lent.old.check }
 {
-    let reading = read_line(line, bytes, marks);
-    match reading {
-        Reading::Unreadable => Answered {
-            controller: c,
-            count: print_unreadable(out),
-        },
-        Reading::Readable(call) => match call {
-            Call::Plain(plain) => answer_plain(c, plain, out),
-            Call::HostData(count) => {
-                let held = c;
-                let lent = LentCall::HostData(count);
-                let answer = answer_lent(held, lent, bytes, marks, space, check, out);
-                let controller = answer.controller;
-                let count = answer.count;
-                Answered { controller, count }
+    let image_end = fields.image.overwrite(&mut lent.bytes);
+    let marks_end = fields.marks.overwrite(&mut lent.marks);
+    let tape = TapeResult {
+        code: fields.code,
+        mark: fields.mark,
+        late: fields.late,
+        image: &lent.bytes[..image_end],
+        marks: &lent.marks[..marks_end],
+    };
+    part_answer(c, &tape, fields.space, &mut lent.space, &mut lent.check)
+}
+
+/// A call that is lent space. Its host bytes, or its image and marks, are put into the buffers first.
+#[tactic(auto, unfolding(crate::specs::Play::lent_answer))]
+pub fn lent_answer(
+    c: &mut Controller,
+    call: LentCall<'_>,
+    lent: &mut Buffers,
+) -> Result<Given, Refusal>
+    ensures { answered_in c.new result lent.new.space lent.new.check
+        ≡ lent_answer c.old call.entry lent.old.space lent.old.check }
+{
+    match call {
+        LentCall::HostData(host) => {
+            let end = host.overwrite(&mut lent.bytes);
+            let host = HostBytes {
+                bytes: &lent.bytes[..end],
+                place: NO_PLACE,
+            };
+            c.data_in_place(&host, &mut lent.space, &mut lent.check)
+        }
+        LentCall::Result(fields) => fields_answer(c, fields, lent),
+    }
+}
+
+/// The controller, and what its calls are lent.
+#[derive(Drop)]
+pub struct Session {
+    pub controller: Controller,
+    pub buffers: Buffers,
+}
+
+impl Session {
+    ghost use Rattle.controller.specs.Controller.{fresh};
+
+    /// Before the first line.
+    pub fn new() -> Self
+        ensures { result.controller ≡ fresh }
+    {
+        Session {
+            controller: Controller::fresh(),
+            buffers: Buffers::new(),
+        }
+    }
+
+    // A call that is lent space. It is made out of line, so that what it needs is made ready for its own lines alone:
+    // the others are short and many.
+    #[inline(never)]
+    fn answer_lent<const N: usize>(&mut self, call: LentCall<'_>, out: &mut Text<N>)
+        requires { length out.old + answer_most ≤ N }
+        ensures fits { length out.new ≤ length out.old + answer_most }
+        ensures left { left self.new (session_left self.old (lent_line call.entry)).text
+            ≡ session_left self.old (lent_line call.entry) }
+        ensures text { out.new ≡ out.old ++ (session_left self.old (lent_line call.entry)).text }
+    {
+        match lent_answer(&mut self.controller, call, &mut self.buffers) {
+            Ok(given) => {
+                let space = &self.buffers.space[..];
+                let end = given.bytes.min(space.len());
+                put_answer(Ok(given.answer), &space[..end], out);
             }
-            Call::Result(fields) => {
-                let held = c;
-                let lent = LentCall::Result(fields);
-                let answer = answer_lent(held, lent, bytes, marks, space, check, out);
-                let controller = answer.controller;
-                let count = answer.count;
-                Answered { controller, count }
+            Err(refusal) => put_answer(Err(refusal), &[], out),
+        }
+    }
+
+    /// A line, without its #0A.
+    #[tactic(auto, unfolding(crate::specs::Play::line_left, crate::specs::Line::line_read, crate::specs::Line::call_read))]
+    pub fn answer<const N: usize>(&mut self, line: &[u8], out: &mut Text<N>)
+        requires { length out.old + answer_most ≤ N }
+        ensures fits { length out.new ≤ length out.old + answer_most }
+        ensures left { left self.new (session_left self.old (line_of line.now)).text
+            ≡ session_left self.old (line_of line.now) }
+        ensures text { out.new ≡ out.old ++ (session_left self.old (line_of line.now)).text }
+    {
+        match read_line(line) {
+            None => put_unreadable(out),
+            Some(Call::Plain(call)) => {
+                let answer = plain_reply(&mut self.controller, call);
+                put_answer(answer, &[], out);
             }
-        },
+            Some(Call::Lent(call)) => self.answer_lent(call, out),
+        }
     }
 }

@@ -10,8 +10,8 @@ use Rattle.link.specs.declared.state.Kind.TheVariants.{Secondary, Completion}
 use Rattle.link.specs.declared.state.Phase.TheVariants.{Sending}
 use Rattle.link.specs.declared.state.Body.{Body}
 use Rattle.link.specs.declared.state.Action.TheVariants.{Nothing, Text}
-use Rattle.link.specs.declared.state.Handed.TheVariants.{NoneHanded}
-use Rattle.link.specs.declared.state.Transition.{Transition}
+use Rattle.std.specs.Prelude.{None}
+use Rattle.link.specs.State.{Transition}
 use Rattle.link.specs.Bytes.{secondary_update, interrupt}
 use Rattle.link.specs.State.{with_flags, current_drive, review, idle}
 
@@ -26,7 +26,7 @@ send_word b kind lead word =
       body = b;
       phase = Sending (record { kind = kind; bytes = string_of lead word; noes = 0 });
       action = Text (string_of lead word);
-      handed = NoneHanded;
+      handed = None;
     }
 
 -- "if bit 22 send secondary; then primary"

@@ -6,7 +6,7 @@
 -- Assumes nothing.
 use Rattle.std.specs.Prelude.{Bool, true, ◌&&◌, ◌||◌, leb, ltb, eqb}
 use Rattle.status.specs.declared.drives.Drive.{Drive}
-use Rattle.status.specs.declared.drives.Drives.{Drives}
+use Rattle.status.specs.Drives.{Drives}
 use Rattle.status.specs.Drives.{last_drive, last_track, gap_lost, gcr}
 use Rattle.status.specs.Words.{last_motion, last_code, count_limit}
 use Rattle.link.specs.declared.state.Collected.{Collected}
@@ -23,7 +23,7 @@ sound_drive d = leb d.track last_track && (leb d.gap gap_lost && leb d.density g
 
 -- of all four
 unfoldable pub sound_drives : Drives → Bool
-sound_drives d = sound_drive d.d0 && (sound_drive d.d1 && (sound_drive d.d2 && sound_drive d.d3))
+sound_drives d = sound_drive d.zero && (sound_drive d.one && (sound_drive d.two && sound_drive d.three))
 
 -- "selected drive, motion 0-3; .. code 0-31; .. secondary 0-65,535"
 unfoldable pub sound_body : Body → Bool

@@ -11,8 +11,8 @@ use Rattle.link.specs.declared.state.Phase.{Phase}
 use Rattle.link.specs.declared.state.Phase.TheVariants.{AckOffered, Sending}
 use Rattle.link.specs.declared.state.Body.{Body}
 use Rattle.link.specs.declared.state.Action.TheVariants.{Nothing, Byte, Text}
-use Rattle.link.specs.declared.state.Handed.TheVariants.{NoneHanded}
-use Rattle.link.specs.declared.state.Transition.{Transition}
+use Rattle.std.specs.Prelude.{None}
+use Rattle.link.specs.State.{Transition}
 use Rattle.link.specs.Bytes.{ack, nack, load_lead, store_lead, load_length, store_length, interrupt, most_noes}
 use Rattle.link.specs.State.{with_flags, nothing_collected, keep_phase, keep_collecting, idle, review}
 use Rattle.link.specs.Completion.{primary_now, send_word}
@@ -60,7 +60,7 @@ first_byte b s byte =
 -- "All bytes XOR to 0, else NACK and review. A good string offers ACK #06."
 unfoldable pub last_byte : Body → Collected → Transition
 last_byte b s =
-    pick (is_good_string s) (record { body = b; phase = AckOffered s; action = Byte ack; handed = NoneHanded })
+    pick (is_good_string s) (record { body = b; phase = AckOffered s; action = Byte ack; handed = None })
     (idle b (Byte nack))
 
 -- a further byte of a string
@@ -98,7 +98,7 @@ no_to_send b s =
       body = b;
       phase = Sending (record { kind = s.kind; bytes = s.bytes; noes = s.noes + 1 });
       action = Text s.bytes;
-      handed = NoneHanded;
+      handed = None;
     })
 
 -- "Byte #06 accepts; another byte is a no"

@@ -7,7 +7,7 @@ use Rattle.status.specs.Words.{secondary_word, reports_word}
 use Rattle.link.specs.declared.state.Kind.TheVariants.{Load}
 use Rattle.link.specs.declared.state.Body.{Body}
 use Rattle.link.specs.declared.state.Action.TheVariants.{Nothing}
-use Rattle.link.specs.declared.state.Transition.{Transition}
+use Rattle.link.specs.State.{Transition}
 use Rattle.link.specs.Bytes.{load_reply, device_id}
 use Rattle.link.specs.State.{idle}
 use Rattle.link.specs.Completion.{primary_now, send_word}

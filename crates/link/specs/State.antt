@@ -2,10 +2,11 @@
 -- start and the reset form. Records have no update: the few definitions that set a part of the body anew spell it once
 -- each.
 -- Assumes nothing.
-use Rattle.std.specs.Prelude.{ℕ, Bool, true, false, ◌||◌}
+use Rattle.std.specs.Prelude.{ℕ, Bool, true, false, Option, None, ◌||◌}
 use Rattle.status.specs.declared.drives.Drive.{Drive}
-use Rattle.status.specs.declared.drives.Drives.{Drives}
+use Rattle.status.specs.Drives.{Drives}
 use Rattle.status.specs.declared.words.Outcome.{Outcome}
+use Rattle.status.specs.declared.words.ResultRecord.{ResultRecord}
 use Rattle.status.specs.declared.words.Word.{Word}
 use Rattle.status.specs.Drives.{drive_of, with_drive, with_report, any_differs, copy_reports, reset_drives}
 use Rattle.status.specs.Words.{no_outcome, zero_word}
@@ -18,8 +19,22 @@ use Rattle.link.specs.declared.state.Phase.TheVariants.{ResultAwaited, EndOffere
 use Rattle.link.specs.declared.state.Body.{Body}
 use Rattle.link.specs.declared.state.Action.{Action}
 use Rattle.link.specs.declared.state.Action.TheVariants.{Nothing}
-use Rattle.link.specs.declared.state.Handed.TheVariants.{NoneHanded}
-use Rattle.link.specs.declared.state.Transition.{Transition}
+
+-- what a step hands back of a store: nothing, or the record of one whose code it settled
+abbrev pub Handed : Type 0
+Handed = Option ResultRecord
+
+-- what a step that is carried out leaves: the body, the phase, what it has the controller do, and the record of a store
+-- whose code it settled
+pub record Transition : Type 0 where
+  pub body : Body
+  pub phase : Phase
+  pub action : Action
+  pub handed : Handed
+
+-- that of a step in place, by what it leaves of a body and a phase: it settles no code
+abbrev pub left : Body → Phase → Action → Transition
+left b phase action = record { body = b; phase = phase; action = action; handed = None }
 
 -- ---- the phases: a value by what a phase holds where it is of one kind, and another otherwise
 
@@ -180,14 +195,14 @@ reset_state b =
       body = start_body (reset_drives b.drives);
       phase = Collecting nothing_collected;
       action = Nothing;
-      handed = NoneHanded;
+      handed = None;
     }
 
 -- ---- collecting
 
 -- the phase stays, and there is no action
 abbrev pub keep_phase : Body → Phase → Transition
-keep_phase b phase = record { body = b; phase = phase; action = Nothing; handed = NoneHanded }
+keep_phase b phase = record { body = b; phase = phase; action = Nothing; handed = None }
 
 -- this much of a string has come, and there is no action
 abbrev pub keep_collecting : Body → Collected → Transition
@@ -195,4 +210,4 @@ keep_collecting b s = keep_phase b (Collecting s)
 
 -- "review, collecting", with nothing collected
 unfoldable pub idle : Body → Action → Transition
-idle b action = record { body = review b; phase = Collecting nothing_collected; action = action; handed = NoneHanded }
+idle b action = record { body = review b; phase = Collecting nothing_collected; action = action; handed = None }

@@ -1,121 +1,81 @@
-// The body of the state: the selected drive, reports and review, start and reset, and collecting.
+//! The body of the state: the selected drive, reports and review, start and reset, and collecting. A step that ends in
+//! another phase is lent the phase beside the body, and returns what it has the controller do.
 ghost use Rattle.std.specs.Prelude.{◌≡◌};
-ghost use Rattle.link.specs.State.{with_flags, with_current_drive, note_report, review, start_body, reset_state};
-ghost use Rattle.link.specs.State.{keep_phase, keep_collecting, idle};
+ghost use Rattle.link.specs.State.{current_drive, with_current_drive, note_report, review, start_body};
+ghost use Rattle.link.specs.State.{left, reset_state, idle};
 
-use crate::state::{Action, Body, Collected, Handed, Phase, Transition, nothing_collected};
-use status::drives::{
-    Drive, Drives, any_differs, copy_reports, drive_of, reset_drives, with_drive, with_report,
-};
-use status::words::{no_outcome, zero_word};
+use crate::state::{Action, Body, Collected, Phase};
+use status::drives::{Drive, Drives, any_differs, copy_reports, reset_drives};
+use status::words::{Outcome, Word};
 
-// Another record for the selected drive.
-pub fn with_current_drive(mut b: Body, drive: Drive) -> Body
-    ensures { result ≡ with_current_drive b drive }
-{
-    let drives = b.drives;
-    let changed = with_drive(drives, b.selected, drive);
-    b.drives = changed;
-    b
-}
-
-// Changed and enable set to these.
-pub fn with_flags(mut b: Body, changed: bool, enable: bool) -> Body
-    ensures { result ≡ with_flags b «changed» «enable» }
-{
-    b.changed = changed;
-    b.enable = enable;
-    b
-}
-
-// A new report of one of the drives.
-pub fn note_report(mut b: Body, number: u8, report: u8) -> Body
-    ensures { result ≡ note_report b number report }
-{
-    let drives = b.drives;
-    let drive = with_report(drive_of(drives, number), report);
-    let changed = with_drive(drives, number, drive);
-    b.drives = changed;
-    b
-}
-
-// Changed is set if a report differs from its copy; all four are copied.
-#[tactic(auto, unfolding(crate::specs::State::review))]
-pub fn review(mut b: Body) -> Body
-    ensures { result ≡ review b }
-{
-    let drives = b.drives;
-    let differ = any_differs(drives);
-    let copied = copy_reports(drives);
-    b.changed = b.changed | differ;
-    b.drives = copied;
-    b
-}
-
-// The start, with these drives.
-#[tactic(auto, unfolding(crate::specs::State::start_body))]
-pub fn start_body(drives: Drives) -> Body
-    ensures { result ≡ start_body drives }
-{
-    let outcome = no_outcome(0);
-    let zero = zero_word();
-    Body {
-        drives,
-        selected: 0,
-        changed: true,
-        enable: false,
-        outcome,
-        tertiary: zero,
-        quintary: zero,
+impl Body {
+    /// The start, with these drives.
+    #[tactic(auto, unfolding(crate::specs::State::start_body))]
+    pub fn start(drives: Drives) -> Body
+        ensures { result ≡ start_body drives }
+    {
+        Body {
+            drives,
+            selected: 0,
+            changed: true,
+            enable: false,
+            outcome: Outcome::none(0),
+            tertiary: Word::default(),
+            quintary: Word::default(),
+        }
     }
-}
 
-// Reset, then collecting.
-#[tactic(auto, unfolding(crate::specs::State::reset_state))]
-pub fn reset_state(b: Body) -> Transition
-    ensures { result ≡ reset_state b }
-{
-    let drives = b.drives;
-    let body = start_body(reset_drives(drives));
-    let string = nothing_collected();
-    Transition {
-        body,
-        phase: Phase::Collecting(string),
-        action: Action::Nothing,
-        handed: Handed::NoneHanded,
+    /// The record of the selected drive.
+    #[tactic(auto, unfolding(status::specs::Drives::drive_of))]
+    pub fn current_drive(self) -> Drive
+        ensures { result ≡ current_drive self }
+    {
+        self.drives.get(self.selected)
     }
-}
 
-// The phase stays, and there is no action.
-pub fn keep_phase(b: Body, phase: Phase) -> Transition
-    ensures { result ≡ keep_phase b phase }
-{
-    Transition {
-        body: b,
-        phase,
-        action: Action::Nothing,
-        handed: Handed::NoneHanded,
+    /// Another record for the selected drive.
+    #[tactic(auto, unfolding(status::specs::Drives::with_drive))]
+    pub fn set_current_drive(&mut self, drive: Drive)
+        ensures { self.new ≡ with_current_drive self.old drive }
+    {
+        self.drives = self.drives.with(self.selected, drive);
     }
-}
 
-// Collecting, with this much of a string, and no action.
-pub fn keep_collecting(b: Body, s: Collected) -> Transition
-    ensures { result ≡ keep_collecting b s }
-{
-    keep_phase(b, Phase::Collecting(s))
-}
+    /// A new report of one of the drives.
+    #[tactic(auto, unfolding(status::specs::Drives::drive_of, status::specs::Drives::with_drive))]
+    pub fn note_report(&mut self, number: u8, report: u8)
+        ensures { self.new ≡ note_report self.old number report }
+    {
+        let drive = self.drives.get(number).with_report(report);
+        self.drives = self.drives.with(number, drive);
+    }
 
-// Review, then collecting, with nothing collected.
-#[tactic(auto, unfolding(crate::specs::State::idle))]
-pub fn idle(b: Body, action: Action) -> Transition
-    ensures { result ≡ idle b action }
-{
-    let reviewed = review(b);
-    let string = nothing_collected();
-    Transition {
-        body: reviewed,
-        phase: Phase::Collecting(string),
-        action,
-        handed: Handed::NoneHanded,
+    /// Changed is set if a report differs from its copy; all four are copied.
+    #[tactic(auto, unfolding(crate::specs::State::review))]
+    pub fn review(&mut self)
+        ensures { self.new ≡ review self.old }
+    {
+        self.changed |= any_differs(self.drives);
+        copy_reports(&mut self.drives);
+    }
+
+    /// Reset, then collecting.
+    #[tactic(auto, unfolding(crate::specs::State::reset_state))]
+    pub fn reset_state(&mut self, phase: &mut Phase) -> Action
+        ensures { left self.new phase.new result ≡ reset_state self.old }
+    {
+        *self = Body::start(reset_drives(self.drives));
+        *phase = Phase::Collecting(Collected::default());
+        Action::Nothing
+    }
+
+    /// Review, then collecting, with nothing collected.
+    #[tactic(auto, unfolding(crate::specs::State::idle))]
+    pub fn idle(&mut self, phase: &mut Phase, action: Action) -> Action
+        ensures { left self.new phase.new result ≡ idle self.old action }
+    {
+        self.review();
+        *phase = Phase::Collecting(Collected::default());
+        action
     }
 }

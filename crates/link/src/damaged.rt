@@ -1,4 +1,4 @@
-// The test of a damaged state: refusal 1.
+//! The test of a damaged state: refusal 1.
 ghost use Rattle.std.specs.Prelude.{◌≡◌};
 ghost use Rattle.link.specs.Damaged.{sound_drive, sound_drives, sound_body, sound_lead, sound_part, sound_string};
 ghost use Rattle.link.specs.Damaged.{sound_phase, is_sound};
@@ -20,59 +20,68 @@ fn sound_drive(d: Drive) -> bool
 fn sound_drives(d: Drives) -> bool
     ensures { result ≡ sound_drives d }
 {
-    sound_drive(d.d0) & (sound_drive(d.d1) & (sound_drive(d.d2) & sound_drive(d.d3)))
+    d.all(|drive| sound_drive(drive))
 }
 
-#[tactic(auto, unfolding(crate::specs::Damaged::sound_body))]
-fn sound_body(b: Body) -> bool
-    ensures { result ≡ sound_body b }
-{
-    sound_drives(b.drives)
-        & ((b.selected <= LAST_DRIVE)
-            & ((b.outcome.result.motion <= LAST_MOTION)
-                & ((b.outcome.result.code <= LAST_CODE) & (b.outcome.result.count <= COUNT_LIMIT))))
-}
-
-// A string begins with the lead of a load or of a store.
-#[tactic(auto, unfolding(crate::specs::Damaged::sound_lead))]
-fn sound_lead(s: Collected) -> bool
-    ensures { result ≡ sound_lead s }
-{
-    (s.c0 == LOAD_LEAD) | (s.c0 == STORE_LEAD)
-}
-
-// A string that is being collected.
-#[tactic(auto, unfolding(crate::specs::Damaged::sound_part))]
-fn sound_part(s: Collected) -> bool
-    ensures { result ≡ sound_part s }
-{
-    (s.length == 0) | (sound_lead(s) & (s.length < whole_length(s.c0)))
-}
-
-// A whole string.
-#[tactic(auto, unfolding(crate::specs::Damaged::sound_string))]
-fn sound_string(s: Collected) -> bool
-    ensures { result ≡ sound_string s }
-{
-    sound_lead(s) & (s.length == whole_length(s.c0))
-}
-
-#[tactic(auto, unfolding(crate::specs::Damaged::sound_phase))]
-fn sound_phase(phase: Phase) -> bool
-    ensures { result ≡ sound_phase phase }
-{
-    match phase {
-        Phase::Collecting(s) => sound_part(s),
-        Phase::AckOffered(s) => sound_string(s),
-        Phase::Sending(send) => send.noes <= MOST_NOES,
-        _ => true,
+impl Body {
+    #[tactic(auto, unfolding(crate::specs::Damaged::sound_body))]
+    fn sound_body(self) -> bool
+        ensures { result ≡ sound_body self }
+    {
+        sound_drives(self.drives)
+            & ((self.selected <= LAST_DRIVE)
+                & ((self.outcome.result.motion <= LAST_MOTION)
+                    & ((self.outcome.result.code <= LAST_CODE)
+                        & (self.outcome.result.count <= COUNT_LIMIT))))
     }
 }
 
-// Whether no field is out of range.
-#[tactic(auto, unfolding(crate::specs::Damaged::is_sound))]
-pub fn is_sound(b: Body, phase: Phase) -> bool
-    ensures { result ≡ is_sound b phase }
-{
-    sound_body(b) & sound_phase(phase)
+impl Collected {
+    // A string begins with the lead of a load or of a store.
+    #[tactic(auto, unfolding(crate::specs::Damaged::sound_lead))]
+    fn sound_lead(self) -> bool
+        ensures { result ≡ sound_lead self }
+    {
+        (self.c0 == LOAD_LEAD) | (self.c0 == STORE_LEAD)
+    }
+
+    // A string that is being collected.
+    #[tactic(auto, unfolding(crate::specs::Damaged::sound_part))]
+    fn sound_part(self) -> bool
+        ensures { result ≡ sound_part self }
+    {
+        (self.length == 0) | (self.sound_lead() & (self.length < whole_length(self.c0)))
+    }
+
+    // A whole string.
+    #[tactic(auto, unfolding(crate::specs::Damaged::sound_string))]
+    fn sound_string(self) -> bool
+        ensures { result ≡ sound_string self }
+    {
+        self.sound_lead() & (self.length == whole_length(self.c0))
+    }
+}
+
+impl Phase {
+    #[tactic(auto, unfolding(crate::specs::Damaged::sound_phase))]
+    fn sound_phase(self) -> bool
+        ensures { result ≡ sound_phase self }
+    {
+        match self {
+            Phase::Collecting(s) => s.sound_part(),
+            Phase::AckOffered(s) => s.sound_string(),
+            Phase::Sending(send) => send.noes <= MOST_NOES,
+            _ => true,
+        }
+    }
+}
+
+impl Body {
+    /// Whether no field is out of range.
+    #[tactic(auto, unfolding(crate::specs::Damaged::is_sound))]
+    pub fn is_sound(self, phase: Phase) -> bool
+        ensures { result ≡ is_sound self phase }
+    {
+        self.sound_body() & phase.sound_phase()
+    }
 }

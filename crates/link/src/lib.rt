@@ -1,8 +1,5 @@
-// The link owns the controller's state and its phases, reset and damage, the strings from and to the host, completion
-// and loads. It knows nothing of what a store asks for, and refuses nothing.
-//
-// A body that goes to a call which is not inlined goes as a copy, `held`: by its address the body itself would have to
-// lie in memory, on every path.
+//! The link owns the controller's state and its phases, reset and damage, the strings from and to the host, completion
+//! and loads. It knows nothing of what a store asks for, and refuses nothing.
 #![tactic(auto)]
 
 pub mod body;

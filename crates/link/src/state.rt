@@ -1,15 +1,15 @@
-// The parts of the state, and what a step leaves.
+//! The parts of the state, and what a step has the controller do.
 ghost use Rattle.std.specs.Prelude.{◌≡◌};
-ghost use Rattle.link.specs.State.{nothing_collected, store_of};
+ghost use Rattle.link.specs.State.{store_of};
 
 use crate::frames::Frame;
 use operations::operation::Operation;
 use operations::store::Store;
 use status::drives::Drives;
-use status::words::{Outcome, ResultRecord, Word};
+use status::words::{Outcome, Word};
 
-// A string from the host as far as it has come: how many bytes, and the bytes.
-#[derive(Clone, Copy)]
+/// A string from the host as far as it has come: how many bytes, and the bytes.
+#[derive(Clone, Copy, Default)]
 pub struct Collected {
     pub length: u8,
     pub c0: u8,
@@ -22,48 +22,33 @@ pub struct Collected {
     pub c7: u8,
 }
 
-// A string of which no byte has come.
-pub fn nothing_collected() -> Collected
-    ensures { result ≡ nothing_collected }
-{
-    Collected {
-        length: 0,
-        c0: 0,
-        c1: 0,
-        c2: 0,
-        c3: 0,
-        c4: 0,
-        c5: 0,
-        c6: 0,
-        c7: 0,
+impl Collected {
+    /// The store that a whole string is: its address and its operand.
+    #[tactic(auto, unfolding(crate::specs::State::store_of))]
+    pub fn store(self) -> Store
+        ensures { result ≡ store_of self }
+    {
+        Store {
+            address: self.c1,
+            first: self.c2,
+            second: self.c3,
+            third: self.c4,
+            fourth: self.c5,
+        }
     }
 }
 
-// The store that a whole string is: its address and its operand.
-#[tactic(auto, unfolding(crate::specs::State::store_of))]
-pub fn store_of(s: Collected) -> Store
-    ensures { result ≡ store_of s }
-{
-    Store {
-        address: s.c1,
-        first: s.c2,
-        second: s.c3,
-        third: s.c4,
-        fourth: s.c5,
-    }
-}
-
-// What is sent: a load's reply, the secondary update before an interrupt, the interrupt that ends a store, or the
-// interrupt of a drive that changed.
+/// What is sent: a load's reply, the secondary update before an interrupt, the interrupt that ends a store, or the
+/// interrupt of a drive that changed.
 #[derive(Clone, Copy)]
 pub enum Kind {
-    Load,
-    Secondary,
-    Completion,
-    Change,
+    Load = 0,
+    Secondary = 1,
+    Completion = 2,
+    Change = 3,
 }
 
-// A string on its way to the host. The bytes are kept, since they go again after a no.
+/// A string on its way to the host. The bytes are kept, since they go again after a no.
 #[derive(Clone, Copy)]
 pub struct Send {
     pub kind: Kind,
@@ -71,26 +56,26 @@ pub struct Send {
     pub noes: u8,
 }
 
-// What the controller waits for, with what is in hand.
+/// What the controller waits for, with what is in hand.
 #[derive(Clone, Copy)]
 pub enum Phase {
-    // the next byte of a string, with those that have come
+    /// the next byte of a string, with those that have come
     Collecting(Collected),
-    // the answer to ACK, with the string that it is for
+    /// the answer to ACK, with the string that it is for
     AckOffered(Collected),
-    // the answer to a string that was sent
+    /// the answer to a string that was sent
     Sending(Send),
-    // the answer to GO
+    /// the answer to GO
     GoOffered(Store),
-    // the data call of a write
+    /// the data call of a write
     DataAwaited(Store),
-    // the result of an operation
+    /// the result of an operation
     ResultAwaited(Operation, Store),
-    // the answer to EOR, and whether the store asks an interrupt
+    /// the answer to EOR, and whether the store asks an interrupt
     EndOffered(bool),
 }
 
-// All but the phase.
+/// All but the phase.
 #[derive(Clone, Copy)]
 pub struct Body {
     pub drives: Drives,
@@ -102,28 +87,11 @@ pub struct Body {
     pub quintary: Word,
 }
 
-// What a step has the controller do: nothing, offer a byte, send a string, or order a motion.
+/// What a step has the controller do: nothing, offer a byte, send a string, or order a motion.
 #[derive(Clone, Copy)]
 pub enum Action {
     Nothing,
     Byte(u8),
     Text(Frame),
     Order(Frame),
-}
-
-// What a step hands back of a store: nothing, or the record of one whose code it settled.
-#[derive(Clone, Copy)]
-pub enum Handed {
-    NoneHanded,
-    OneHanded(ResultRecord),
-}
-
-// What a step that is carried out leaves: the body, the phase, what it has the controller do, and what it hands back of
-// a store.
-#[derive(Clone, Copy)]
-pub struct Transition {
-    pub body: Body,
-    pub phase: Phase,
-    pub action: Action,
-    pub handed: Handed,
 }

@@ -9,8 +9,11 @@ use lib.Dec.{leb, ltb, eqb}
 use lib.ListN.{length}
 use Rattle.common.specs.Pick.{pick}
 use Rattle.common.proofs.PickLaws.{pick_by}
-use Rattle.marks.specs.Scan.{scan_marks, kind_of, defect_at, is_found, findings_of}
-use Rattle.marks.specs.declared.Defect.{Defect}
+use Rattle.std.specs.Prelude.{Option, Some, None, is_some}
+use Rattle.marks.specs.Scan.{Defect, scan_marks, kind_of, defect_at, is_found, findings_of, kind_number, told_defect}
+use Rattle.marks.specs.declared.Kind.{Kind}
+use Rattle.marks.specs.declared.Kind.TheVariants.{Data, Check}
+use Rattle.marks.specs.declared.Defect.{Defect as Found}
 
 -- every error has a kind
 kind_there : (after : ℕ) → not (eqb (kind_of after) 0) ≡ true
@@ -33,3 +36,13 @@ module _ (marks : List ℕ) where
   pub stop_found : is_found (findings_of marks).stop ≡ ltb (scan_marks marks).stop (length marks)
   unfolding findings_of
   stop_found = found_below (scan_marks marks).stop
+
+kind_some : (kind : Kind) → not (eqb (kind_number kind) 0) ≡ true
+kind_some Data = refl
+kind_some Check = refl
+
+-- an error that the program holds is one that is found
+pub found_some : (defect : Option Found) → is_found (told_defect defect) ≡ is_some defect
+unfolding is_found
+found_some None = refl
+found_some (Some d) = kind_some d.kind

@@ -1,12 +1,13 @@
 -- Legal marks, place by place.
 -- Assumes nothing.
-use mathlib.Core.Path.{◌≡◌, refl, sym, ap₂}
+use mathlib.Core.Path.{◌≡◌, refl, sym, ap₂, ◌∙◌}
 use Prim.Native.Nat.{ℕ, zero, suc, ◌<◌}
 use native.Mathlib.Omega.{arith}
-use mathlib.Core.Bool.{true, false, ◌&&◌, false≢true}
+use mathlib.Core.Bool.{Bool, true, false, ◌&&◌, and_assoc, false≢true}
 use mathlib.Core.List.{List, [], ◌∷◌}
 use lib.ListN.{length, get_or}
 use Rattle.common.proofs.PickLaws.{by_test, both_hold}
+use Rattle.std.specs.List.{fold}
 use Rattle.marks.specs.Marks.{legal_mark, legal_marks}
 
 -- marks are legal where each is
@@ -37,3 +38,18 @@ illegal_found (mark ∷ marks) fails =
     let found = illegal_found marks rest in
     (suc found.0, omega (arith, found.1), found.2))
     (λ illegal. (0, omega arith, illegal))
+
+-- looked at one after the other, with no way out
+abbrev pub still_legal : Bool → ℕ → Bool
+still_legal legal mark = legal && legal_mark mark
+
+folded_from : (marks : List ℕ) (legal : Bool) → fold still_legal legal marks ≡ (legal && legal_marks marks)
+unfolding legal_marks
+folded_from [] true = refl
+folded_from [] false = refl
+folded_from (mark ∷ marks) legal =
+    folded_from marks (legal && legal_mark mark) ∙ and_assoc legal (legal_mark mark) (legal_marks marks)
+
+pub legal_folded : (marks : List ℕ) (legal : Bool) → legal ≡ fold (λ legal mark. legal && legal_mark mark) true marks
+    → legal ≡ legal_marks marks
+legal_folded marks legal one_by_one = one_by_one ∙ folded_from marks true

@@ -3,12 +3,16 @@
 -- blockettes 1 and 0 follow them, so `after` has the parity of the number, is the number of a check blockette, and is 2
 -- above that of data.
 -- Assumes nothing.
-use Rattle.std.specs.Prelude.{ℕ, suc, ◌-◌, ◌%◌, Bool, not, ◌&&◌, List, [], ◌∷◌, leb, ltb, eqb, length, get_or}
+use Rattle.std.specs.Prelude.{ℕ, suc, ◌-◌, ◌%◌, Bool, not, ◌&&◌, List, [], ◌∷◌, Option, Some, None, leb, ltb, eqb}
+use Rattle.std.specs.Prelude.{length}
+use Rattle.std.specs.Prelude.{get_or}
 use Rattle.common.specs.Pick.{pick}
 use Rattle.marks.specs.Marks.{is_error, torn_marks}
 use Rattle.marks.specs.declared.Scan.{Scan}
-use Rattle.marks.specs.declared.Defect.{Defect}
-use Rattle.marks.specs.declared.Findings.{Findings}
+use Rattle.marks.specs.declared.Kind.{Kind}
+use Rattle.marks.specs.declared.Kind.TheVariants.{Data, Check}
+use Rattle.marks.specs.declared.Defect.{Defect as Found}
+use Rattle.marks.specs.declared.Findings.{Findings as Finds}
 
 -- "the scan stops at the first blockette that is the second bad one of its parity"; "An error's parity is its number's,
 -- check blockettes included." The marks that are left, the place of the first of them, the end, and the first odd and
@@ -40,6 +44,19 @@ kind_of after = pick (leb 2 after) data_kind check_kind
 -- "its number", one byte: no record has more than 256 blockettes
 unfoldable pub number_of : ℕ → ℕ
 number_of after = pick (leb 2 after) ((after - 2) % 256) after
+
+-- what is told of an error: mark, kind and number, as the status words and the report for C have them
+pub record Defect : Type 0 where
+  pub mark : ℕ
+  pub kind : ℕ
+  pub number : ℕ
+
+-- what is told of the first odd error, of the first even one and of the stopping one, and the place of the stop
+pub record Findings : Type 0 where
+  pub odd : Defect
+  pub even : Defect
+  pub stop : Defect
+  pub place : ℕ
 
 -- An error's mark, kind and number; "zero where none", which is the end.
 unfoldable pub defect_at : List ℕ → ℕ → Defect
@@ -74,3 +91,18 @@ findings_torn marks = findings_of (torn_marks marks)
 -- "only check blockettes are bad" (document 02, request 2): no error that the scan found is a data blockette's
 unfoldable pub checks_alone : Findings → Bool
 checks_alone found = not (eqb found.odd.kind data_kind) && not (eqb found.even.kind data_kind)
+
+-- ---- what the values of the program tell
+
+abbrev pub kind_number : Kind → ℕ
+kind_number Data = data_kind
+kind_number Check = check_kind
+
+-- "zero where none"
+abbrev pub told_defect : Option Found → Defect
+told_defect None = record { mark = 0; kind = 0; number = 0 }
+told_defect (Some d) = record { mark = d.mark; kind = kind_number d.kind; number = d.number }
+
+abbrev pub told_findings : Finds → Findings
+told_findings f =
+    record { odd = told_defect f.odd; even = told_defect f.even; stop = told_defect f.stop; place = f.place }

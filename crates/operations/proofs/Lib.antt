@@ -1,2 +1,3 @@
 pub mod Table
 pub mod DensityLaws
+pub mod ListingLaws

@@ -5,6 +5,8 @@
 -- Assumes nothing.
 use Rattle.std.specs.Prelude.{ℕ, Bool, false, ◌||◌, List, [], ◌∷◌, eqb}
 use Rattle.common.specs.Pick.{pick}
+use Rattle.operations.specs.declared.answers.Listing.{Listing}
+use Rattle.operations.specs.declared.answers.Listing.TheVariants.{Never, Reported, WithRetry}
 use Rattle.operations.specs.declared.operation.Operation.{Operation}
 use Rattle.operations.specs.declared.operation.Operation.TheVariants.{Read, CheckBytes, SuppliedCount, Write}
 use Rattle.operations.specs.declared.operation.Operation.TheVariants.{Erase, Rewind, FastForward, SkipForward}
@@ -70,6 +72,12 @@ asks_no_retry = 1
 
 abbrev pub asks_retry : ℕ
 asks_retry = 2
+
+-- what the code says by a value of its own, as a number
+abbrev pub listing_number : Listing → ℕ
+listing_number Never = never_reported
+listing_number Reported = asks_no_retry
+listing_number WithRetry = asks_retry
 
 -- whether a code is in a list
 unfoldable pub is_in : ℕ → List ℕ → Bool

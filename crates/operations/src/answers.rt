@@ -1,14 +1,17 @@
-// The codes that a result may report: 0 never, 1 reported and no retry, 2 reported with retry. The single place for
-// reported codes.
+//! The codes that a result may report: 0 never, 1 reported and no retry, 2 reported with retry. The single place for
+//! reported codes.
 ghost use Rattle.std.specs.Prelude.{◌≡◌};
-ghost use Rattle.operations.specs.Answers.{answer_of};
+ghost use Rattle.operations.specs.Answers.{answer_of, listing_number};
 
-use crate::operation::{Operation, number_of};
+use crate::operation::Operation;
 
-// What an entry says that code asks for; the third is 1, reported and no retry.
-pub const NEVER_REPORTED: u8 = 0;
-
-pub const ASKS_RETRY: u8 = 2;
+/// What an entry says of a code: that no result reports it, or that one may, and whether it asks a retry.
+#[derive(Clone, Copy, Debug, PartialEq, Eq)]
+pub enum Listing {
+    Never,
+    Reported,
+    WithRetry,
+}
 
 // A row for each operation, a digit for each code from 0 to 31.
 const ANSWERS: [[u8; 32]; 12] = [
@@ -26,13 +29,27 @@ const ANSWERS: [[u8; 32]; 12] = [
     *b"10000002220222000000000200000000", // write mark
 ];
 
-// The answer of an operation and a code.
-pub fn answer_of(operation: Operation, code: u8) -> u8
+// The answer of an operation and a code, as a number.
+fn answer_of(operation: Operation, code: u8) -> u8
     ensures { result ≡ answer_of operation code }
 {
     if 31 < code {
-        return NEVER_REPORTED;
+        return 0;
     }
-    let row = number_of(operation);
+    let row = operation.number() as usize;
     ANSWERS[row][code as usize] - b'0'
+}
+
+impl Operation {
+    /// What the table says of a code.
+    #[tactic(auto, using(crate::proofs::ListingLaws::few_answers))]
+    pub fn listing(self, code: u8) -> Listing
+        ensures { listing_number result ≡ answer_of self code }
+    {
+        match answer_of(self, code) {
+            0 => Listing::Never,
+            1 => Listing::Reported,
+            _ => Listing::WithRetry,
+        }
+    }
 }

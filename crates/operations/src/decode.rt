@@ -1,12 +1,12 @@
-// What a store asks for.
+//! What a store asks for.
 ghost use Rattle.std.specs.Prelude.{◌≡◌};
 ghost use Rattle.operations.specs.Decode.{control_of, read_of, decode_of, in_density};
 
 use crate::codes::{ILLEGAL_STORE, ILLEGAL_TRACK};
-use crate::operation::{Operation, supplies_count};
-use status::drives::MFM;
+use crate::operation::Operation;
+use status::drives::{GCR, MFM};
 
-// A reset, a code that ends the store, a setting of the selected drive or of the controller, or an operation.
+/// A reset, a code that ends the store, a setting of the selected drive or of the controller, or an operation.
 #[derive(Clone, Copy)]
 pub enum Decoded {
     Reset,
@@ -30,8 +30,8 @@ fn control_of(value: u8) -> Decoded
         0x09 => Decoded::Enable(true),
         0x0A => Decoded::Guard(false),
         0x0B => Decoded::Guard(true),
-        0x0C => Decoded::Density(0),
-        0x0D => Decoded::Density(1),
+        0x0C => Decoded::Density(MFM),
+        0x0D => Decoded::Density(GCR),
         0x10 => Decoded::Operate(Operation::Rewind),
         0x11 => Decoded::Operate(Operation::FastForward),
         0x20 => Decoded::Operate(Operation::SkipForward),
@@ -56,7 +56,7 @@ fn read_of(first: u8) -> Decoded
     }
 }
 
-// By the operation, address bits 1-3, and the operand's first and last byte.
+/// By the operation, address bits 1-3, and the operand's first and last byte.
 #[tactic(auto, unfolding(crate::specs::Decode::decode_of, common::specs::Pick::pick))]
 pub fn decode_of(operation: u8, first: u8, last: u8) -> Decoded
     ensures { result ≡ decode_of operation first last }
@@ -71,7 +71,7 @@ pub fn decode_of(operation: u8, first: u8, last: u8) -> Decoded
     }
 }
 
-// The same for a drive of this density: a supplied count needs GCR.
+/// The same for a drive of this density: a supplied count needs GCR.
 #[tactic(auto, unfolding(crate::specs::Decode::in_density, common::specs::Pick::pick))]
 pub fn in_density(density: u8, asked: Decoded) -> Decoded
     ensures { result ≡ in_density density asked }
@@ -79,7 +79,7 @@ pub fn in_density(density: u8, asked: Decoded) -> Decoded
     let Decoded::Operate(operation) = asked else {
         return asked;
     };
-    if supplies_count(operation) & (density == MFM) {
+    if operation.supplies_count() & (density == MFM) {
         return Decoded::Code(ILLEGAL_STORE);
     }
     asked

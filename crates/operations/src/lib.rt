@@ -1,5 +1,5 @@
-// The twelve operations that a store can ask for: how a store is decoded, which drive may carry it out, which codes its
-// result may report, and what it leaves. It knows nothing of the link and of the state.
+//! The twelve operations that a store can ask for: how a store is decoded, which drive may carry it out, which codes
+//! its result may report, and what it leaves. It knows nothing of the link and of the state.
 #![tactic(auto)]
 
 pub mod after;

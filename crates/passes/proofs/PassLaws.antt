@@ -6,28 +6,18 @@ use native.Mathlib.Nat.{lt_of_not-le, mul-suc, le_of_suc-le-suc, not-suc-le-zero
 use native.Mathlib.Decide.{dec_le}
 use native.Mathlib.Numerals.{add-one}
 use native.Mathlib.Omega.{arith}
-use mathlib.Core.Bool.{Bool, true, false, not, ◌&&◌, ◌||◌, or-true, and_assoc, false≢true}
+use mathlib.Core.Bool.{Bool, true, false, ◌&&◌, ◌||◌, or-true, and_assoc}
 use mathlib.Core.List.{List, [], ◌∷◌, ◌++◌, append_assoc}
 use lib.Dec.{eqb}
-use lib.ListN.{length, get_or, take, drop, set, length-append}
-use lib.Seq.{take_at, drop_at, set_at, drop-cons, drop-drop}
+use lib.ListN.{length, take, drop, length-append}
+use lib.Seq.{take_at, drop_at, drop-drop}
 use borrow.Rule.Slice.PartMut.{put_mid}
+use Rattle.std.specs.List.{fold, zip}
 use Rattle.common.proofs.PickLaws.{pick_by}
 use Rattle.blockettes.specs.Blockettes.{blockette_at}
 use Rattle.passes.specs.Passes.{same_bytes, any_place, takes_second, joined, merged_at}
 
 -- ---- tests
-
--- where either of two holds, not both fail
-pub either_none : (a b rest : Bool) → (a || b) ≡ true → false ≡ (not a && (not b && rest))
-either_none true b rest e = refl
-either_none false true rest e = refl
-either_none false false rest e = absurd (false≢true e)
-
-pub neither_rest : (a b rest : Bool) → (a || b) ≡ false → rest ≡ (not a && (not b && rest))
-neither_rest true b rest e = absurd (false≢true (sym e))
-neither_rest false true rest e = absurd (false≢true (sym e))
-neither_rest false false rest e = refl
 
 -- a test that holds at a place holds at any
 pub any_found : (test : ℕ → Bool) (n at : ℕ) → at < n → test at ≡ true → any_place test n ≡ true
@@ -47,6 +37,25 @@ pub none_found : (test : ℕ → Bool) (n : ℕ) → ((at : ℕ) → at < n → 
 unfolding any_place
 none_found test zero fails = refl
 none_found test (suc n) fails = rw (none_found test n (λ at below. fails at (omega arith)), fails n (omega arith)) refl
+
+-- ---- strings compared pair by pair, with no way out
+
+abbrev pub so_far : Bool → ℕ × ℕ → Bool
+so_far same pair = same && eqb pair.0 pair.1
+
+same_from : (a b : List ℕ) → length b ≡ length a → (same : Bool)
+    → fold so_far same (zip a b) ≡ (same && same_bytes a b)
+unfolding same_bytes
+same_from [] [] alike true = refl
+same_from [] [] alike false = refl
+same_from [] (y ∷ b) alike same = absurd (omega (arith, alike))
+same_from (x ∷ a) [] alike same = absurd (omega (arith, alike))
+same_from (x ∷ a) (y ∷ b) alike same =
+    same_from a b (omega (arith, alike)) (same && eqb x y) ∙ and_assoc same (eqb x y) (same_bytes a b)
+
+pub same_folded : (a b : List ℕ) → length b ≡ length a → (same : Bool) → same ≡ fold so_far true (zip a b)
+    → same ≡ same_bytes a b
+same_folded a b alike same one_by_one = one_by_one ∙ same_from a b alike true
 
 -- ---- strings compared in two parts
 
@@ -107,20 +116,6 @@ module _ (part : ℕ → List ℕ) (space : List ℕ) (at start size : ℕ) (lon
       ∙ ap (λ (x : List ℕ). joined part at ++ (part at ++ x)) (drop-drop size start space)
       ∙ sym (append_assoc (joined part at) (part at) (drop (start + size) space))
       ∙ ap (λ (x : List ℕ). x ++ drop (start + size) space) (sym (joined_more part at))
-
--- or a single element
-module _ (element : ℕ → ℕ) (space : List ℕ) (at : ℕ) (long : length (joined (λ place. element place ∷ []) at) ≡ at)
-    (below : at < length space) where
-  abbrev parts : ℕ → List ℕ
-  parts = λ place. element place ∷ []
-
-  pub element_put : set (joined parts at ++ drop at space) at (element at)
-      ≡ joined parts (at + 1) ++ drop (at + 1) space
-  element_put =
-      ap (λ (x : List ℕ). set (joined parts at ++ x) at (element at)) (drop-cons space at 0 below)
-      ∙ set_at (joined parts at) (get_or space at 0) (drop (suc at) space) (element at) at long
-      ∙ sym (append_assoc (joined parts at) (element at ∷ []) (drop (suc at) space))
-      ∙ ap₂ (λ (x : List ℕ) (n : ℕ). x ++ drop n space) (sym (joined_more parts at)) (sym (add-one at))
 
 -- ---- the choice between two passes
 

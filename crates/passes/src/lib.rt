@@ -1,14 +1,13 @@
-// One record out of two passes, blockette by blockette: which of them are unlike, and the merged blockettes with their
-// marks.
+//! One record out of two passes, blockette by blockette: which of them are unlike, and the merged blockettes with their
+//! marks.
 #![tactic(auto)]
 
-ghost use Rattle.std.specs.Prelude.{◌≡◌, ◌+◌, ◌*◌, ◌≤◌, ◌<◌, length};
+ghost use Rattle.std.specs.Prelude.{◌≡◌, ◌+◌, ◌*◌, ◌≤◌, ◌<◌, length, get_or};
 ghost use Rattle.blockettes.specs.Blockettes.{blockette_length, blockette_at};
 ghost use Rattle.passes.specs.Passes.{same_bytes, same_blockettes, clash_at, clashes, takes_second};
 ghost use Rattle.passes.specs.Passes.{merged_mark, merged_blockette, merged_marks, merged_blockettes};
 
-use blockettes::BLOCKETTE_LENGTH;
-use common::overwrite;
+use blockettes::{BLOCKETTE_LENGTH, blockette_at};
 use marks::is_error;
 
 // The first bytes of a blockette that are compared by themselves.
@@ -18,24 +17,24 @@ const FRONT: usize = 16;
 // aligned where the image is.
 const ALIGNED: usize = 14;
 
-// Whether two strings of one length have the same bytes. All are looked at, since a loop without a way out takes many
-// in a step.
-#[tactic(auto, unfolding(crate::specs::Passes::same_bytes))]
+/// The blockettes of a pass, one behind the other, and a mark for each.
+#[derive(Clone, Copy)]
+pub struct Blockettes<'a> {
+    pub bytes: &'a [u8],
+    pub marks: &'a [u8],
+    ghost whole: { length bytes.now ≡ blockette_length * length marks.now },
+}
+
+// Whether two strings of one length have the same bytes. All are looked at, since what has no way out takes many in a
+// step: `a == b`, which has one, takes one and a half times as long.
 fn same_bytes(a: &[u8], b: &[u8]) -> bool
     requires { length b.now ≡ length a.now }
     ensures { result ≡ same_bytes a.now b.now }
 {
-    let n = a.len();
-    let mut same = true;
-    let mut at = 0;
-    while at < n {
-        same = same & (a[at] == b[at]);
-        at += 1;
-    }
-    same
+    a.iter().zip(b).fold(true, |same, (x, y)| same & (x == y))
 }
 
-// Whether two blockettes have. Two bytes are compared twice, so that both parts begin with a whole vector.
+/// Whether two blockettes have. Two bytes are compared twice, so that both parts begin with a whole vector.
 pub fn same_blockettes(a: &[u8], b: &[u8]) -> bool
     requires a_len { length a.now ≡ blockette_length }
     requires b_len { length b.now ≡ blockette_length }
@@ -55,7 +54,7 @@ fn takes_second(first_mark: u8, second_mark: u8) -> bool
 }
 
 // Its mark.
-#[tactic(auto, unfolding(crate::specs::Passes::merged_mark))]
+#[tactic(auto, unfolding(crate::specs::Passes::merged_mark, common::specs::Pick::pick))]
 fn merged_mark(first_mark: u8, second_mark: u8) -> u8
     ensures { result ≡ merged_mark first_mark second_mark }
 {
@@ -65,109 +64,84 @@ fn merged_mark(first_mark: u8, second_mark: u8) -> u8
     first_mark
 }
 
-// Whether the blockette at a place is good in both passes and unlike.
-#[tactic(auto, unfolding(crate::specs::Passes::clash_at))]
-fn clash_at(
-    first: &[u8],
-    first_marks: &[u8],
-    second: &[u8],
-    second_marks: &[u8],
-    place: usize,
-) -> bool
-    requires place_in_bounds { place < length first_marks.now }
-    requires second_marks_len { length second_marks.now ≡ length first_marks.now }
-    requires first_len { length first.now ≡ blockette_length * length first_marks.now }
-    requires second_len { length second.now ≡ blockette_length * length first_marks.now }
-    ensures { result ≡ clash_at first.now first_marks.now second.now
-        second_marks.now place }
-{
-    if is_error(first_marks[place]) | is_error(second_marks[place]) {
-        return false;
+impl Blockettes<'_> {
+    // The one at a place.
+    fn blockette_at(&self, place: usize) -> &[u8]
+        requires { place < length self.now.marks.now }
+        ensures found { result.now ≡ blockette_at self.now.bytes.now place }
+        ensures whole { length result.now ≡ blockette_length }
+    {
+        blockette_at(self.bytes, place)
     }
-    let start = BLOCKETTE_LENGTH * place;
-    let end = start + BLOCKETTE_LENGTH;
-    !same_blockettes(&first[start..end], &second[start..end])
-}
 
-// Whether any is. From the last to the first: those compared last are in the processor's nearest cache when the merged
-// ones are put, from the first on.
-#[tactic(auto, unfolding(crate::specs::Passes::clashes))]
-pub fn clashes(first: &[u8], first_marks: &[u8], second: &[u8], second_marks: &[u8]) -> bool
-    requires second_marks_len { length second_marks.now ≡ length first_marks.now }
-    requires first_len { length first.now ≡ blockette_length * length first_marks.now }
-    requires second_len { length second.now ≡ blockette_length * length first_marks.now }
-    ensures { result ≡ clashes first.now first_marks.now second.now
-        second_marks.now }
-{
-    let mut left = first_marks.len();
-    while 0 < left {
-        left -= 1;
-        if clash_at(first, first_marks, second, second_marks, left) {
-            return true;
+    // Whether the blockette at a place is good in both passes and unlike.
+    #[tactic(auto, unfolding(crate::specs::Passes::clash_at))]
+    fn clash_at(&self, other: &Blockettes, place: usize) -> bool
+        requires place_in_bounds { place < length self.now.marks.now }
+        requires as_many { length other.now.marks.now ≡ length self.now.marks.now }
+        ensures { result ≡ clash_at self.now.bytes.now self.now.marks.now other.now.bytes.now
+            other.now.marks.now place }
+    {
+        if is_error(self.marks[place]) | is_error(other.marks[place]) {
+            return false;
         }
+        !same_blockettes(self.blockette_at(place), other.blockette_at(place))
     }
-    false
+
+    /// Whether any is. From the last to the first: those compared last are in the processor's nearest cache when the
+    /// merged ones are put, from the first on.
+    #[tactic(auto, using(crate::proofs::PassLaws::none_found), unfolding(crate::specs::Passes::clashes))]
+    pub fn clashes(&self, other: &Blockettes) -> bool
+        requires { length other.now.marks.now ≡ length self.now.marks.now }
+        ensures { result ≡ clashes self.now.bytes.now self.now.marks.now other.now.bytes.now
+            other.now.marks.now }
+    {
+        for place in (0..self.marks.len()).rev() {
+            if self.clash_at(other, place) {
+                return true;
+            }
+        }
+        false
+    }
 }
 
 // The merged blockette at a place. Its part of the image has that of the first pass, which stays where it is not the
 // second's.
-#[tactic(auto, unfolding(blockettes::specs::Blockettes::blockette_at, common::specs::Pick::pick))]
-fn put_merged_blockette(
-    first_mark: u8,
-    second: &[u8],
-    second_mark: u8,
-    place: usize,
-    part: &mut [u8],
-)
-    requires blockette_length_in_bounds { blockette_length * place + blockette_length ≤ length second.now }
+#[tactic(auto, unfolding(common::specs::Pick::pick))]
+fn put_merged_blockette(first_mark: u8, second: &Blockettes, place: usize, part: &mut [u8])
+    requires place_in_bounds { place < length second.now.marks.now }
     requires part_len { length part.old ≡ blockette_length }
-    ensures { part.new ≡ merged_blockette first_mark second_mark part.old
-        (blockette_at second.now place) }
+    ensures { part.new ≡ merged_blockette first_mark (get_or second.now.marks.now place 0) part.old
+        (blockette_at second.now.bytes.now place) }
 {
-    if takes_second(first_mark, second_mark) {
-        let start = BLOCKETTE_LENGTH * place;
-        let end = start + BLOCKETTE_LENGTH;
-        overwrite(&second[start..end], part);
+    if takes_second(first_mark, second.marks[place]) {
+        part.copy_from_slice(second.blockette_at(place));
     }
 }
 
-// The merged blockettes. The image has those of the first pass.
-#[tactic(auto, unfolding(crate::specs::Passes::merged_blockettes))]
-pub fn put_merged_blockettes(
-    first_marks: &[u8],
-    second: &[u8],
-    second_marks: &[u8],
-    image: &mut [u8],
-)
-    requires second_marks_len { length second_marks.now ≡ length first_marks.now }
-    requires second_len { length second.now ≡ blockette_length * length first_marks.now }
+/// The merged blockettes. The image has those of the first pass.
+#[tactic(auto, unfolding(crate::specs::Passes::merged_blockettes, crate::specs::Passes::joined))]
+pub fn put_merged_blockettes(first_marks: &[u8], second: &Blockettes, image: &mut [u8])
+    requires second_marks_len { length second.now.marks.now ≡ length first_marks.now }
     requires image_len { length image.old ≡ blockette_length * length first_marks.now }
     ensures { image.new ≡ merged_blockettes image.old first_marks.now
-        second.now second_marks.now }
+        second.now.bytes.now second.now.marks.now }
 {
-    let n = first_marks.len();
-    let mut at = 0;
-    while at < n {
-        let first_mark = first_marks[at];
-        let second_mark = second_marks[at];
+    for at in 0..first_marks.len() {
         let start = BLOCKETTE_LENGTH * at;
         let end = start + BLOCKETTE_LENGTH;
-        put_merged_blockette(first_mark, second, second_mark, at, &mut image[start..end]);
-        at += 1;
+        put_merged_blockette(first_marks[at], second, at, &mut image[start..end]);
     }
 }
 
-// Their marks, which fill their space.
-#[tactic(auto, unfolding(crate::specs::Passes::merged_marks))]
+/// Their marks, which fill their space.
+#[tactic(auto, unfolding(crate::specs::Passes::merged_marks, crate::specs::Passes::joined))]
 pub fn put_merged_marks(first_marks: &[u8], second_marks: &[u8], marks: &mut [u8])
     requires second_marks_len { length second_marks.now ≡ length first_marks.now }
     requires marks_len { length marks.old ≡ length first_marks.now }
     ensures { marks.new ≡ merged_marks first_marks.now second_marks.now }
 {
-    let n = first_marks.len();
-    let mut at = 0;
-    while at < n {
-        marks[at] = merged_mark(first_marks[at], second_marks[at]);
-        at += 1;
+    for (at, mark) in marks.iter_mut().enumerate() {
+        *mark = merged_mark(first_marks[at], second_marks[at]);
     }
 }

@@ -8,7 +8,7 @@ use Rattle.common.specs.Pick.{pick}
 use Rattle.common.proofs.PickLaws.{by_test}
 use Rattle.status.proofs.DriveLaws.{by_four}
 use Rattle.queues.specs.declared.jobs.Queues.{Queues}
-use Rattle.queues.specs.declared.jobs.Turn.TheVariants.{Job}
+use Rattle.std.specs.Prelude.{Some}
 use Rattle.queues.specs.Jobs.{waits, turn_of}
 
 -- how many turns pass until a job is next
@@ -46,7 +46,7 @@ only_last =
 
 pub record Nearer (queues : Queues) (job : ℕ) : Type 0 where
   pub next : ℕ
-  pub is : turn_of queues ≡ Job next
+  pub is : turn_of queues ≡ Some next
   pub closer : (next ≡ job → ⊥) → away next job < away queues.last job
 
 pub nearer : (queues : Queues) (job : ℕ) → queues.last ≤ 3 → job ≤ 3 → waits queues job ≡ true → Nearer queues job

@@ -211,10 +211,10 @@ pub kept_sound : (queues : Queues) → AllKept queues → are_sound queues ≡ t
 unfolding are_sound queue_of pick
 kept_sound queues kept =
     simp (
-      le-leb queues.q0.length 8 (kept.each 0 (omega arith)).few,
-      le-leb queues.q1.length 8 (kept.each 1 (omega arith)).few,
-      le-leb queues.q2.length 8 (kept.each 2 (omega arith)).few,
-      le-leb queues.q3.length 8 (kept.each 3 (omega arith)).few,
+      le-leb queues.jobs.zero.length 8 (kept.each 0 (omega arith)).few,
+      le-leb queues.jobs.one.length 8 (kept.each 1 (omega arith)).few,
+      le-leb queues.jobs.two.length 8 (kept.each 2 (omega arith)).few,
+      le-leb queues.jobs.three.length 8 (kept.each 3 (omega arith)).few,
       lt-ltb queues.last 4 kept.low,
     )
 

@@ -5,19 +5,17 @@ use mathlib.Core.Path.{◌≡◌, refl, sym, ap, ap₂, ◌∙◌}
 use mathlib.Core.Bool.{true, false}
 use mathlib.Core.List.{List, []}
 use Prim.Native.Nat.{ℕ, suc, ◌+◌, ◌-◌, ◌*◌, ◌/◌, ◌%◌, ◌≤◌, ◌<◌}
-use native.Mathlib.Nat.{le_refl, le_of_eq}
 use native.Mathlib.Decide.{ℕ_discrete}
 use native.Mathlib.Omega.{arith}
 use lib.Dec.{ltb, eqb}
 use lib.ListN.{length, take, drop, replicate, length-drop}
-use lib.Seq.{take_all}
 use borrow.Author.Tests.{ne_eqb, ltb-true, ltb-false}
 use Rattle.common.specs.Pick.{pick}
 use Rattle.common.proofs.PickLaws.{by_test, pick_no}
 use Rattle.blockettes.specs.Xor.{◌⊕◌, xor_all}
 use Rattle.blockettes.specs.Blockettes.{blockette_at, numbered, of_parity, fold_parity, check_of, others_of}
 use Rattle.blockettes.proofs.XorLaws.{⊕-nil, ⊕-twice, zeros-⊕, xor_all_first, xor_all_same}
-use Rattle.blockettes.proofs.Others.{others_by_all, others_length, others_same}
+use Rattle.blockettes.proofs.Others.{others_by_all, others_same}
 use Rattle.blockettes.proofs.Checked.{blockette_length_lem}
 use Rattle.records.specs.Count.{limit, count_bytes, count_of}
 use Rattle.records.specs.Image.{blockette_count, has_blockettes, image_of, image_length, mark_count}
@@ -81,9 +79,8 @@ module _ (blockettes : List ℕ) (n : ℕ) (full : length blockettes ≡ 256 * (
   all_and_one : (place : ℕ) → place < n + 2
       → fold_parity (replicate 256 0) blockettes (n + 2) (parity_at n place) ⊕ blockette_at blockettes place
       ≡ others place
-  all_and_one place below =
-      others_by_all blockettes (n + 2) place 256 below (le_refl 256)
-      ∙ take_all 256 (others place) (le_of_eq (others_length blockettes (n + 2) place))
+  unfolding check_of
+  all_and_one place below = others_by_all blockettes (n + 2) place below
 
   -- where one of a parity is what its others restore, so is each
   each_restored : (one another : ℕ) → one < n + 2 → another < n + 2 → parity_at n one ≡ parity_at n another

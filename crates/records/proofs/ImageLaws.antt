@@ -141,6 +141,10 @@ pub marks_of : (c : ℕ) → 0 < c → mark_count c 1 ≡ blockette_count c + 2
 unfolding mark_count
 marks_of c h = pick_yes (blockette_count c + 2) 0 (has_some c h)
 
+-- so the length of its image
+pub length_some : (c : ℕ) → 0 < c → image_length c 1 ≡ 2 + 256 * (blockette_count c + 2)
+length_some c h = length_gcr c 1 (has_some c h)
+
 -- in either density no more than that
 pub marks_most : (c density : ℕ) → mark_count c density ≤ blockette_count c + 2
 unfolding mark_count

@@ -15,3 +15,4 @@ pub mod MergedBlockettes
 pub mod Demands
 pub mod RecordCases
 pub mod WrongAnswers
+pub mod Rotations

@@ -1,13 +1,11 @@
 -- What is known of two passes that are whole.
 -- Assumes nothing.
 use mathlib.Core.Path.{◌≡◌, refl, sym, ap, ◌∙◌}
-use Prim.Native.Nat.{ℕ, ◌+◌, ◌-◌, ◌*◌, ◌≤◌}
+use Prim.Native.Nat.{ℕ, ◌+◌, ◌*◌, ◌≤◌}
 use native.Mathlib.Omega.{arith}
 use mathlib.Core.Bool.{Bool, true, false, not, ◌||◌, false≢true}
-use mathlib.Core.List.{List}
 use lib.Dec.{ltb, eqb}
-use lib.ListN.{length, take, drop, length-drop}
-use lib.Seq.{take_all}
+use lib.ListN.{length, drop, length-drop}
 use borrow.Author.Tests.{ltb-false, eqb-true, eqb-false, not-false}
 use Rattle.common.proofs.PickLaws.{by_test, pick_yes, pick_no, pick_by, not_refused_lem}
 use Rattle.marks.specs.Marks.{legal_marks}
@@ -55,10 +53,6 @@ pub marks_alike :
 marks_alike first second one two same =
     (whole second.image second.marks 1 two).marked ∙ ap (λ (n : ℕ). mark_count n 1) (sym same)
     ∙ sym (whole first.image first.marks 1 one).marked
-
--- a part that goes to the end
-pub to_end : (l : List ℕ) → take (length l - 2) (drop 2 l) ≡ drop 2 l
-to_end l = take_all (length l - 2) (drop 2 l) (simp length-drop (omega arith))
 
 -- two tests of which neither holds
 pub neither : (a b : Bool) → (a || b) ≡ false → (a ≡ false) × (b ≡ false)

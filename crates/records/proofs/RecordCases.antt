@@ -8,7 +8,7 @@ use Rattle.common.specs.Pick.{pick}
 use Rattle.common.specs.Space.{filled}
 use Rattle.blockettes.specs.Xor.{◌⊕◌, xor_all}
 use Rattle.blockettes.specs.Blockettes.{blockette_at, numbered, of_parity, fold_parity, check_of}
-use Rattle.marks.specs.declared.Defect.{Defect}
+use Rattle.marks.specs.Scan.{Defect}
 use Rattle.marks.specs.Marks.{is_error}
 use Rattle.marks.specs.Scan.{scan_from, scan_marks, kind_of, number_of, defect_at}
 use Rattle.records.specs.Count.{limit, rotated, count_bytes}

@@ -4,7 +4,7 @@ use Rattle.std.specs.Prelude.{ℕ, List, [], ◌∷◌, ltb, eqb, length}
 use Rattle.common.specs.Pick.{pick}
 use Rattle.common.specs.Space.{overwrite}
 use Rattle.common.specs.Refusals.{done, space_short}
-use Rattle.marks.specs.Scan.{findings_of}
+use Rattle.marks.specs.Scan.{Defect, findings_of}
 use Rattle.records.specs.Count.{limit, count_of}
 use Rattle.records.specs.Image.{image_length, mark_count}
 
@@ -27,6 +27,10 @@ image_count image = pick (ltb (length image) 2) no_count (count_of image)
 -- the bytes of a report
 abbrev pub report_length : ℕ
 report_length = 9
+
+-- what is told of an error, as three bytes
+abbrev pub defect_report : Defect → List ℕ
+defect_report defect = defect.mark ∷ defect.kind ∷ defect.number ∷ []
 
 -- what the scan finds, as nine bytes: mark, kind and number of the first odd error, of the first even one, and of the
 -- stopping one

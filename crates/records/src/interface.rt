@@ -1,21 +1,23 @@
-// The functions for C. A slice is a pointer and a length.
-ghost use Rattle.std.specs.Prelude.{◌≡◌, length};
+//! The functions for C. A slice is a pointer and a length.
+ghost use Rattle.std.specs.Prelude.{◌≡◌, ◌<◌, ◌≤◌, length};
+ghost use Rattle.records.specs.Count.{limit};
 ghost use Rattle.records.specs.Build.{build_refusal, build_into};
 ghost use Rattle.records.specs.Restore.{restore_refusal, restore_into};
 ghost use Rattle.records.specs.Merge.{pass_of, merge_refusal, merge_image_into, merge_marks_into};
 ghost use Rattle.records.specs.Verify.{verify};
 ghost use Rattle.records.specs.Interface.{image_length_within, mark_count_within, image_count};
-ghost use Rattle.records.specs.Interface.{scan_report, scan_refusal, scan_into};
+ghost use Rattle.records.specs.Interface.{defect_report, scan_report, scan_refusal, scan_into};
+ghost use Rattle.marks.specs.Scan.{told_defect};
+ghost use Rattle.common.specs.Told.{refusal_number};
 
 use crate::build::build;
 use crate::count::{LIMIT, count_of};
 use crate::layout::{image_length, mark_count};
-use crate::merge::merge;
+use crate::merge::{Pass, merge};
 use crate::restore::restore;
 use crate::verify::verify;
-use common::overwrite;
-use common::refusals::{DONE, SPACE_SHORT};
-use marks::findings_of;
+use common::refusals::{Refusal, refusal_number};
+use marks::{Defect, findings_of};
 
 // What is no count: one more than 16 bits hold.
 const NO_COUNT: usize = 65536;
@@ -23,17 +25,17 @@ const NO_COUNT: usize = 65536;
 // The bytes of a report.
 const REPORT_LENGTH: usize = 9;
 
-// Bytes to an image.
+/// Bytes to an image.
 #[unsafe(no_mangle)]
 pub extern "C" fn ctc_build(bytes: &[u8], density: u8, place: usize, image: &mut [u8]) -> u32
     ensures answered { result ≡ build_refusal (length bytes.now) density place
         (length image.old) }
     ensures written { image.new ≡ build_into bytes.now density place image.old }
 {
-    build(bytes, density, place, image)
+    refusal_number(&build(bytes, density, place, image))
 }
 
-// GCR image and marks to bytes.
+/// GCR image and marks to bytes.
 #[unsafe(no_mangle)]
 pub extern "C" fn ctc_restore(image: &[u8], marks: &[u8], out: &mut [u8]) -> u32
     ensures answered { result ≡ restore_refusal image.now marks.now
@@ -41,10 +43,10 @@ pub extern "C" fn ctc_restore(image: &[u8], marks: &[u8], out: &mut [u8]) -> u32
     ensures written { out.new ≡ restore_into image.now marks.now
         out.old }
 {
-    restore(image, marks, out)
+    refusal_number(&restore(image, marks, out))
 }
 
-// Two GCR images and their marks to one.
+/// Two GCR images and their marks to one.
 #[unsafe(no_mangle)]
 pub extern "C" fn ctc_merge(
     first: &[u8],
@@ -66,42 +68,60 @@ pub extern "C" fn ctc_merge(
         (pass_of second.now second_marks.now)
         (length image.old) marks.old }
 {
-    merge(first, first_marks, second, second_marks, image, marks)
+    let first = Pass {
+        image: first,
+        marks: first_marks,
+    };
+    let second = Pass {
+        image: second,
+        marks: second_marks,
+    };
+    refusal_number(&merge(&first, &second, image, marks))
 }
 
-// Whether the check blockettes of a GCR image fit its data.
+/// Whether the check blockettes of a GCR image fit its data.
 #[unsafe(no_mangle)]
 pub extern "C" fn ctc_verify(image: &[u8]) -> u32
     ensures { result ≡ verify image.now }
 {
-    verify(image)
+    match verify(image) {
+        Ok(fit) => u32::from(fit),
+        Err(refusal) => u32::from(refusal),
+    }
 }
 
-// The length of an image, 0 where no image has the count.
+// What a count tells, 0 where no record has it.
+#[tactic(auto, unfolding(crate::specs::Count::limit))]
+fn within_limit<F: Fn(u16) -> usize>(count: usize, told: F) -> usize
+    requires { F.IsAlwaysCallable told }
+    ensures above { limit < count → result ≡ 0 }
+    ensures within { count ≤ limit → F.post told count result }
+{
+    if LIMIT < count {
+        return 0;
+    }
+    told(count as u16)
+}
+
+/// The length of an image, 0 where no image has the count.
 #[unsafe(no_mangle)]
 #[tactic(auto, unfolding(crate::specs::Interface::image_length_within, common::specs::Pick::pick, crate::specs::Count::limit))]
 pub extern "C" fn ctc_image_length(count: usize, density: u8) -> usize
     ensures { result ≡ image_length_within count density }
 {
-    if LIMIT < count {
-        return 0;
-    }
-    image_length(count as u16, density)
+    within_limit(count, |count| image_length(count, density))
 }
 
-// The number of its marks, 0 where no image has the count.
+/// The number of its marks, 0 where no image has the count.
 #[unsafe(no_mangle)]
 #[tactic(auto, unfolding(crate::specs::Interface::mark_count_within, common::specs::Pick::pick, crate::specs::Count::limit))]
 pub extern "C" fn ctc_mark_count(count: usize, density: u8) -> usize
     ensures { result ≡ mark_count_within count density }
 {
-    if LIMIT < count {
-        return 0;
-    }
-    mark_count(count as u16, density)
+    within_limit(count, |count| mark_count(count, density))
 }
 
-// The count that an image says, and no count where two bytes are not there.
+/// The count that an image says, and no count where two bytes are not there.
 #[unsafe(no_mangle)]
 #[tactic(auto, unfolding(crate::specs::Interface::image_count, common::specs::Pick::pick))]
 pub extern "C" fn ctc_image_count(image: &[u8]) -> usize
@@ -113,36 +133,48 @@ pub extern "C" fn ctc_image_count(image: &[u8]) -> usize
     count_of(image) as usize
 }
 
+// What is told of an error, or zeros where there is none.
+fn defect_report(defect: Option<Defect>) -> [u8; 3]
+    ensures { result ≡ defect_report (told_defect defect) }
+{
+    match defect {
+        Some(found) => [found.mark, found.kind as u8, found.number],
+        None => [0; 3],
+    }
+}
+
 // What the scan finds, as nine bytes.
 #[tactic(auto, unfolding(crate::specs::Interface::scan_report))]
 fn scan_report(marks: &[u8]) -> [u8; REPORT_LENGTH]
     ensures { result ≡ scan_report marks.now }
 {
     let found = findings_of(marks);
+    let odd = defect_report(found.odd);
+    let even = defect_report(found.even);
+    let stop = defect_report(found.stop);
     [
-        found.odd.mark,
-        found.odd.kind,
-        found.odd.number,
-        found.even.mark,
-        found.even.kind,
-        found.even.number,
-        found.stop.mark,
-        found.stop.kind,
-        found.stop.number,
+        odd[0], odd[1], odd[2], even[0], even[1], even[2], stop[0], stop[1], stop[2],
     ]
 }
 
-// The scan of the marks.
+// The report at the start of a space.
+#[tactic(auto, unfolding(crate::specs::Interface::scan_refusal, crate::specs::Interface::scan_into, common::specs::Space::overwrite, common::specs::Pick::pick))]
+fn scan(marks: &[u8], report: &mut [u8]) -> Result<(), Refusal>
+    ensures answered { refusal_number result ≡ scan_refusal (length report.old) }
+    ensures written { report.new ≡ scan_into marks.now report.old }
+{
+    if report.len() < REPORT_LENGTH {
+        return Err(Refusal::SpaceShort);
+    }
+    report[..REPORT_LENGTH].copy_from_slice(&scan_report(marks));
+    Ok(())
+}
+
+/// The scan of the marks.
 #[unsafe(no_mangle)]
-#[tactic(auto, unfolding(crate::specs::Interface::scan_refusal, crate::specs::Interface::scan_into, common::specs::Pick::pick))]
 pub extern "C" fn ctc_scan(marks: &[u8], report: &mut [u8]) -> u32
     ensures answered { result ≡ scan_refusal (length report.old) }
     ensures written { report.new ≡ scan_into marks.now report.old }
 {
-    if report.len() < REPORT_LENGTH {
-        return SPACE_SHORT;
-    }
-    let found = scan_report(marks);
-    overwrite(&found, report);
-    DONE
+    refusal_number(&scan(marks, report))
 }

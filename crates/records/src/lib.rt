@@ -1,5 +1,5 @@
-// Records as they lie on tape: the layout of an image, the builder, the test of an image and its marks, that of its
-// check blockettes, and the restorer. It knows nothing of the controller.
+//! Records as they lie on tape: the layout of an image, the builder, the test of an image and its marks, that of its
+//! check blockettes, and the restorer. It knows nothing of the controller.
 #![tactic(auto)]
 
 pub mod build;

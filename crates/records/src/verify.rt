@@ -1,12 +1,13 @@
-// Whether the check blockettes of a GCR image fit its data.
+//! Whether the check blockettes of a GCR image fit its data.
 ghost use Rattle.std.specs.Prelude.{◌≡◌, ◌+◌, ◌*◌, ◌≤◌, length};
 ghost use Rattle.blockettes.specs.Blockettes.{blockette_length};
-ghost use Rattle.records.specs.Verify.{check_fits, unfit_checks, verify};
+ghost use Rattle.records.specs.Image.{blockette_count};
+ghost use Rattle.records.specs.Verify.{check_fits, verify, unfit_number, told_fit};
 
 use crate::count::count_of;
-use crate::layout::{blockette_count, image_length};
-use blockettes::{BLOCKETTE_LENGTH, put_check};
-use common::refusals::{DONE, WRONG_LENGTH};
+use crate::layout::{GCR, blockette_count, image_length};
+use blockettes::{BLOCKETTE_LENGTH, blockette_at, put_check};
+use common::refusals::Refusal;
 use passes::same_blockettes;
 
 // What the answer has of a parity that does not fit.
@@ -14,58 +15,60 @@ const UNFIT_EVEN: u32 = 32;
 
 const UNFIT_ODD: u32 = 64;
 
-// Whether the check blockette of a parity is the XOR of its data, n blockettes with both check blockettes behind them.
+/// Which of the check blockettes fit.
+#[derive(Clone, Copy, Debug, PartialEq, Eq)]
+pub struct Fit {
+    pub odd: bool,
+    pub even: bool,
+}
+
+// As C is answered.
+impl From<Fit> for u32 {
+    ghost from_gives = { λ fit number. number ≡ unfit_number fit };
+
+    #[tactic(auto, unfolding(crate::specs::Verify::unfit_number, common::specs::Pick::pick))]
+    fn from(fit: Fit) -> u32 {
+        let even = if fit.even { 0 } else { UNFIT_EVEN };
+        let odd = if fit.odd { 0 } else { UNFIT_ODD };
+        even + odd
+    }
+}
+
+// Whether the check blockette of a parity is the XOR of its data, of the blockettes of a record with both check
+// blockettes behind them.
 #[tactic(auto, unfolding(crate::specs::Verify::check_fits))]
-fn check_fits(blockettes: &[u8], n: usize, parity: usize) -> bool
-    requires n_bound { n ≤ 256 }
+fn check_fits(blockettes: &[u8], count: u16, parity: usize) -> bool
     requires parity_bound { parity ≤ 1 }
-    requires blockettes_len { length blockettes.now ≡ blockette_length * (n + 2) }
-    ensures { result ≡ check_fits blockettes.now n parity }
+    requires blockettes_len { length blockettes.now ≡ blockette_length * (blockette_count count + 2) }
+    ensures { result ≡ check_fits blockettes.now (blockette_count count) parity }
 {
+    let n = blockette_count(count);
     let mut check = [0u8; BLOCKETTE_LENGTH];
     put_check(&mut check, blockettes, n, parity);
-    let start = BLOCKETTE_LENGTH * (n + 1 - parity);
-    let end = start + BLOCKETTE_LENGTH;
-    same_blockettes(&check, &blockettes[start..end])
+    same_blockettes(&check, blockette_at(blockettes, n + 1 - parity))
 }
 
-// Those that do not, of both parities.
-#[tactic(auto, unfolding(crate::specs::Verify::unfit_checks, common::specs::Pick::pick))]
-fn unfit_checks(blockettes: &[u8], n: usize) -> u32
-    requires n_bound { n ≤ 256 }
-    requires blockettes_len { length blockettes.now ≡ blockette_length * (n + 2) }
-    ensures { result ≡ unfit_checks blockettes.now n }
-{
-    let even = check_fits(blockettes, n, 0);
-    let odd = check_fits(blockettes, n, 1);
-    if even {
-        if odd {
-            return DONE;
-        }
-        return UNFIT_ODD;
-    }
-    if odd {
-        return UNFIT_EVEN;
-    }
-    UNFIT_EVEN + UNFIT_ODD
-}
-
-// Refused for a wrong length, or which of the two parities do not fit.
-#[tactic(auto, unfolding(crate::specs::Verify::verify, common::specs::Pick::pick))]
-pub fn verify(image: &[u8]) -> u32
-    ensures { result ≡ verify image.now }
+/// Refused for a wrong length, or which of the two parities fit. Without check blockettes both do.
+#[tactic(auto, using(crate::proofs::ImageLaws::length_some), unfolding(crate::specs::Verify::verify, crate::specs::Verify::unfit_checks, crate::specs::Verify::unfit_number, common::specs::Pick::pick))]
+pub fn verify(image: &[u8]) -> Result<Fit, Refusal>
+    ensures { told_fit result ≡ verify image.now }
 {
     if image.len() < 2 {
-        return WRONG_LENGTH;
+        return Err(Refusal::WrongLength);
     }
     let count = count_of(image);
-    let length = image_length(count, 1);
-    if image.len() != length {
-        return WRONG_LENGTH;
+    if image.len() != image_length(count, GCR) {
+        return Err(Refusal::WrongLength);
     }
     if count == 0 {
-        return DONE;
+        return Ok(Fit {
+            odd: true,
+            even: true,
+        });
     }
-    let n = blockette_count(count);
-    unfit_checks(&image[2..], n)
+    let blockettes = &image[2..];
+    Ok(Fit {
+        odd: check_fits(blockettes, count, 1),
+        even: check_fits(blockettes, count, 0),
+    })
 }

@@ -1,40 +1,47 @@
-// The test of a whole image and its marks as they are handed in.
-ghost use Rattle.std.specs.Prelude.{◌≡◌};
+//! The test of a whole image and its marks as they are handed in.
+ghost use Rattle.std.specs.Prelude.{◌≡◌, ◌≤◌, ◌⊎◌, length, OnOk, IfErr};
+ghost use Rattle.common.specs.Told.{refusal_number};
+ghost use Rattle.common.specs.declared.refusals.Refusal.TheVariants.{WrongLength, MarkValue};
+ghost use Rattle.records.specs.Count.{count_of};
+ghost use Rattle.records.specs.Image.{image_length, mark_count};
 ghost use Rattle.records.specs.Whole.{layout_refusal, whole_refusal};
 
 use crate::count::count_of;
 use crate::layout::{image_length, mark_count};
-use common::refusals::{DONE, MARK_VALUE, WRONG_LENGTH};
+use common::refusals::Refusal;
 use marks::legal_marks;
 
-// An image with this count, and its marks: refused for a wrong length or a mark value.
+/// An image with this count, and its marks: refused for a wrong length or a mark value.
 #[tactic(auto, unfolding(crate::specs::Whole::layout_refusal, common::specs::Pick::pick))]
-pub fn layout_refusal(image: &[u8], marks: &[u8], count: u16, density: u8) -> u32
-    ensures { result ≡ layout_refusal image.now marks.now count density }
+pub fn check_layout(image: &[u8], marks: &[u8], count: u16, density: u8) -> Result<(), Refusal>
+    ensures answered { refusal_number result ≡ layout_refusal image.now marks.now count density }
+    ensures refused { IfErr result (λ refusal. (refusal ≡ WrongLength) ⊎ (refusal ≡ MarkValue)) }
+    ensures long { OnOk result (length image.now ≡ image_length count density) }
+    ensures marked { OnOk result (length marks.now ≡ mark_count count density) }
 {
-    let length = image_length(count, density);
-    if image.len() != length {
-        return WRONG_LENGTH;
+    if image.len() != image_length(count, density) {
+        return Err(Refusal::WrongLength);
     }
-    let marked = mark_count(count, density);
-    if marks.len() != marked {
-        return WRONG_LENGTH;
+    if marks.len() != mark_count(count, density) {
+        return Err(Refusal::WrongLength);
     }
-    let legal = legal_marks(marks);
-    if legal {
-        return DONE;
+    if !legal_marks(marks) {
+        return Err(Refusal::MarkValue);
     }
-    MARK_VALUE
+    Ok(())
 }
 
-// A whole image, with the count that it says.
+/// A whole image, with the count that it says.
 #[tactic(auto, unfolding(crate::specs::Whole::whole_refusal, common::specs::Pick::pick))]
-pub fn whole_refusal(image: &[u8], marks: &[u8], density: u8) -> u32
-    ensures { result ≡ whole_refusal image.now marks.now density }
+pub fn check_whole(image: &[u8], marks: &[u8], density: u8) -> Result<(), Refusal>
+    ensures answered { refusal_number result ≡ whole_refusal image.now marks.now density }
+    ensures refused { IfErr result (λ refusal. (refusal ≡ WrongLength) ⊎ (refusal ≡ MarkValue)) }
+    ensures two { OnOk result (2 ≤ length image.now) }
+    ensures long { OnOk result (length image.now ≡ image_length (count_of image.now) density) }
+    ensures marked { OnOk result (length marks.now ≡ mark_count (count_of image.now) density) }
 {
     if image.len() < 2 {
-        return WRONG_LENGTH;
+        return Err(Refusal::WrongLength);
     }
-    let count = count_of(image);
-    layout_refusal(image, marks, count, density)
+    check_layout(image, marks, count_of(image), density)
 }

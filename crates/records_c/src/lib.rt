@@ -11,7 +11,7 @@ ghost use Rattle.records.specs.Interface.{image_length_within, mark_count_within
 
 use records::interface;
 
-// Bytes to an image.
+/// Bytes to an image.
 #[unsafe(no_mangle)]
 pub extern "C" fn ctc_build(bytes: &[u8], density: u8, place: usize, image: &mut [u8]) -> u32
     ensures answered { result ≡ build_refusal (length bytes.now) density place
@@ -21,7 +21,7 @@ pub extern "C" fn ctc_build(bytes: &[u8], density: u8, place: usize, image: &mut
     interface::ctc_build(bytes, density, place, image)
 }
 
-// GCR image and marks to bytes.
+/// GCR image and marks to bytes.
 #[unsafe(no_mangle)]
 pub extern "C" fn ctc_restore(image: &[u8], marks: &[u8], out: &mut [u8]) -> u32
     ensures answered { result ≡ restore_refusal image.now marks.now
@@ -32,7 +32,7 @@ pub extern "C" fn ctc_restore(image: &[u8], marks: &[u8], out: &mut [u8]) -> u32
     interface::ctc_restore(image, marks, out)
 }
 
-// Two GCR images and their marks to one.
+/// Two GCR images and their marks to one.
 #[unsafe(no_mangle)]
 pub extern "C" fn ctc_merge(
     first: &[u8],
@@ -57,7 +57,7 @@ pub extern "C" fn ctc_merge(
     interface::ctc_merge(first, first_marks, second, second_marks, image, marks)
 }
 
-// Whether the check blockettes of a GCR image fit its data.
+/// Whether the check blockettes of a GCR image fit its data.
 #[unsafe(no_mangle)]
 pub extern "C" fn ctc_verify(image: &[u8]) -> u32
     ensures { result ≡ verify image.now }
@@ -65,7 +65,7 @@ pub extern "C" fn ctc_verify(image: &[u8]) -> u32
     interface::ctc_verify(image)
 }
 
-// The length of an image, 0 where no image has the count.
+/// The length of an image, 0 where no image has the count.
 #[unsafe(no_mangle)]
 pub extern "C" fn ctc_image_length(count: usize, density: u8) -> usize
     ensures { result ≡ image_length_within count density }
@@ -73,7 +73,7 @@ pub extern "C" fn ctc_image_length(count: usize, density: u8) -> usize
     interface::ctc_image_length(count, density)
 }
 
-// The number of its marks, 0 where no image has the count.
+/// The number of its marks, 0 where no image has the count.
 #[unsafe(no_mangle)]
 pub extern "C" fn ctc_mark_count(count: usize, density: u8) -> usize
     ensures { result ≡ mark_count_within count density }
@@ -81,7 +81,7 @@ pub extern "C" fn ctc_mark_count(count: usize, density: u8) -> usize
     interface::ctc_mark_count(count, density)
 }
 
-// The count that an image says, and no count where two bytes are not there.
+/// The count that an image says, and no count where two bytes are not there.
 #[unsafe(no_mangle)]
 pub extern "C" fn ctc_image_count(image: &[u8]) -> usize
     ensures { result ≡ image_count image.now }
@@ -89,7 +89,7 @@ pub extern "C" fn ctc_image_count(image: &[u8]) -> usize
     interface::ctc_image_count(image)
 }
 
-// The scan of the marks.
+/// The scan of the marks.
 #[unsafe(no_mangle)]
 pub extern "C" fn ctc_scan(marks: &[u8], report: &mut [u8]) -> u32
     ensures answered { result ≡ scan_refusal (length report.old) }

@@ -6,8 +6,7 @@ use Prim.Native.Nat.{ℕ, zero, suc, ◌≤◌}
 use native.Mathlib.Omega.{arith}
 use Rattle.common.specs.Pick.{pick}
 use Rattle.status.specs.declared.drives.Drive.{Drive}
-use Rattle.status.specs.declared.drives.Drives.{Drives}
-use Rattle.status.specs.Drives.{drive_of, with_drive, copy_report, copy_reports}
+use Rattle.status.specs.Drives.{Drives, drive_of, with_drive, copy_report, copy_reports}
 
 -- a claim of a drive's number, from the claim of each of the four
 pub by_four : (P : ℕ → Type 0) → P 0 → P 1 → P 2 → P 3 → (n : ℕ) → n ≤ 3 → P n

@@ -2,8 +2,9 @@
 -- Assumes nothing.
 use Rattle.std.specs.Prelude.{ℕ, ◌/◌, ◌%◌, Bool, false, not, ◌||◌, eqb}
 use Rattle.common.specs.Pick.{pick}
+use Rattle.common.specs.Four.{one_of, with_one}
+use Rattle.common.specs.declared.four.Four.{Four}
 use Rattle.status.specs.declared.drives.Drive.{Drive}
-use Rattle.status.specs.declared.drives.Drives.{Drives}
 
 -- ---- "track, gap, selected drive .. 0-3"
 
@@ -68,18 +69,17 @@ gcr = 1
 
 -- ---- the four records
 
+-- the four, by their numbers
+abbrev pub Drives : Type 0
+Drives = Four Drive
+
 -- the record of a drive
 unfoldable pub drive_of : Drives → ℕ → Drive
-drive_of drives number =
-    pick (eqb number 0) drives.d0 (pick (eqb number 1) drives.d1 (pick (eqb number 2) drives.d2 drives.d3))
+drive_of drives number = one_of drives number
 
 -- the drives with another record for one of them
 unfoldable pub with_drive : Drives → ℕ → Drive → Drives
-with_drive drives number drive =
-    pick (eqb number 0) (record { d0 = drive; d1 = drives.d1; d2 = drives.d2; d3 = drives.d3 })
-    (pick (eqb number 1) (record { d0 = drives.d0; d1 = drive; d2 = drives.d2; d3 = drives.d3 })
-    (pick (eqb number 2) (record { d0 = drives.d0; d1 = drives.d1; d2 = drive; d3 = drives.d3 })
-    (record { d0 = drives.d0; d1 = drives.d1; d2 = drives.d2; d3 = drive })))
+with_drive drives number drive = with_one drives number drive
 
 -- a report: "A report without 32 makes that gap 3."
 unfoldable pub with_report : Drive → ℕ → Drive
@@ -149,9 +149,9 @@ is_gcr drive = not (eqb drive.density mfm)
 -- "Review sets changed if any report differs from its copy, .."
 unfoldable pub any_differs : Drives → Bool
 any_differs drives =
-    ((not (eqb drives.d0.report drives.d0.reviewed) || not (eqb drives.d1.report drives.d1.reviewed))
-    || not (eqb drives.d2.report drives.d2.reviewed))
-    || not (eqb drives.d3.report drives.d3.reviewed)
+    ((not (eqb drives.zero.report drives.zero.reviewed) || not (eqb drives.one.report drives.one.reviewed))
+    || not (eqb drives.two.report drives.two.reviewed))
+    || not (eqb drives.three.report drives.three.reviewed)
 
 -- a drive whose report is copied
 abbrev pub copy_report : Drive → Drive
@@ -169,10 +169,10 @@ copy_report drive =
 unfoldable pub copy_reports : Drives → Drives
 copy_reports drives =
     record {
-      d0 = copy_report drives.d0;
-      d1 = copy_report drives.d1;
-      d2 = copy_report drives.d2;
-      d3 = copy_report drives.d3;
+      zero = copy_report drives.zero;
+      one = copy_report drives.one;
+      two = copy_report drives.two;
+      three = copy_report drives.three;
     }
 
 -- "track 0, density 0 (MFM; 1 is GCR), gap 3", with a report that is copied as reviewed; of the guard, "it starts
@@ -185,18 +185,18 @@ fresh_with report =
 unfoldable pub fresh_drives : Drives
 fresh_drives =
     record {
-      d0 = fresh_with position_unknown;
-      d1 = fresh_with position_unknown;
-      d2 = fresh_with position_unknown;
-      d3 = fresh_with position_unknown;
+      zero = fresh_with position_unknown;
+      one = fresh_with position_unknown;
+      two = fresh_with position_unknown;
+      three = fresh_with position_unknown;
     }
 
 -- "Reset .. gives this but keeps reports, copied as reviewed."
 unfoldable pub reset_drives : Drives → Drives
 reset_drives drives =
     record {
-      d0 = fresh_with drives.d0.report;
-      d1 = fresh_with drives.d1.report;
-      d2 = fresh_with drives.d2.report;
-      d3 = fresh_with drives.d3.report;
+      zero = fresh_with drives.zero.report;
+      one = fresh_with drives.one.report;
+      two = fresh_with drives.two.report;
+      three = fresh_with drives.three.report;
     }

@@ -3,9 +3,9 @@
 -- Assumes nothing.
 use Rattle.std.specs.Prelude.{ℕ, ◌+◌, ◌*◌, ◌/◌, ◌%◌, Bool, false, ◌&&◌, ◌||◌}
 use Rattle.common.specs.Pick.{pick}
-use Rattle.marks.specs.declared.Defect.{Defect}
+use Rattle.marks.specs.Scan.{Defect}
 use Rattle.status.specs.declared.drives.Drive.{Drive}
-use Rattle.status.specs.declared.drives.Drives.{Drives}
+use Rattle.status.specs.Drives.{Drives}
 use Rattle.status.specs.declared.words.Word.{Word}
 use Rattle.status.specs.declared.words.Outcome.{Outcome}
 
@@ -133,4 +133,4 @@ quintary_of stop = record { b0 = 0; b1 = 0; b2 = digits_of stop; b3 = stop.numbe
 -- load 4: "reports, drive 0 first"
 unfoldable pub reports_word : Drives → Word
 reports_word drives =
-    record { b0 = drives.d0.report; b1 = drives.d1.report; b2 = drives.d2.report; b3 = drives.d3.report }
+    record { b0 = drives.zero.report; b1 = drives.one.report; b2 = drives.two.report; b3 = drives.three.report }

@@ -1,4 +1,4 @@
-// What the controller keeps of its four drives, and its status words.
+//! What the controller keeps of its four drives, and its status words.
 #![tactic(auto)]
 
 pub mod drives;

@@ -1,4 +1,5 @@
-pub mod OperationLaws
+pub mod CodeLaws
+pub mod LineLaws
 pub mod TextLaws
 pub mod Demands
 pub mod WrongAnswers

@@ -1,13 +1,12 @@
 -- What stands at a place of the printed text: shown once, by a test of every byte that antt computes.
 -- Assumes nothing.
 use mathlib.Core.Path.{◌≡◌, refl}
-use mathlib.Core.Bool.{Bool, true, false, ◌||◌}
-use Prim.Native.Nat.{ℕ, ◌+◌, ◌/◌, ◌%◌, ◌≤◌, ◌<◌}
+use mathlib.Core.Bool.{Bool}
+use Prim.Native.Nat.{ℕ, ◌+◌, ◌/◌, ◌%◌, ◌<◌}
 use native.Mathlib.Omega.{arith}
 use lib.Dec.{T, eqb, eqb→eq}
 use lib.ListN.{length}
 use Rattle.common.specs.Pick.{pick}
-use Rattle.operations.specs.declared.operation.Operation.{Operation}
 use Rattle.operations.specs.Answers.{forward_codes, reverse_codes, end_codes, supplied_codes, listed_codes}
 use Rattle.operations.specs.Answers.{trailing_codes}
 use Rattle.operations.specs.Answers.{clear_codes, is_in, answer_of}
@@ -38,14 +37,3 @@ pub byte_there : (place : ℕ) → place < table_length → byte_at place ≡ by
 unfolding right
 byte_there place h =
     eqb→eq (byte_at place) (byte_of place) (at right 0 table_text every_byte place (omega (arith, whole)))
-
--- an answer is a digit
-picked : (clear listed : Bool) → pick clear 1 (pick listed 2 0) ≤ 2
-unfolding pick
-picked true listed = omega arith
-picked false true = omega arith
-picked false false = omega arith
-
-pub small : (operation : Operation) (code : ℕ) → answer_of operation code ≤ 2
-unfolding answer_of
-small operation code = picked (eqb code 0 || is_in code (clear_codes operation)) (is_in code (listed_codes operation))

@@ -10,22 +10,24 @@ use Rattle.common.specs.Pick.{pick}
 use Rattle.operations.specs.declared.operation.Operation.TheVariants.{SkipForward, CheckBytes}
 use Rattle.operations.specs.Answers.{supplied_codes, listed_codes, trailing_codes, clear_codes, never_reported}
 use Rattle.operations.specs.Answers.{asks_retry}
-use Rattle.operations.specs.Answers.{is_in, answer_of}
+use Rattle.operations.specs.Answers.{is_in, answer_of, listing_number}
+use Rattle.operations.specs.declared.answers.Listing.{Listing}
 use Rattle.table.specs.Text.{comma, line_feed, line_order, digits_from, parted, line_text, lines_text, table_text}
 use Rattle.table.proofs.rules.answer_by_rules.Reads as answer-reads
-use Rattle.table.proofs.text.table_text.Reads as text-reads
+use Rattle.table.proofs.print.table_text.Reads as text-reads
 
 -- ---- answer_of
 
 -- code F on a forward skip asks a retry
-pub answer_by_rules_a_skip_with_f_asks_a_retry : (r : ℕ)
-    → answer-reads.Post tt (SkipForward, (0xF, tt)) r (SkipForward, (0xF, tt)) → r ≡ asks_retry → ⊥
+pub answer_by_rules_a_skip_with_f_asks_a_retry : (r : Listing)
+    → answer-reads.Post tt (SkipForward, (0xF, tt)) r (SkipForward, (0xF, tt)) → listing_number r ≡ asks_retry → ⊥
 unfolding answer_of clear_codes trailing_codes is_in pick
 answer_by_rules_a_skip_with_f_asks_a_retry r allowed wrong = eqb-false 1 2 refl (sym allowed ∙ wrong)
 
 -- check bytes may report code 7
-pub answer_by_rules_check_bytes_reports_7 : (r : ℕ)
-    → answer-reads.Post tt (CheckBytes, (0x7, tt)) r (CheckBytes, (0x7, tt)) → (r ≡ never_reported → ⊥) → ⊥
+pub answer_by_rules_check_bytes_reports_7 : (r : Listing)
+    → answer-reads.Post tt (CheckBytes, (0x7, tt)) r (CheckBytes, (0x7, tt))
+    → (listing_number r ≡ never_reported → ⊥) → ⊥
 unfolding answer_of listed_codes clear_codes is_in pick
 answer_by_rules_check_bytes_reports_7 r allowed wrong = wrong allowed
 

@@ -1,22 +1,20 @@
 -- Laws of digits: a loop over them, the bytes and the number that they spell.
 -- Assumes nothing.
 use mathlib.Core.Path.{◌≡◌, refl, sym, ap, ◌∙◌}
-use Prim.Native.Nat.{ℕ, zero, suc, ◌+◌, ◌*◌, ◌/◌, ◌%◌, ◌≤◌, ◌<◌, min}
+use Prim.Native.Nat.{ℕ, zero, suc, ◌+◌, ◌*◌, ◌/◌, ◌≤◌, ◌<◌, min}
 use native.Mathlib.Numerals.{add-one}
 use native.Mathlib.Nat.{lt_of_not-le}
 use native.Mathlib.Decide.{dec_le}
 use native.Mathlib.Omega.{arith}
-use mathlib.Core.Bool.{Bool, true, false, not, ◌&&◌}
+use mathlib.Core.Bool.{Bool, true, false, ◌&&◌}
 use mathlib.Core.List.{List, [], ◌∷◌}
-use lib.Dec.{leb, eqb}
+use lib.Dec.{leb}
 use lib.ListN.{length, get_or, take, drop, drop_of_length-le}
 use lib.Seq.{drop-cons, take_at}
 use Rattle.common.specs.Space.{overwrite}
-use Rattle.common.proofs.PickLaws.{both_hold}
-use borrow.Author.Tests.{le-leb, lt-leb, eqb-true, leb-true}
+use borrow.Author.Tests.{le-leb, lt-leb}
 use Rattle.text.specs.Limits.{field_cap}
-use Rattle.text.specs.Digits.{digit_value, is_digit, all_digits, byte_value, is_byte, is_bytes, bytes_of, decimal_from}
-use Rattle.text.specs.Digits.{decimal_of, is_decimal}
+use Rattle.text.specs.Digits.{digit_value, is_digit, all_digits, byte_value, bytes_of, decimal_from}
 
 -- ---- tests
 
@@ -42,26 +40,7 @@ pub digits_end : (base : ℕ) (s : List ℕ) (at : ℕ) (good : Bool) → length
 unfolding all_digits
 digits_end base s at good done = rw (drop_of_length-le s done) (and_true good)
 
--- two digits are all of a field of two
-pub digits_two : (base : ℕ) (s : List ℕ) → length s ≡ 2
-    → all_digits base s ≡ (is_digit base (get_or s 0 0) && is_digit base (get_or s 1 0))
-unfolding all_digits
-digits_two base [] e = let none : ⊥ = omega arith in absurd none
-digits_two base (a ∷ []) e = let none : ⊥ = omega arith in absurd none
-digits_two base (a ∷ b ∷ []) e = ap (λ (x : Bool). is_digit base a && x) (and_true (is_digit base b))
-digits_two base (a ∷ b ∷ c ∷ s) e = let none : ⊥ = omega arith in absurd none
-
 -- ---- bytes
-
-pub is_byte-length : (s : List ℕ) → is_byte s ≡ true → length s ≡ 2
-unfolding is_byte
-is_byte-length s e = eqb-true _ _ (both_hold (eqb (length s) 2) _ e).0
-
-pub is_bytes-length : (limit : ℕ) (s : List ℕ) → is_bytes limit s ≡ true → length s ≤ 2 * limit
-unfolding is_bytes
-is_bytes-length limit s e =
-    let both : (leb (length s) (2 * limit) && all_digits 16 s) ≡ true = (both_hold (eqb (length s % 2) 0) _ e).1 in
-    leb-true _ _ (both_hold _ (all_digits 16 s) both).0
 
 pub bytes_length : (s : List ℕ) → length (bytes_of s) ≡ length s / 2
 unfolding bytes_of
@@ -121,9 +100,3 @@ limit_capped x limit h =
           let cut : limit < min x field_cap = omega arith in
           lt-leb _ _ cut ∙ sym (lt-leb _ _ past)
     ]
-
-pub is_decimal_limit : (limit : ℕ) (s : List ℕ) → is_decimal limit s ≡ true → decimal_of s ≤ limit
-unfolding is_decimal
-is_decimal_limit limit s e =
-    let both : (all_digits 10 s && leb (decimal_of s) limit) ≡ true = (both_hold (not (eqb (length s) 0)) _ e).1 in
-    leb-true _ _ (both_hold (all_digits 10 s) _ both).1

@@ -2,3 +2,4 @@ pub mod DigitLaws
 pub mod FieldLaws
 pub mod TextLaws
 pub mod ReadBackLaws
+pub mod ReadLaws

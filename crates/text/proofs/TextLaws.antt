@@ -5,13 +5,12 @@ use Prim.Native.Nat.{ℕ, suc, ◌+◌, ◌-◌, ◌/◌, ◌%◌, ◌≤◌, �
 use native.Mathlib.Numerals.{add-one}
 use native.Mathlib.Omega.{arith}
 use mathlib.Core.List.{List, [], ◌∷◌, ◌++◌, append-nil, append_assoc}
-use lib.ListN.{length, get_or, take, set}
-use lib.Seq.{take-suc, take-suc-set}
+use lib.ListN.{length, get_or, take}
+use lib.Seq.{take-suc}
 use lib.Dec.{ltb}
 use borrow.Author.Tests.{lt-ltb, le-ltb, ltb-true, ltb-false}
 use Rattle.common.specs.Pick.{pick}
 use Rattle.common.proofs.PickLaws.{by_test}
-use Rattle.text.specs.Characters.{colon}
 use Rattle.text.specs.Print.{digit_of, byte_text, bytes_text, decimal_text, refusal_text}
 
 bytes_text_join : (a b : List ℕ) → bytes_text (a ++ b) ≡ bytes_text a ++ bytes_text b
@@ -30,24 +29,9 @@ bytes_text_next s i below =
     (bytes_text_join (take i s) (get_or s i 0 ∷ [])
     ∙ ap (λ (x : List ℕ). bytes_text (take i s) ++ x) (bytes_text_one (get_or s i 0)))
 
--- one byte put at a place
-pub put_one : (out : List ℕ) (at byte : ℕ) → at < length out
-    → take (at + 1) (set out at byte) ≡ take at out ++ (byte ∷ [])
-put_one out at byte below = rw add-one (take-suc-set out at byte below)
-
 -- a text put after another
 pub after_text : (c x y : List ℕ) {a b : List ℕ} → a ≡ b ++ y → b ≡ c ++ x → a ≡ c ++ (x ++ y)
 after_text c x y p q = p ∙ ap (λ (t : List ℕ). t ++ y) q ∙ append_assoc c x y
-
--- the three numbers of a record, put one after the other behind a text
-pub record_text_lem : (before code motion count : List ℕ) {t1 t2 t3 t4 t5 : List ℕ}
-    → t1 ≡ before ++ code
-    → t2 ≡ t1 ++ (colon ∷ [])
-    → t3 ≡ t2 ++ motion
-    → t4 ≡ t3 ++ (colon ∷ [])
-    → t5 ≡ t4 ++ count
-    → t5 ≡ before ++ (code ++ (colon ∷ (motion ++ (colon ∷ count))))
-record_text_lem before code motion count e1 e2 e3 e4 e5 = simp (e5, e4, e3, e2, e1, append_assoc)
 
 -- ---- decimals
 

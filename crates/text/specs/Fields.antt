@@ -1,6 +1,6 @@
 -- Parts of a text that end before a sign, and fields, with a comma between (document 01, Loads, restorer, session).
 -- Assumes nothing.
-use Rattle.std.specs.Prelude.{ℕ, zero, suc, ◌+◌, Bool, false, ◌||◌, List, [], ◌∷◌, eqb, length, drop}
+use Rattle.std.specs.Prelude.{ℕ, zero, suc, ◌+◌, List, [], ◌∷◌, eqb, length, drop}
 use Rattle.common.specs.Pick.{pick}
 use Rattle.text.specs.Characters.{comma}
 
@@ -12,15 +12,6 @@ part_of sign (b ∷ s) = pick (eqb b sign) [] (b ∷ part_of sign s)
 -- the place of that sign, or the end
 abbrev pub part_end : ℕ → List ℕ → ℕ
 part_end sign s = length (part_of sign s)
-
--- the same from a place on
-abbrev pub part_end_from : ℕ → List ℕ → ℕ → ℕ
-part_end_from sign s from = from + part_end sign (drop from s)
-
--- whether there is such a sign
-unfoldable pub has_sign : ℕ → List ℕ → Bool
-has_sign sign [] = false
-has_sign sign (b ∷ s) = eqb b sign || has_sign sign s
 
 -- the first field
 abbrev pub field_of : List ℕ → List ℕ

@@ -1,13 +1,11 @@
-// Text: digits, fields, and what is put into a space for text. It knows nothing of any program's lines.
-//
-// What a function promises is named after it. One that gives a value promises the definition of its own name, as
-// `digit_of`. `put_x` puts `x_text` after the text that is there, and answers the place after it; `put` puts one byte,
-// and `put_bytes_of`, which puts no text, leaves `bytes_of`. In the crates of lines, `read_x` reads `x_line`, and
-// `read_line` the line itself, `line_of`; `print_x` puts `x_text` at the start of the space; `answer_x` leaves
-// `x_left`.
+//! Text: fields that are read, and what is put into a space for text. It knows nothing of any program's lines.
+//!
+//! What a function promises is named after it. One that gives a value promises the definition of its own name, as
+//! `field_of`; where there may be none, it gives an Option: `byte_of` answers `byte_of` of a field that is one,
+//! `is_byte`. `put_x` puts `x_text` behind the text that is there; `put` and `put_all` put what they are given. In the
+//! crates of lines, `read_x` reads `x_line`, and `read_line` the line itself, `line_of`; `answer_x` leaves `x_left`.
 #![tactic(auto)]
 
-pub mod digits;
-pub mod fields;
 pub mod limits;
-pub mod print;
+pub mod read;
+pub mod space;

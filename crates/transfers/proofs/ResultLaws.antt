@@ -11,7 +11,7 @@ use lib.ListN.{length, take, length-take}
 use Rattle.common.proofs.Parts.{part_min}
 use Rattle.common.proofs.PickLaws.{by_test, by_either, both_hold, pick_yes, pick_no, pick_by, not_refused_lem, passed}
 use Rattle.marks.specs.Marks.{most_marks}
-use Rattle.marks.specs.declared.Findings.{Findings}
+use Rattle.marks.specs.Scan.{Findings}
 use Rattle.marks.specs.Scan.{is_found}
 use Rattle.records.specs.Count.{count_of}
 use Rattle.records.specs.Image.{image_length}
@@ -25,7 +25,7 @@ use Rattle.operations.specs.Operation.{number_of, same_operation, supplies_count
 use Rattle.operations.specs.Store.{held_count}
 use Rattle.transfers.specs.declared.expected.Expected.{Expected}
 use Rattle.transfers.specs.declared.expected.Expected.TheVariants.{Whole, Supplied, Count, Nothing}
-use Rattle.transfers.specs.declared.verdict.Verdict.{Verdict}
+use Rattle.transfers.specs.Results.{Verdict}
 use Rattle.operations.specs.Codes.{offline, blockette_number_wrong, recoverable, unrecoverable}
 use Rattle.status.specs.Drives.{gcr, is_gcr}
 use Rattle.transfers.specs.Data.{check_store}

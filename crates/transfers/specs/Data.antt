@@ -12,6 +12,7 @@ use Rattle.status.specs.Words.{zero_word}
 use Rattle.operations.specs.declared.store.Store.{Store}
 use Rattle.operations.specs.Store.{thrown_away, held_count}
 use Rattle.transfers.specs.declared.after.Words.{Words}
+use Rattle.transfers.specs.declared.data.HostBytes.{HostBytes}
 use Rattle.transfers.specs.declared.after.Written.{Written}
 use Rattle.status.specs.Drives.{is_gcr}
 use Rattle.status.specs.Words.{with_host_errors}
@@ -29,6 +30,10 @@ pub record Host : Type 0 where
 -- of these two
 abbrev pub host_of : List ℕ → ℕ → Host
 host_of bytes place = record { bytes = bytes; place = place }
+
+-- the two as they come together
+abbrev pub host_with : HostBytes → Host
+host_with host = host_of host.bytes.now host.place
 
 -- "6 check store not 512; .. 11 the data call's .. image space .. short"; "15 a place that is neither in the host bytes
 -- nor the value for none, after 11"

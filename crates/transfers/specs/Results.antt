@@ -2,14 +2,14 @@
 -- verdict on it, and what is told by that: the bytes that are delivered, the check store, the status words and the gap.
 -- Assumes nothing.
 use Rattle.std.specs.Prelude.{ℕ, ◌*◌, ◌/◌, ◌%◌, min, Bool, not, ◌&&◌, ◌||◌, List, [], ◌++◌, leb, ltb, eqb, length, take}
-use Rattle.std.specs.Prelude.{drop, replicate}
+use Rattle.std.specs.Prelude.{drop, replicate, Option, Some, None, is_some}
 use Rattle.common.specs.Pick.{pick}
 use Rattle.common.specs.Space.{overwrite}
 use Rattle.common.specs.Refusals.{check_store_length, code_not_listed, flags_against_rule}
 use Rattle.blockettes.specs.Blockettes.{blockette_length}
-use Rattle.marks.specs.declared.Findings.{Findings}
+use Rattle.marks.specs.Scan.{Findings}
 use Rattle.marks.specs.Marks.{torn_marks}
-use Rattle.marks.specs.Scan.{is_found, findings_of, checks_alone}
+use Rattle.marks.specs.Scan.{is_found, told_findings, findings_of, checks_alone}
 use Rattle.records.specs.Count.{count_of}
 use Rattle.records.specs.Image.{blockette_count}
 use Rattle.status.specs.declared.drives.Drive.{Drive}
@@ -24,8 +24,8 @@ use Rattle.operations.specs.Operation.{same_operation, move_of}
 use Rattle.operations.specs.Answers.{never_reported, answer_of}
 use Rattle.operations.specs.After.{motion_of, gap_after, retry_of}
 use Rattle.operations.specs.Store.{held_count, supplied_count}
-use Rattle.transfers.specs.declared.verdict.Ending.{Ending}
-use Rattle.transfers.specs.declared.verdict.Verdict.{Verdict}
+use Rattle.transfers.specs.declared.verdict.TapeResult.{TapeResult}
+use Rattle.transfers.specs.declared.verdict.Verdict.{Verdict as Decided}
 use Rattle.transfers.specs.declared.after.Words.{Words}
 use Rattle.transfers.specs.declared.after.After.{After}
 use Rattle.operations.specs.Codes.{offline, blockette_number_wrong, recoverable, unrecoverable}
@@ -47,9 +47,9 @@ pub record Result : Type 0 where
 abbrev pub result_of : ℕ → Bool → ℕ → List ℕ → List ℕ → Result
 result_of code mark late image marks = record { code = code; mark = mark; late = late; image = image; marks = marks }
 
--- one whose first three parts come together
-abbrev pub result_with : Ending → List ℕ → List ℕ → Result
-result_with ending image marks = result_of ending.code ending.mark ending.late image marks
+-- one whose parts come together
+abbrev pub result_with : TapeResult → Result
+result_with tape = result_of tape.code tape.mark tape.late tape.image.now tape.marks.now
 
 -- ---- refusals
 
@@ -67,6 +67,34 @@ result_refusal drive operation store r check =
     (image_refusal r.image r.marks (expected_of operation store drive.density r.code r.mark))))
 
 -- ---- the verdict
+
+-- what is decided of a result
+pub record Verdict : Type 0 where
+  pub gone : Bool
+  pub used : Bool
+  pub supplied : Bool
+  pub renews : Bool
+  pub code : ℕ
+  pub count : ℕ
+  pub found : Findings
+
+-- the count of an image that is used, 0 where none is
+abbrev pub count_in : Option ℕ → ℕ
+count_in None = 0
+count_in (Some count) = count
+
+-- and as the program has it
+abbrev pub told_verdict : Decided → Verdict
+told_verdict v =
+    record {
+      gone = v.gone;
+      used = is_some v.used;
+      supplied = v.supplied;
+      renews = v.renews;
+      code = v.code;
+      count = count_in v.used;
+      found = told_findings v.found;
+    }
 
 -- "If the operation moves tape and none is installed, code 7 replaces the code, and mark and image go unused."
 unfoldable pub is_gone : Drive → Operation → Bool
@@ -162,6 +190,10 @@ result_check verdict image check =
     pick verdict.renews (pick verdict.used (check_bytes image verdict.count) (replicate check_store 0)) check
 
 -- ---- words
+
+-- a word that is made anew: the one that the scan tells, or zero where the image goes unused
+abbrev pub renewed : Verdict → Word → Word → Word
+renewed verdict told before = pick verdict.renews (pick verdict.gone zero_word told) before
 
 -- "tertiary, quintary and check store are zeroed first": they stay zero where the image goes unused or the scan finds
 -- nothing

@@ -1,17 +1,18 @@
-// What a result brings, by its operation, code and mark flag, and the test of it.
+//! What a result brings, by its operation, code and mark flag, and the test of it.
 ghost use Rattle.std.specs.Prelude.{◌≡◌};
+ghost use Rattle.common.specs.Told.{refusal_number};
 ghost use Rattle.transfers.specs.Expected.{whole_code, expected_whole, expected_supplied, expected_count, expected_of};
 ghost use Rattle.transfers.specs.Expected.{unmarked_refusal, image_refusal};
 
-use crate::verdict::Ending;
-use common::refusals::{DONE, WRONG_LENGTH};
-use operations::operation::{Operation, brings_record, same_operation, supplies_count};
-use operations::store::{Store, held_count};
-use records::whole::{layout_refusal, whole_refusal};
+use crate::verdict::TapeResult;
+use common::refusals::Refusal;
+use operations::operation::Operation;
+use operations::store::Store;
+use records::whole::{check_layout, check_whole};
 use status::drives::{GCR, MFM};
 
-// What is to be handed in: a whole image of this density with its marks, a GCR image of a supplied count with its
-// marks, two count bytes and no marks, or neither.
+/// What is to be handed in: a whole image of this density with its marks, a GCR image of a supplied count with its
+/// marks, two count bytes and no marks, or neither.
 #[derive(Clone, Copy)]
 pub enum Expected {
     Whole(u8),
@@ -25,82 +26,81 @@ pub enum Expected {
 fn whole_code(code: u8) -> bool
     ensures { result ≡ whole_code code }
 {
-    (code == 0) | ((code == 0x10) | ((code == 0x11) | (code == 0x12)))
+    matches!(code, 0 | 0x10 | 0x11 | 0x12)
 }
 
-// What a read or a forward skip brings.
-#[tactic(auto, unfolding(crate::specs::Expected::expected_whole, common::specs::Pick::pick))]
-fn expected_whole(density: u8, ending: Ending) -> Expected
-    ensures { result ≡ expected_whole density ending.code ending.mark }
-{
-    if whole_code(ending.code) & !ending.mark {
-        return Expected::Whole(density);
+impl TapeResult<'_> {
+    // What a read or a forward skip brings.
+    #[tactic(auto, unfolding(crate::specs::Expected::expected_whole, common::specs::Pick::pick))]
+    fn expected_whole(&self, density: u8) -> Expected
+        ensures { result ≡ expected_whole density self.now.code self.now.mark }
+    {
+        if whole_code(self.code) & !self.mark {
+            return Expected::Whole(density);
+        }
+        Expected::Nothing
     }
-    Expected::Nothing
-}
 
-// What a read with a supplied count brings.
-#[tactic(auto, unfolding(crate::specs::Expected::expected_supplied, common::specs::Pick::pick))]
-fn expected_supplied(count: u16, ending: Ending) -> Expected
-    ensures { result ≡ expected_supplied count ending.code }
-{
-    if (ending.code == 0) & (count != 0) {
-        return Expected::Supplied(count);
+    // What a read with a supplied count brings.
+    #[tactic(auto, unfolding(crate::specs::Expected::expected_supplied, common::specs::Pick::pick))]
+    fn expected_supplied(&self, count: u16) -> Expected
+        ensures { result ≡ expected_supplied count self.now.code }
+    {
+        if (self.code == 0) & (count != 0) {
+            return Expected::Supplied(count);
+        }
+        Expected::Nothing
     }
-    Expected::Nothing
-}
 
-// What a reverse skip brings.
-#[tactic(auto, unfolding(common::specs::Pick::pick))]
-fn expected_count(density: u8, ending: Ending) -> Expected
-    ensures { result ≡ expected_count density ending.code ending.mark }
-{
-    if (density != MFM) & ((ending.code == 0) & !ending.mark) {
-        return Expected::Count;
+    // What a reverse skip brings.
+    #[tactic(auto, unfolding(common::specs::Pick::pick))]
+    fn expected_count(&self, density: u8) -> Expected
+        ensures { result ≡ expected_count density self.now.code self.now.mark }
+    {
+        if (density != MFM) & ((self.code == 0) & !self.mark) {
+            return Expected::Count;
+        }
+        Expected::Nothing
     }
-    Expected::Nothing
-}
 
-// What an operation brings.
-#[tactic(auto, unfolding(crate::specs::Expected::expected_of, common::specs::Pick::pick))]
-pub fn expected_of(operation: Operation, store: Store, density: u8, ending: Ending) -> Expected
-    ensures { result ≡ expected_of operation store density ending.code ending.mark }
-{
-    if brings_record(operation) {
-        return expected_whole(density, ending);
+    /// What an operation brings.
+    #[tactic(auto, unfolding(crate::specs::Expected::expected_of, common::specs::Pick::pick))]
+    pub fn expected_of(&self, operation: Operation, store: Store, density: u8) -> Expected
+        ensures { result ≡ expected_of operation store density self.now.code self.now.mark }
+    {
+        if operation.brings_record() {
+            return self.expected_whole(density);
+        }
+        if operation.supplies_count() {
+            return self.expected_supplied(store.held_count());
+        }
+        if operation == Operation::SkipReverse {
+            return self.expected_count(density);
+        }
+        Expected::Nothing
     }
-    if supplies_count(operation) {
-        return expected_supplied(held_count(store), ending);
-    }
-    if same_operation(operation, Operation::SkipReverse) {
-        return expected_count(density, ending);
-    }
-    Expected::Nothing
-}
 
-// An image of this length and no marks: 9 or 0.
-#[tactic(auto, unfolding(crate::specs::Expected::unmarked_refusal, common::specs::Pick::pick))]
-fn unmarked_refusal(image: &[u8], marks: &[u8], length: usize) -> u32
-    ensures { result ≡ unmarked_refusal image.now marks.now length }
-{
-    if image.len() != length {
-        return WRONG_LENGTH;
+    // An image of this length and no marks.
+    #[tactic(auto, unfolding(crate::specs::Expected::unmarked_refusal, common::specs::Pick::pick))]
+    fn check_unmarked(&self, length: usize) -> Result<(), Refusal>
+        ensures { refusal_number result ≡ unmarked_refusal self.now.image.now self.now.marks.now length }
+    {
+        if self.image.len() != length || !self.marks.is_empty() {
+            return Err(Refusal::WrongLength);
+        }
+        Ok(())
     }
-    if marks.len() == 0 {
-        return DONE;
-    }
-    WRONG_LENGTH
-}
 
-// What is expected: 9, 10, or 0.
-#[tactic(auto, unfolding(crate::specs::Expected::image_refusal))]
-pub fn image_refusal(image: &[u8], marks: &[u8], expected: Expected) -> u32
-    ensures { result ≡ image_refusal image.now marks.now expected }
-{
-    match expected {
-        Expected::Whole(density) => whole_refusal(image, marks, density),
-        Expected::Supplied(count) => layout_refusal(image, marks, count, GCR),
-        Expected::Count => unmarked_refusal(image, marks, 2),
-        Expected::Nothing => unmarked_refusal(image, marks, 0),
+    /// What is expected: refused for a wrong length or a mark value.
+    #[tactic(auto, unfolding(crate::specs::Expected::image_refusal))]
+    pub fn check_image(&self, expected: Expected) -> Result<(), Refusal>
+        ensures { refusal_number result ≡ image_refusal self.now.image.now self.now.marks.now expected }
+    {
+        match expected {
+            Expected::Whole(density) => check_whole(self.image, self.marks, density),
+            Expected::Supplied(count) => check_layout(self.image, self.marks, count, GCR),
+            Expected::Count => self.check_unmarked(2),
+            Expected::Nothing => self.check_unmarked(0),
+        }
     }
 }

@@ -1,5 +1,4 @@
--- The moving view on its way along a run: either it is refused, and nothing is done, or so many records have gone
--- through its window.
+-- The moving view on its way along a run: so many records have gone through its window.
 -- Assumes nothing.
 use mathlib.Core.Path.{◌≡◌, refl, sym, ap, subst, ◌∙◌}
 use Prim.Native.Nat.{ℕ, zero, suc, ◌+◌, ◌-◌, ◌*◌, ◌≤◌, ◌<◌}
@@ -7,19 +6,24 @@ use native.Mathlib.Numerals.{add-one}
 use native.Mathlib.Omega.{arith}
 use mathlib.Core.Bool.{true, false, not, ◌&&◌}
 use mathlib.Core.List.{List, [], ◌∷◌, ◌++◌, append-nil}
-use lib.ListN.{length, get_or, take, replicate, length-replicate, replicate-append-replicate}
-use lib.Seq.{take_at, take-suc, length-take-le}
+use lib.ListN.{length, get_or, take, replicate}
+use lib.Seq.{take_all, take-suc, length-take-le}
 use lib.Dec.{eqb, leb, ltb}
-use borrow.Author.Tests.{leb-true, ltb-false, not-false, eqb-true, eqb-false, eq-eqb, ne_eqb}
+use borrow.Author.Tests.{leb-true, ltb-false, not-false, eq-eqb, ne_eqb}
+use Rattle.std.proofs.Common.{None, Some, Ok, Err}
+use Rattle.std.proofs.lemmas.List.{take-replicate}
+use Rattle.common.specs.declared.refusals.Refusal.{Refusal}
+use Rattle.common.specs.Told.{number_of}
+use Rattle.common.proofs.RefusalLaws.{refused_not_done}
 use Rattle.common.specs.Pick.{pick}
 use Rattle.common.specs.Space.{overwrite}
-use Rattle.common.proofs.PickLaws.{by_test, both_hold, not_refused_lem, pick_yes, pick_no}
+use Rattle.common.proofs.PickLaws.{both_hold, not_refused_lem, pick_yes, pick_no}
 use Rattle.status.specs.declared.words.ResultRecord.{ResultRecord}
 use Rattle.views.specs.declared.window.Window.{Window}
 use Rattle.views.specs.declared.view.View.{View}
-use Rattle.views.specs.declared.view.First.TheVariants.{None, At}
+use Rattle.views.specs.Told.{told}
 use Rattle.views.specs.View.{codes_of, stretches, stretches_bytes, unrecoverables, greatest, place_of, first_most}
-use Rattle.views.specs.View.{stretch_count, view_refusal, moving_view, moving_view_into, counts_of}
+use Rattle.views.specs.View.{stretch_count, view_refusal, Admitted, moving_view, moving_view_into, counts_of}
 use Rattle.views.specs.Window.{held, Whole, Gave, After, open_window, view_of}
 use Rattle.views.proofs.CountLaws.{counts_zeros}
 use Rattle.views.proofs.StretchLaws.{stretches_length}
@@ -28,10 +32,11 @@ abbrev pub blank : ResultRecord
 blank = record { code = 0; motion = 0; count = 0 }
 
 -- what `step` asks, and what it ensures
-abbrev pub Asked : Window → List ℕ → Type 0
-Asked w out =
-    Whole w × (w.taken < 65535) × (w.stretches < 65535)
-    × (w.width ≤ w.taken + 1 → 3 * w.stretches + 3 ≤ length out)
+pub record Asked (w : Window) (out : List ℕ) : Type 0 where
+  pub whole : Whole w
+  pub few_taken : w.taken < 65535
+  pub few_stretches : w.stretches < 65535
+  pub room : w.width ≤ w.taken + 1 → 3 * w.stretches + 3 ≤ length out
 
 abbrev pub Stepped : List ℕ → Window → ℕ → Window → List ℕ → Type 0
 Stepped out w code r zs =
@@ -57,12 +62,6 @@ codes_more rs i l =
     ∙ sym (take-suc (codes_of rs) i 0 (rw (codes_length rs) l)) ∙ ap (λ (n : ℕ). take n (codes_of rs)) (sym (add-one i))
 
 -- ---- what is known where nothing is refused
-
-pub record Admitted (width count room : ℕ) : Type 0 where
-  pub some : 1 ≤ width
-  pub few : width ≤ 64
-  pub short : count ≤ 65535
-  pub space : 3 * stretch_count width count ≤ room
 
 pub admitted : (width count room : ℕ) → view_refusal width count room ≡ 0 → Admitted width count room
 unfolding view_refusal
@@ -92,159 +91,104 @@ admitted width count room e = record {
 
 -- ---- the window before the first record: it holds codes 0
 
-zeros : (width : ℕ) → width ≤ 64 → ◌≡◌ {A = List ℕ} (take width (replicate 64 0)) (replicate width 0)
-zeros width h =
-    ap (λ (n : ℕ). take {A = ℕ} width (replicate n 0)) (sum width h)
-    ∙ ap (take width) (sym (replicate-append-replicate width (64 - width) 0))
-    ∙ take_at (replicate width 0) (replicate (64 - width) 0) width (length-replicate width 0)
-  where
-    sum : (width : ℕ) → width ≤ 64 → 64 ≡ width + (64 - width)
-    sum width h = omega arith
-
-module _ (width count room : ℕ) (ok : Admitted width count room) where
-  first_held : held (open_window width count room) ≡ replicate width 0
+module _ (width : ℕ) (some : 1 ≤ width) (few : width ≤ 64) where
+  first_held : held (open_window width) ≡ replicate width 0
   unfolding held open_window
-  first_held = append-nil (take width (replicate 64 0)) ∙ zeros width ok.few
+  first_held = append-nil (take width (replicate 64 0)) ∙ take-replicate width 64 0 few
 
-  first_whole : Whole (open_window width count room)
-  unfolding open_window
-  first_whole =
-      record {
-        some = ok.some;
-        few = ok.few;
-        within = ok.some;
-        long = refl;
-        counts = counts_zeros width ∙ ap counts_of (sym first_held);
-      }
-
-  first_gave : (space : List ℕ) → Gave (stretches width []) space (open_window width count room) space
+  -- as after no code
+  pub starts : (space : List ℕ) → After width [] space (open_window width) space
   unfolding open_window stretches unrecoverables greatest place_of stretches_bytes overwrite
-  first_gave space = record { count = refl; most = refl; first = refl; gives = refl; room = omega arith }
+  starts space = record {
+    whole = record {
+      some = some;
+      few = few;
+      within = some;
+      long = refl;
+      counts = counts_zeros width ∙ ap counts_of (sym first_held);
+    };
+    wide = refl;
+    taken = refl;
+    holds = first_held ∙ sym (append-nil (replicate width 0));
+    gave = record { count = refl; most = refl; first = refl; gives = refl; room = omega arith };
+  }
 
 -- ---- what the window answers
 
 first_is : (ss : List (List ℕ))
-    → pick (eqb (length ss) 0) None (At (place_of (greatest (unrecoverables ss)) (unrecoverables ss)))
+    → pick (eqb (length ss) 0) None (Some (place_of (greatest (unrecoverables ss)) (unrecoverables ss)))
     ≡ first_most (unrecoverables ss)
 unfolding unrecoverables first_most pick
 first_is [] = refl
 first_is (s ∷ ss) = pick_no _ _ (ne_eqb (suc (length ss)) 0 (λ e. omega (arith, e)))
 
-answers : (ss : List (List ℕ)) (space : List ℕ) (w : Window) (out : List ℕ) → Gave ss space w out → w.refusal ≡ 0
-    → view_of w ≡ record { refusal = 0; stretches = length ss; first = first_most (unrecoverables ss) }
+answers : (ss : List (List ℕ)) (space : List ℕ) (w : Window) (out : List ℕ) → Gave ss space w out
+    → told (Ok (view_of w)) ≡ record { refusal = 0; stretches = length ss; first = first_most (unrecoverables ss) }
 unfolding view_of
-answers ss space w out g z = rw (z, g.count, g.first, ← first_is ss)
+answers ss space w out g = rw (g.count, g.first, ← first_is ss)
 
-module _ (width : ℕ) (rs : List ResultRecord) (space : List ℕ) where
-  abbrev opened : Window
-  opened = open_window width (length rs) (length space)
-
-  abbrev refusal : ℕ
-  refusal = view_refusal width (length rs) (length space)
-
-  -- how many records are taken in
-  pub records : ℕ
-  records = opened.records
-
-  pub data Along : ℕ → Window → List ℕ → Type 0 where
-    goes : {i : ℕ} {w : Window} {out : List ℕ} → refusal ≡ 0 → i ≤ length rs
-        → After width (take i (codes_of rs)) space w out → Along i w out
-    refused : (refusal ≡ 0 → ⊥) → Along 0 opened space
-
-  all_records : refusal ≡ 0 → records ≡ length rs
-  unfolding records open_window
-  all_records e = pick_yes (length rs) 0 (eq-eqb refusal 0 e)
-
-  no_records : (refusal ≡ 0 → ⊥) → records ≡ 0
-  unfolding records open_window
-  no_records h = pick_no (length rs) 0 (ne_eqb refusal 0 h)
-
-  at_first : refusal ≡ 0 → After width (take 0 (codes_of rs)) space opened space
-  unfolding open_window
-  at_first e = record {
-    whole = first_whole width (length rs) (length space) ok;
-    wide = refl;
-    taken = refl;
-    holds = first_held width (length rs) (length space) ok ∙ sym (append-nil (replicate width 0));
-    gave = first_gave width (length rs) (length space) ok space;
-    refusal = e;
-  }
-    where
-      ok : Admitted width (length rs) (length space)
-      ok = admitted width (length rs) (length space) e
-
-  pub starts : (w : Window) → w ≡ opened → Along 0 w space
-  starts w e =
-      rw e (by_test (eqb refusal 0) (λ t. goes (eqb-true refusal 0 t) (omega arith) (at_first (eqb-true refusal 0 t)))
-      (λ t. refused (eqb-false refusal 0 t)))
-
-  pub records_is : (w : Window) → w ≡ opened → w.records ≡ records
-  unfolding records
-  records_is w e = ap (λ (x : Window). x.records) e
-
-  pub within : (i : ℕ) → i < records → i < length rs
-  within i h =
-      by_test (eqb refusal 0) (λ t. rw (all_records (eqb-true refusal 0 t)) at h)
-      (λ t. absurd (omega (arith, h, no_records (eqb-false refusal 0 t))))
+module _ (width : ℕ) (rs : List ResultRecord) (space : List ℕ) (ok : Admitted width (length rs) (length space))
+    (done : 0 ≡ view_refusal width (length rs) (length space)) where
+  -- so many records have gone through the window
+  abbrev pub Along : ℕ → Window → List ℕ → Type 0
+  Along i w out = After width (take i (codes_of rs)) space w out
 
   so_many : (i : ℕ) → i ≤ length rs → length (take i (codes_of rs)) ≡ i
   so_many i l = length-take-le i (codes_of rs) (rw (codes_length rs) l)
 
-  pub asks : (i : ℕ) (w : Window) (out : List ℕ) → Along i w out → i < records → length out ≡ length space → Asked w out
+  pub asks : (i : ℕ) (w : Window) (out : List ℕ) → Along i w out → i < length rs → length out ≡ length space
+      → Asked w out
   unfolding stretch_count
-  asks i w out (goes z k u) h e = (
-    u.whole,
-    omega (arith, u.taken, so_many i k, ok.short, l),
-    omega (arith, count, ok.short, ok.some, l),
-    λ f. omega (arith, e, count, ok.space, l, f, u.taken, u.wide, so_many i k),
-  )
+  asks i w out u l e = record {
+    whole = u.whole;
+    few_taken = omega (arith, u.taken, so_many i k, ok.short, l);
+    few_stretches = omega (arith, count, ok.short, ok.some, l);
+    room = λ f. omega (arith, e, count, ok.space, l, f, u.taken, u.wide, so_many i k);
+  }
     where
-      ok : Admitted width (length rs) (length space)
-      ok = admitted width (length rs) (length space) z
-
-      l : i < length rs
-      l = within i h
+      k : i ≤ length rs
+      k = omega (arith, l)
 
       count : w.stretches ≡ i + 1 - width
       count =
           u.gave.count ∙ stretches_length width (take i (codes_of rs)) ok.some
           ∙ ap (λ (n : ℕ). n + 1 - width) (so_many i k)
-  asks i w out (refused z) h e = absurd (omega (arith, h, no_records z))
 
-  pub onward : (i : ℕ) (w : Window) (out : List ℕ) → Along i w out → i < records → (r : Window) (zs : List ℕ)
+  pub onward : (i : ℕ) (w : Window) (out : List ℕ) → Along i w out → i < length rs → (r : Window) (zs : List ℕ)
       → Stepped out w (get_or rs i blank).code r zs → Along (i + 1) r zs
-  onward i w out (goes z k u) h r zs s = goes {i = i + 1} z (omega (arith, within i h))
-      (subst (λ (codes : List ℕ). After width codes space r zs) (codes_more rs i (within i h))
-      (s width (take i (codes_of rs)) space u))
-  onward i w out (refused z) h r zs s = absurd (omega (arith, h, no_records z))
+  onward i w out u l r zs s =
+      subst (λ (codes : List ℕ). After width codes space r zs) (codes_more rs i l)
+      (s width (take i (codes_of rs)) space u)
 
-  pub ends : (i : ℕ) (w : Window) (out : List ℕ) → Along i w out → ltb i records ≡ false → (r : View) → r ≡ view_of w
-      → (r ≡ moving_view width (codes_of rs) (length space)) × (out ≡ moving_view_into width (codes_of rs) space)
-  unfolding moving_view moving_view_into view_of open_window pick
-  ends i w out (goes z k u) h r e = (
-    e ∙ answers (stretches width (codes_of rs)) space w out gave u.refusal ∙ sym (pick_yes _ _ test),
+  pub ends : (i : ℕ) (w : Window) (out : List ℕ) → Along i w out → length rs ≤ i → (r : View) → r ≡ view_of w
+      → (told (Ok r) ≡ moving_view width (codes_of rs) (length space))
+      × (out ≡ moving_view_into width (codes_of rs) space)
+  unfolding moving_view moving_view_into
+  ends i w out u l r e = (
+    rw e (answers (stretches width (codes_of rs)) space w out gave) ∙ sym (pick_yes _ _ test),
     gave.gives ∙ sym (pick_yes _ _ test),
   )
     where
       test : eqb (view_refusal width (length (codes_of rs)) (length space)) 0 ≡ true
-      test = rw (codes_length rs) (eq-eqb refusal 0 z)
-
-      done : i ≡ length (codes_of rs)
-      done = omega (arith, k, ltb-false i records h, all_records z, codes_length rs)
+      test = rw (codes_length rs) (eq-eqb (view_refusal width (length rs) (length space)) 0 (sym done))
 
       all : take i (codes_of rs) ≡ codes_of rs
-      all = ap (take i) (sym (append-nil (codes_of rs))) ∙ take_at (codes_of rs) [] i (sym done)
+      all = take_all i (codes_of rs) (omega (arith, l, codes_length rs))
 
       gave : Gave (stretches width (codes_of rs)) space w out
       gave = subst (λ (codes : List ℕ). Gave (stretches width codes) space w out) all u.gave
-  ends i w out (refused z) h r e = (e ∙ nothing ∙ sym (pick_no _ _ test), sym (pick_no _ _ test))
-    where
-      same : refusal ≡ view_refusal width (length (codes_of rs)) (length space)
-      same = ap (λ (n : ℕ). view_refusal width n (length space)) (sym (codes_length rs))
 
-      test : eqb (view_refusal width (length (codes_of rs)) (length space)) 0 ≡ false
-      test = rw (codes_length rs) (ne_eqb refusal 0 z)
+-- where the view is refused nothing is done
+pub refused_view : (width : ℕ) (rs : List ResultRecord) (space : List ℕ) (e : Refusal)
+    → number_of e ≡ view_refusal width (length rs) (length space)
+    → (told (Err e) ≡ moving_view width (codes_of rs) (length space))
+    × (space ≡ moving_view_into width (codes_of rs) space)
+unfolding moving_view moving_view_into
+refused_view width rs space e says =
+    (rw same (sym (pick_no _ _ test)), sym (pick_no _ _ test))
+  where
+    same : number_of e ≡ view_refusal width (length (codes_of rs)) (length space)
+    same = says ∙ ap (λ (n : ℕ). view_refusal width n (length space)) (sym (codes_length rs))
 
-      nothing : view_of opened
-          ≡ record { refusal = view_refusal width (length (codes_of rs)) (length space); stretches = 0; first = None }
-      nothing = λ j. record { refusal = same j; stretches = 0; first = None }
+    test : eqb (view_refusal width (length (codes_of rs)) (length space)) 0 ≡ false
+    test = rw (← same) (refused_not_done e)

@@ -9,13 +9,13 @@ use lib.Dec.{leb, eqb}
 use lib.ListN.{length, take, drop, get_or}
 use lib.Seq.{get_or-take, get_or-drop}
 use borrow.Author.Tests.{leb-false, lt-leb, eqb-true}
+use Rattle.std.proofs.Common.{None, Some}
 use Rattle.common.specs.Pick.{pick}
 use Rattle.common.specs.FirstOf.{FirstOf}
 use Rattle.common.proofs.PickLaws.{by_test}
 use Rattle.common.proofs.FirstOfLaws.{by_failing, by_below}
 use Rattle.status.specs.declared.words.ResultRecord.{ResultRecord}
-use Rattle.views.specs.declared.view.First.{First}
-use Rattle.views.specs.declared.view.First.TheVariants.{None, At}
+use Rattle.views.specs.Told.{First}
 use Rattle.views.specs.View.{codes_of, is_recoverable, is_unrecoverable, is_other, tally, counts_of, count_bytes}
 use Rattle.views.specs.View.{stretch_count, view_refusal}
 use Rattle.views.specs.Places.{stretch_at, unrecoverable_at, EachIsFresh, IsFirst}
@@ -138,7 +138,7 @@ module _ (width : ℕ) (run : List ResultRecord) where
   pub first_given : (first : First) → IsFirst width codes first → FirstGiven width run first
   unfolding IsFirst FirstGiven stretch_count
   first_given None short = omega (arith, short, codes_length run)
-  first_given (At place) least =
+  first_given (Some place) least =
       record {
         full = omega (arith, least.is_one, codes_length run);
         most = λ other full.

@@ -11,7 +11,7 @@ use lib.ListN.{length, drop}
 use lib.Seq.{drop_at}
 use borrow.Author.Tests.{eqb-true}
 use seplogic.Ra.Ura.{Ura}
-use base.Logic.{SProp}
+use base.Logic.{SProp, sep}
 use prog.Memory.{Memory}
 use prog.Routine.{Routine}
 use types.Logic.{Logic}
@@ -19,23 +19,26 @@ use contract.Lifetimes.{Lfts}
 use contract.Monad.{Fun, fact}
 use denote.Bor.{Bor}
 use denote.Ref.{MutBor, at_last}
+use Rattle.std.proofs.Common.{None, Result}
+use Rattle.common.specs.declared.refusals.Refusal.{Refusal}
 use Rattle.common.specs.Space.{overwrite}
 use Rattle.common.proofs.PickLaws.{by_test, pick_yes, pick_no, where_done, where_refused}
 use Rattle.status.specs.declared.words.ResultRecord.{ResultRecord}
-use Rattle.views.specs.declared.view.View.{View}
-use Rattle.views.specs.declared.view.First.TheVariants.{None}
+use Rattle.views.specs.declared.view.View as view
+use Rattle.views.specs.Told.{View, told}
 use Rattle.views.specs.View.{codes_of, stretches, stretches_bytes, unrecoverables, first_most, stretch_count}
-use Rattle.views.specs.View.{view_refusal, moving_view, moving_view_into}
+use Rattle.views.specs.View.{view_refusal, Admitted, moving_view, moving_view_into}
 use Rattle.views.specs.Places.{EachIsFresh, IsFirst}
 use Rattle.views.specs.Refused.{ViewRefused}
 use Rattle.views.specs.Columns.{EachHasColumns, FirstGiven}
 use Rattle.views.proofs.StretchLaws.{stretches_length, bytes_length}
 use Rattle.views.proofs.PlaceLaws.{each_is_fresh, is_first}
-use Rattle.views.proofs.Along.{Admitted, admitted, codes_length}
+use Rattle.views.proofs.Along.{admitted, codes_length}
 use Rattle.views.proofs.ColumnLaws.{view_refused, each_has_columns, first_given}
 use Rattle.views.specs.contracts.view.moving_view as f
 use Rattle.views.proofs.view.moving_view.Statement as stated
 use Rattle.views.proofs.view.moving_view.Met as met
+use Rattle.views.proofs.view.moving_view.Reads as f-reads
 
 -- ---- what the contract allows
 
@@ -47,10 +50,19 @@ Allows run width space r after =
 -- these are the words of the contract
 pub these_are_its_words : {M : Type 1} {𝓤 : Ura M} (𝓛 : Logic 𝓤) (mem : Memory → SProp 𝓤)
     (routines : Routine → Fun 𝓤)
-    (κs : Lfts 2) (run : Bor (List ResultRecord)) (width : ℕ) (out : MutBor (List ℕ)) (r : View) (after : List ℕ)
-    → (f.clauses 𝓛 mem routines κs (run, (width, (out, tt)))).ensures tt r (run, (width, (at_last out after, tt)))
-    ≡ fact 𝓤 (Allows run.now width out.now r after)
-these_are_its_words 𝓛 mem routines κs run width out r after = refl
+    (κs : Lfts 2) (run : Bor (List ResultRecord)) (width : ℕ) (out : MutBor (List ℕ))
+    (answer : Result view.View Refusal) (after : List ℕ)
+    → (f.clauses 𝓛 mem routines κs (run, (width, (out, tt)))).ensures tt answer (run, (width, (at_last out after, tt)))
+    ≡ sep 𝓤 (fact 𝓤 (told answer ≡ moving_view width (codes_of run.now) (length out.now)))
+    (fact 𝓤 (after ≡ moving_view_into width (codes_of run.now) out.now))
+these_are_its_words 𝓛 mem routines κs run width out answer after = refl
+
+-- and so the toolchain reads them
+pub this_is_what_they_allow : (κs : Lfts 2) (run : Bor (List ResultRecord)) (width : ℕ) (out : MutBor (List ℕ))
+    (answer : Result view.View Refusal) (after : List ℕ)
+    → f-reads.Post κs (run, (width, (out, tt))) answer (run, (width, (at_last out after, tt)))
+    ≡ Allows run.now width out.now (told answer) after
+this_is_what_they_allow κs run width out answer after = refl
 
 -- ---- demand 1
 

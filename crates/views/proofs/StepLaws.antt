@@ -132,7 +132,6 @@ module _ (width : ℕ) (codes space : List ℕ) (w : Window) (out : List ℕ) (u
         subst (λ (ss : List (List ℕ)). Gave ss space m out)
         (stretches_short width codes (omega (arith, h, wide, taken, long))
         ∙ sym (stretches_short width more (omega (arith, h, wide, taken, long)))) gave;
-    refusal = sh.refusal ∙ u.refusal;
   }
 
   module _ (h : m.width ≤ m.taken) (room : 3 * m.stretches + 3 ≤ length out) where
@@ -157,7 +156,6 @@ module _ (width : ℕ) (codes space : List ℕ) (w : Window) (out : List ℕ) (u
           (sym (stretches_more width code codes some (omega (arith, h, wide, taken, long))))
           (gave_more (stretches width codes) (drop (length codes + 1 - width) more) space m out gave
           (sh.whole.counts ∙ ap counts_of stretch) room);
-      refusal = sh.refusal ∙ u.refusal;
     }
 
   pub one_more : (r : Window) (zs : List ℕ) → (m.width ≤ m.taken → 3 * m.stretches + 3 ≤ length out) → r ≡ placed m

@@ -106,8 +106,6 @@ module _ (w : Window) (is : Whole w) where
       stretches = w.stretches;
       most = w.most;
       first = w.first;
-      records = w.records;
-      refusal = w.refusal;
     }
 
     new_held : Next next → held moved ≡ rest ++ (code ∷ [])
@@ -136,6 +134,4 @@ module _ (w : Window) (is : Whole w) where
       stretches = refl;
       most = refl;
       first = refl;
-      records = refl;
-      refusal = refl;
     }

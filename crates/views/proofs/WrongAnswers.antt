@@ -1,29 +1,26 @@
 -- For each public function, two wrong answers that its contract does not allow.
 -- Assumes nothing.
-use mathlib.Core.Path.{◌≡◌, refl, sym, ap, subst, ◌∙◌}
+use mathlib.Core.Path.{◌≡◌, sym, ap, subst, ◌∙◌}
 use mathlib.Core.List.{List, [], ◌∷◌}
 use Prim.Native.Nat.{ℕ, ◌≤◌, ◌<◌}
 use native.Mathlib.Omega.{arith}
 use lib.ListN.{length, take, get_or, length-take}
 use lib.Seq.{get_or-take, length-take-le}
-use seplogic.Ra.Ura.{Ura}
-use base.Logic.{SProp}
-use prog.Memory.{Memory}
-use prog.Routine.{Routine}
-use types.Logic.{Logic}
 use contract.Lifetimes.{Lfts}
-use contract.Monad.{Fun, fact}
+use denote.Bor.{Bor}
 use denote.Ref.{MutBor, at_last}
+use Rattle.std.proofs.Common.{Some, Result}
+use Rattle.common.specs.declared.refusals.Refusal.{Refusal}
 use Rattle.common.specs.Pick.{pick}
 use Rattle.status.specs.declared.words.ResultRecord.{ResultRecord}
-use Rattle.views.specs.declared.view.View.{View}
-use Rattle.views.specs.declared.view.First.TheVariants.{At}
+use Rattle.views.specs.declared.view.View as view
+use Rattle.views.specs.Told.{View, told}
 use Rattle.views.specs.View.{codes_of, is_recoverable, tally, counts_of, count_bytes, stretch_count}
 use Rattle.views.specs.Places.{stretch_at, unrecoverable_at, LeastWithMost, IsFirst}
 use Rattle.views.specs.Held.{held_end, held_codes, held_view, held_view_into}
 use Rattle.views.proofs.Along.{admitted, codes_length}
+use Rattle.views.proofs.view.moving_view.Reads as f-reads
 use Rattle.views.proofs.Demands.{Allows, refusal_is, ok, each_stretch_is_counted_afresh, the_first_has_most}
-use Rattle.views.specs.contracts.held.held_view as held
 
 -- ---- moving_view
 
@@ -31,7 +28,8 @@ module _ (run : List ResultRecord) (width : ℕ) (space : List ℕ) (r : View) (
     (allowed : Allows run width space r after) where
   -- of two stretches with as many codes 16 the later is given
   pub moving_view_gives_the_later_of_two : (first second : ℕ) → r.refusal ≡ 0 → first < second
-      → unrecoverable_at width (codes_of run) first ≡ unrecoverable_at width (codes_of run) second → r.first ≡ At second
+      → unrecoverable_at width (codes_of run) first ≡ unrecoverable_at width (codes_of run) second
+      → r.first ≡ Some second
       → ⊥
   unfolding IsFirst
   moving_view_gives_the_later_of_two first second done earlier alike wrong =
@@ -51,19 +49,28 @@ moving_view_reads_codes_in_decimal motion count space r after allowed done wrong
     ≡ 0 = sym (get_or-take 3 after 0 0 (omega arith)) ∙ ap (λ (l : List ℕ). get_or l 0 0) fresh in
     omega (arith, right, wrong)
 
--- ---- held_view
+-- ---- moving_view, of a run that is held in an array
 
--- the words of its contract
+-- the view of so many of its records
 abbrev HeldAllows : List ResultRecord → ℕ → ℕ → List ℕ → View → List ℕ → Type 0
 HeldAllows run count width space r after =
     (r ≡ held_view run count width (length space)) × (after ≡ held_view_into run count width space)
 
-pub these_are_its_words : {M : Type 1} {𝓤 : Ura M} (𝓛 : Logic 𝓤) (mem : Memory → SProp 𝓤)
-    (routines : Routine → Fun 𝓤)
-    (κs : Lfts 1) (run : List ResultRecord) (count width : ℕ) (out : MutBor (List ℕ)) (r : View) (after : List ℕ)
-    → (held.clauses 𝓛 mem routines κs (run, (count, (width, (out, tt))))).ensures tt r
-    (run, (count, (width, (at_last out after, tt)))) ≡ fact 𝓤 (HeldAllows run count width out.now r after)
-these_are_its_words 𝓛 mem routines κs run count width out r after = refl
+-- it is what `moving_view` allows of the slice of them
+pub held_is_lent : (run : List ResultRecord) (count width : ℕ) (space : List ℕ) (r : View) (after : List ℕ)
+    → Allows (take (held_end count) run) width space r after → HeldAllows run count width space r after
+unfolding held_view held_view_into held_codes
+held_is_lent run count width space r after allowed = allowed
+
+-- and these are the words of its contract, of the slice of them
+pub these_are_its_words : (κs : Lfts 2) (run : List ResultRecord) (count width : ℕ) (lent : Bor (List ResultRecord))
+    (out : MutBor (List ℕ)) (answer : Result view.View Refusal) (after : List ℕ)
+    → lent.now ≡ take (held_end count) run
+    → f-reads.Post κs (lent, (width, (out, tt))) answer (lent, (width, (at_last out after, tt)))
+    ≡ HeldAllows run count width out.now (told answer) after
+unfolding held_view held_view_into held_codes
+these_are_its_words κs run count width lent out answer after held =
+    ap (λ (records : List ResultRecord). Allows records width out.now (told answer) after) held
 
 module _ (run : List ResultRecord) (count width : ℕ) (space : List ℕ) (r : View) (after : List ℕ)
     (allowed : HeldAllows run count width space r after) where

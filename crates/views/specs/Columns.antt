@@ -2,10 +2,10 @@
 -- request 11): "the number of codes 15, of codes 16, and of other nonzero codes". Codes are hexadecimal.
 -- Assumes nothing.
 use Rattle.std.specs.Prelude.{◌≡◌, ℕ, ◌+◌, ◌*◌, ◌≤◌, ◌<◌, ◌||◌, List, [], ◌∷◌, eqb, length, take, drop, get_or}
+use Rattle.std.specs.Prelude.{None, Some}
 use Rattle.common.specs.Pick.{pick}
 use Rattle.status.specs.declared.words.ResultRecord.{ResultRecord}
-use Rattle.views.specs.declared.view.First.{First}
-use Rattle.views.specs.declared.view.First.TheVariants.{None, At}
+use Rattle.views.specs.Told.{First}
 
 -- what a code adds to the first column, to the second and to the third
 unfoldable pub adds15 : ℕ → ℕ
@@ -53,4 +53,4 @@ pub record FirstWithMost (width : ℕ) (run : List ResultRecord) (place : ℕ) :
 -- "A run shorter than the width gives no stretches, and none as the first."
 unfoldable pub FirstGiven : ℕ → List ResultRecord → First → Type 0
 FirstGiven width run None = length run < width
-FirstGiven width run (At place) = FirstWithMost width run place
+FirstGiven width run (Some place) = FirstWithMost width run place

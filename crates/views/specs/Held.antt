@@ -3,7 +3,7 @@
 use Rattle.std.specs.Prelude.{ℕ, min, List, take}
 use Rattle.status.specs.declared.words.ResultRecord.{ResultRecord}
 use Rattle.views.specs.View.{codes_of, moving_view, moving_view_into}
-use Rattle.views.specs.declared.view.View.{View}
+use Rattle.views.specs.Told.{View}
 
 -- the array has a place more than a run may have, so that a run above the limit can be told
 abbrev pub held_limit : ℕ

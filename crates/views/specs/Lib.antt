@@ -1,4 +1,5 @@
 pub mod Limits
+pub mod Told
 pub mod View
 pub mod Window
 pub mod Held

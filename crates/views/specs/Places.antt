@@ -1,10 +1,9 @@
 -- What is claimed of a moving view, place by place.
 -- Assumes nothing.
-use Rattle.std.specs.Prelude.{◌≡◌, ℕ, ◌*◌, ◌≤◌, ◌<◌, List, length, take, drop}
+use Rattle.std.specs.Prelude.{◌≡◌, ℕ, ◌*◌, ◌≤◌, ◌<◌, List, length, take, drop, None, Some}
 use Rattle.views.specs.Limits.{stretch_bytes}
 use Rattle.views.specs.View.{counts_of, count_bytes, stretch_count}
-use Rattle.views.specs.declared.view.First.{First}
-use Rattle.views.specs.declared.view.First.TheVariants.{None, At}
+use Rattle.views.specs.Told.{First}
 
 -- the full stretch from a place on
 unfoldable pub stretch_at : ℕ → List ℕ → ℕ → List ℕ
@@ -31,4 +30,4 @@ pub record LeastWithMost (width : ℕ) (codes : List ℕ) (place : ℕ) : Type 0
 -- "A run shorter than the width gives no stretches, and none as the first."
 unfoldable pub IsFirst : ℕ → List ℕ → First → Type 0
 IsFirst width codes None = length codes < width
-IsFirst width codes (At place) = LeastWithMost width codes place
+IsFirst width codes (Some place) = LeastWithMost width codes place

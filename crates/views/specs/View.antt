@@ -1,7 +1,8 @@
 -- The moving view of a run of result records (document 02, request 11). "Take up to 65,535 result records (final code,
 -- motion, count) in tape order and a width of 1 to 64."
 -- Assumes nothing.
-use Rattle.std.specs.Prelude.{ℕ, ◌+◌, ◌-◌, ◌*◌, max, Bool, not, ◌&&◌, List, [], ◌∷◌, ◌++◌, eqb, ltb, leb, length, take}
+use Rattle.std.specs.Prelude.{ℕ, ◌+◌, ◌-◌, ◌*◌, ◌≤◌, max, Bool, not, ◌&&◌, List, [], ◌∷◌, ◌++◌, eqb, ltb, leb, length}
+use Rattle.std.specs.Prelude.{take, None, Some}
 use Rattle.common.specs.Pick.{pick}
 use Rattle.common.specs.Space.{overwrite}
 use Rattle.common.specs.Refusals.{done, space_short, width_out_of_range, run_too_long}
@@ -9,9 +10,8 @@ use Rattle.status.specs.declared.words.ResultRecord.{ResultRecord}
 use Rattle.operations.specs.Codes.{recoverable, unrecoverable}
 use Rattle.views.specs.Limits.{width_limit, run_limit, stretch_bytes}
 use Rattle.views.specs.declared.counts.Counts.{Counts}
-use Rattle.views.specs.declared.view.First.{First}
-use Rattle.views.specs.declared.view.First.TheVariants.{None, At}
-use Rattle.views.specs.declared.view.View.{View}
+use Rattle.views.specs.Told.{First}
+use Rattle.views.specs.Told.{View}
 
 -- what is looked at of each record: its final code, and neither its motion nor its count
 unfoldable pub codes_of : List ResultRecord → List ℕ
@@ -86,7 +86,7 @@ place_of n (m ∷ ms) = pick (eqb m n) 0 (1 + place_of n ms)
 -- its first record. "A run shorter than the width gives no stretches, and none as the first."
 unfoldable pub first_most : List ℕ → First
 first_most [] = None
-first_most (n ∷ ns) = At (place_of (greatest (n ∷ ns)) (n ∷ ns))
+first_most (n ∷ ns) = Some (place_of (greatest (n ∷ ns)) (n ∷ ns))
 
 -- ---- the answer
 
@@ -100,6 +100,13 @@ view_refusal width count room =
     pick (not (leb 1 width && leb width width_limit)) width_out_of_range
     (pick (ltb run_limit count) run_too_long
     (pick (ltb room (stretch_bytes * stretch_count width count)) space_short done))
+
+-- what holds where a view is not refused
+pub record Admitted (width count room : ℕ) : Type 0 where
+  pub some : 1 ≤ width
+  pub few : width ≤ width_limit
+  pub short : count ≤ run_limit
+  pub space : stretch_bytes * stretch_count width count ≤ room
 
 -- what is answered
 unfoldable pub moving_view : ℕ → List ℕ → ℕ → View

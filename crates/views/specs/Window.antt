@@ -1,16 +1,15 @@
 -- The window that moves along a run. No paper knows of it: what is promised of the view is in `View.antt`.
 -- Assumes nothing.
 use Rattle.std.specs.Prelude.{ℕ, ◌+◌, ◌-◌, ◌*◌, ◌≤◌, ◌<◌, ◌≡◌, Bool, true, List, [], ◌∷◌, ◌++◌, eqb, ltb, length, take}
-use Rattle.std.specs.Prelude.{drop, replicate, set}
+use Rattle.std.specs.Prelude.{drop, replicate, set, None, Some}
 use Rattle.common.specs.Pick.{pick}
 use Rattle.common.specs.Space.{overwrite}
 use Rattle.views.specs.Limits.{width_limit, stretch_bytes}
 use Rattle.views.specs.View.{is_recoverable, is_unrecoverable, is_other, counts_of, stretches, stretches_bytes}
-use Rattle.views.specs.View.{unrecoverables, greatest, place_of, view_refusal}
+use Rattle.views.specs.View.{unrecoverables, greatest, place_of}
 use Rattle.views.specs.declared.counts.Counts.{Counts}
 use Rattle.views.specs.declared.window.Window.{Window}
 use Rattle.views.specs.declared.view.View.{View}
-use Rattle.views.specs.declared.view.First.TheVariants.{None, At}
 
 -- ---- counts
 
@@ -53,8 +52,6 @@ pub record Shifted (w : Window) (code : ℕ) (r : Window) : Type 0 where
   pub stretches : r.stretches ≡ w.stretches
   pub most : r.most ≡ w.most
   pub first : r.first ≡ w.first
-  pub records : r.records ≡ w.records
-  pub refusal : r.refusal ≡ w.refusal
 
 -- a window after its stretch is given
 unfoldable pub with_stretch : Window → Window
@@ -67,8 +64,6 @@ with_stretch w = record {
   stretches = w.stretches + 1;
   most = pick (ltb w.most w.counts.unrecoverable) w.counts.unrecoverable w.most;
   first = pick (ltb w.most w.counts.unrecoverable) w.stretches w.first;
-  records = w.records;
-  refusal = w.refusal;
 }
 
 -- where it is full
@@ -99,11 +94,10 @@ pub record After (width : ℕ) (codes space : List ℕ) (w : Window) (out : List
   pub taken : w.taken ≡ length codes
   pub holds : held w ≡ drop (length codes) (replicate width 0 ++ codes)
   pub gave : Gave (stretches width codes) space w out
-  pub refusal : w.refusal ≡ 0
 
 -- the window before the first record
-unfoldable pub open_window : ℕ → ℕ → ℕ → Window
-open_window width count room = record {
+unfoldable pub open_window : ℕ → Window
+open_window width = record {
   codes = replicate width_limit 0;
   width = width;
   oldest = 0;
@@ -112,11 +106,8 @@ open_window width count room = record {
   stretches = 0;
   most = 0;
   first = 0;
-  records = pick (eqb (view_refusal width count room) 0) count 0;
-  refusal = view_refusal width count room;
 }
 
 -- what a window answers after the last record
 unfoldable pub view_of : Window → View
-view_of w =
-    record { refusal = w.refusal; stretches = w.stretches; first = pick (eqb w.stretches 0) None (At w.first) }
+view_of w = record { stretches = w.stretches; first = pick (eqb w.stretches 0) None (Some w.first) }

@@ -1,109 +1,50 @@
-// The view of a lent slice of records.
-ghost use Rattle.std.specs.Prelude.{◌≡◌, length};
-ghost use Rattle.views.specs.View.{codes_of, view_refusal, moving_view, moving_view_into};
-ghost use Rattle.views.specs.Window.{open_window, view_of};
+//! The view of a lent slice of records.
+ghost use Rattle.std.specs.Prelude.{◌≡◌, length, OnOk};
+ghost use Rattle.common.specs.Told.{refusal_number};
+ghost use Rattle.views.specs.View.{codes_of, view_refusal, Admitted, moving_view, moving_view_into};
+ghost use Rattle.views.specs.Told.{told};
 
-use crate::counts::Counts;
 use crate::limits::{RUN_LIMIT, STRETCH_BYTES, WIDTH_LIMIT};
-use crate::window::{Window, step};
-use common::refusals::{DONE, RUN_TOO_LONG, SPACE_SHORT, WIDTH_OUT_OF_RANGE};
+use crate::window::Window;
+use common::refusals::Refusal;
 use status::words::ResultRecord;
 
-// The first stretch with most codes 16: none where there is no stretch.
-#[derive(Clone, Copy)]
-pub enum First {
-    None,
-    At(usize),
-}
-
-// What a view answers; the bytes of the stretches are in the lent space.
-#[derive(Clone, Copy)]
+/// What a view answers: how many stretches there are, and the first with most codes 16, where there is one at all. The
+/// bytes of the stretches are in the lent space.
+#[derive(Clone, Copy, Debug, PartialEq, Eq)]
 pub struct View {
-    pub refusal: u32,
     pub stretches: usize,
-    pub first: First,
+    pub first: Option<usize>,
 }
 
 // Whether a view is refused: of a width, of so many records, with so much space.
 #[tactic(auto, unfolding(crate::specs::View::view_refusal, common::specs::Pick::pick, crate::specs::View::stretch_count))]
-fn view_refusal(width: usize, count: usize, room: usize) -> u32
-    ensures { result ≡ view_refusal width count room }
+fn check_view(width: usize, count: usize, room: usize) -> Result<(), Refusal>
+    ensures refused { refusal_number result ≡ view_refusal width count room }
+    ensures admitted { OnOk result (Admitted width count room) }
 {
-    if width < 1 {
-        WIDTH_OUT_OF_RANGE
-    } else if WIDTH_LIMIT < width {
-        WIDTH_OUT_OF_RANGE
-    } else if RUN_LIMIT < count {
-        RUN_TOO_LONG
-    } else if count < width {
-        DONE
-    } else if room < STRETCH_BYTES * (count + 1 - width) {
-        SPACE_SHORT
-    } else {
-        DONE
+    if !(1..=WIDTH_LIMIT).contains(&width) {
+        return Err(Refusal::WidthOutOfRange);
     }
+    if RUN_LIMIT < count {
+        return Err(Refusal::RunTooLong);
+    }
+    if room < STRETCH_BYTES * (count + 1).saturating_sub(width) {
+        return Err(Refusal::SpaceShort);
+    }
+    Ok(())
 }
 
-// The window before the first record.
-#[tactic(auto, unfolding(crate::specs::Window::open_window, common::specs::Pick::pick))]
-fn open_window(width: usize, count: usize, room: usize) -> Window
-    ensures { result ≡ open_window width count room }
-{
-    let refusal = view_refusal(width, count, room);
-    let records = if refusal == DONE { count } else { 0 };
-    let counts = Counts {
-        recoverable: 0,
-        unrecoverable: 0,
-        others: 0,
-    };
-    Window {
-        codes: [0u8; WIDTH_LIMIT],
-        width,
-        oldest: 0,
-        taken: 0,
-        counts,
-        stretches: 0,
-        most: 0,
-        first: 0,
-        records,
-        refusal,
-    }
-}
-
-// What the window answers after the last record.
-#[tactic(auto, unfolding(crate::specs::Window::view_of, common::specs::Pick::pick))]
-fn view_of(window: Window) -> View
-    ensures { result ≡ view_of window }
-{
-    let stretches = window.stretches;
-    if stretches == 0 {
-        View {
-            refusal: window.refusal,
-            stretches: 0,
-            first: First::None,
-        }
-    } else {
-        View {
-            refusal: window.refusal,
-            stretches,
-            first: First::At(window.first),
-        }
-    }
-}
-
-// The one function over a lent slice of records; all that it does is done by the covered ones. A refused view has no
-// records to take in, so that no branch is needed here.
+/// The one function over a lent slice of records; all that it does is done by the covered ones.
 #[tactic(auto)]
-pub fn moving_view(run: &[ResultRecord], width: usize, out: &mut [u8]) -> View
-    ensures { (result ≡ moving_view width (codes_of run.now) (length out.old))
-        × (out.new ≡ moving_view_into width (codes_of run.now) out.old) }
+pub fn moving_view(run: &[ResultRecord], width: usize, out: &mut [u8]) -> Result<View, Refusal>
+    ensures answered { told result ≡ moving_view width (codes_of run.now) (length out.old) }
+    ensures written { out.new ≡ moving_view_into width (codes_of run.now) out.old }
 {
-    let mut window = open_window(width, run.len(), out.len());
-    let records = window.records;
-    let mut i = 0;
-    while i < records {
-        window = step(&mut *out, window, run[i].code);
-        i += 1;
+    check_view(width, run.len(), out.len())?;
+    let mut window = Window::open(width);
+    for record in run {
+        window.step(record.code, out);
     }
-    view_of(window)
+    Ok(window.view())
 }

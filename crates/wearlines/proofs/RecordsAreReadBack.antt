@@ -12,7 +12,7 @@ use Rattle.text.specs.Print.{byte_text, decimal_text, record_text}
 use Rattle.text.specs.Characters.{colon}
 use Rattle.wearlines.specs.Limits.{count_limit}
 use Rattle.wearlines.specs.Line.{fields_line, record_line}
-use Rattle.wearlines.specs.declared.line.RecordReading.TheVariants.{OneRecord}
+use Rattle.std.proofs.Common.{Some}
 use Rattle.wearlines.proofs.LineLaws.{record_cut}
 use Rattle.text.proofs.ReadBackLaws.{part_of_digits, after_digits, byte_digits, byte_is, byte_back, decimal_digits}
 use Rattle.text.proofs.ReadBackLaws.{decimal_is, decimal_back}
@@ -36,14 +36,14 @@ module _ (r : ResultRecord) (code : r.code < 256) (motion : r.motion < 256) (cou
       (sym (after_digits M N))
 
   -- three numbers that are read are the record
-  values : OneRecord (record { code = byte_of CC; motion = decimal_of M; count = decimal_of N }) ≡ OneRecord r
-  values j = OneRecord (record {
+  values : Some (record { code = byte_of CC; motion = decimal_of M; count = decimal_of N }) ≡ Some r
+  values j = Some (record {
     code = byte_back r.code code j;
     motion = decimal_back decimal_most r.motion (omega (arith, motion)) j;
     count = decimal_back decimal_most r.count (omega (arith, count)) j;
   })
 
-  pub records_are_read_back : record_line (record_text r.code r.motion r.count) ≡ OneRecord r
+  pub records_are_read_back : record_line (record_text r.code r.motion r.count) ≡ Some r
   unfolding fields_line pick
   records_are_read_back =
       sym cut

@@ -1,157 +1,122 @@
-// A wear log as it is held: its width, and its records in an array, filled line by line.
-ghost use Rattle.std.specs.Prelude.{◌≤◌, ◌<◌};
-ghost use Rattle.views.specs.Held.{held_limit};
+//! A wear log as it is held: its width, and its records.
+ghost use Rattle.std.specs.Prelude.{◌≡◌, length};
+ghost use Rattle.wearlines.specs.Line.{record_line, width_line};
+ghost use Rattle.wearlines.specs.Log.{new_log, take_bad_line, take_width, take_record, take_line, told_log};
+ghost use Rattle.wearlines.specs.Log.{view_log, view_into};
 
-use crate::line::{RecordReading, WidthReading, read_record, read_width};
-use common::min;
+use crate::line::{read_record, read_width};
+use arrayvec::ArrayVec;
+use common::refusals::Refusal;
 use status::words::ResultRecord;
-use views::held::HELD_LIMIT;
+use std::marker::Model;
 use views::limits::RUN_LIMIT;
+use views::view::{View, moving_view};
 
-// A number of a line that is not counted further.
-const LINE_MOST: u32 = 4294967295;
+// One more than a run may have, so that a run above the limit can be told.
+const HELD_LIMIT: usize = RUN_LIMIT + 1;
 
-// What is known between two lines: how many lines there were, the width, how many records are held, and the number of
-// the first line that cannot be read, 0 where each can.
-#[derive(Clone, Copy)]
-pub struct Progress {
-    pub lines: u32,
-    pub width: usize,
-    pub count: usize,
-    pub bad: u32,
+/// How many lines there were, the width, the records, and the number of the first line that cannot be read.
+#[derive(Drop)]
+pub struct Log {
+    lines: u32,
+    width: Option<usize>,
+    records: ArrayVec<ResultRecord, HELD_LIMIT>,
+    bad: Option<u32>,
 }
 
-// A line that was taken: what is known after it, and a record with its place in the array. A line without a record has
-// a blank one for the place where the next goes.
-#[derive(Clone, Copy)]
-pub struct Taken {
-    pub progress: Progress,
-    pub place: usize,
-    pub result: ResultRecord,
+impl Model for Log {
+    ghost use Rattle.std.specs.Prelude.{◌≤◌, length};
+    ghost use Rattle.views.specs.Held.{held_limit};
+    ghost use Rattle.wearlines.specs.Log.{Held};
+
+    ghost Value = { Held };
+
+    ghost view = { λ l. record { lines = l.lines; width = l.width; records = l.records.items; bad = l.bad } };
+
+    ghost invariant = { λ l. length l.records.items ≤ held_limit };
 }
 
-// Before the first line.
-pub fn no_progress() -> Progress
-    ensures { result.count ≤ held_limit }
-{
-    Progress {
-        lines: 0,
-        width: 0,
-        count: 0,
-        bad: 0,
-    }
+/// Why a log has no view.
+#[derive(Clone, Copy, Debug, PartialEq, Eq)]
+pub enum Fault {
+    /// The line of this number cannot be read.
+    BadLine(u32),
+    Refused(Refusal),
 }
 
-pub fn blank_record() -> ResultRecord {
-    ResultRecord {
-        code: 0,
-        motion: 0,
-        count: 0,
-    }
-}
-
-// The number of the next line.
-fn next_line(lines: u32) -> u32 {
-    if lines < LINE_MOST { lines + 1 } else { lines }
-}
-
-// The next line cannot be read.
-pub fn with_bad_line(progress: Progress) -> Progress
-    requires { progress.count ≤ held_limit }
-    ensures { result.count ≤ held_limit }
-{
-    let lines = next_line(progress.lines);
-    let bad = if progress.bad == 0 {
-        lines
-    } else {
-        progress.bad
-    };
-    Progress {
-        lines,
-        width: progress.width,
-        count: progress.count,
-        bad,
-    }
-}
-
-// The next line has the width.
-fn with_width(progress: Progress, width: usize) -> Progress
-    requires { progress.count ≤ held_limit }
-    ensures { result.count ≤ held_limit }
-{
-    Progress {
-        lines: next_line(progress.lines),
-        width,
-        count: progress.count,
-        bad: progress.bad,
-    }
-}
-
-// The next line has a record. Those that the array has no place for are not counted: one more than a run may have is
-// told as well as many.
-fn with_record(progress: Progress) -> Progress
-    requires { progress.count ≤ held_limit }
-    ensures { result.count ≤ held_limit }
-{
-    Progress {
-        lines: next_line(progress.lines),
-        width: progress.width,
-        count: min(progress.count + 1, HELD_LIMIT),
-        bad: progress.bad,
-    }
-}
-
-fn take_width(progress: Progress, line: &[u8]) -> Progress
-    requires { progress.count ≤ held_limit }
-    ensures { result.count ≤ held_limit }
-{
-    let reading = read_width(line);
-    match reading {
-        WidthReading::NoWidth => with_bad_line(progress),
-        WidthReading::OneWidth(width) => with_width(progress, width),
-    }
-}
-
-fn take_record(progress: Progress, line: &[u8]) -> Taken
-    requires { progress.count ≤ held_limit }
-    ensures counted { result.progress.count ≤ held_limit }
-    ensures placed { result.place < held_limit }
-{
-    let place = min(progress.count, RUN_LIMIT);
-    let reading = read_record(line);
-    match reading {
-        RecordReading::NoRecord => {
-            let next = with_bad_line(progress);
-            Taken {
-                progress: next,
-                place,
-                result: blank_record(),
-            }
+impl Log {
+    /// Before the first line.
+    pub fn new() -> Log
+        ensures { result ≡ new_log }
+    {
+        Log {
+            lines: 0,
+            width: None,
+            records: ArrayVec::new(),
+            bad: None,
         }
-        RecordReading::OneRecord(result) => {
-            let next = with_record(progress);
-            Taken {
-                progress: next,
-                place,
-                result,
+    }
+
+    /// The next line cannot be read.
+    #[tactic(auto, unfolding(crate::specs::Log::take_bad_line, crate::specs::Log::first_of))]
+    pub fn take_bad_line(&mut self)
+        ensures { self.new ≡ take_bad_line self.old }
+    {
+        self.lines = self.lines.saturating_add(1);
+        self.bad = self.bad.or(Some(self.lines));
+    }
+
+    #[tactic(auto, unfolding(crate::specs::Log::take_width))]
+    fn take_width(&mut self, line: &[u8])
+        ensures { self.new ≡ take_width self.old (width_line line.now) }
+    {
+        match read_width(line) {
+            None => self.take_bad_line(),
+            Some(width) => {
+                self.lines = self.lines.saturating_add(1);
+                self.width = Some(width);
             }
         }
     }
-}
 
-// One line: the first has the width, each other a record.
-pub fn take_line(progress: Progress, line: &[u8]) -> Taken
-    requires { progress.count ≤ held_limit }
-    ensures counted { result.progress.count ≤ held_limit }
-    ensures placed { result.place < held_limit }
-{
-    if progress.lines == 0 {
-        let next = take_width(progress, line);
-        return Taken {
-            progress: next,
-            place: 0,
-            result: blank_record(),
-        };
+    // A record that there is no room for is let go.
+    #[tactic(auto, unfolding(crate::specs::Log::take_record, common::specs::Pick::pick))]
+    fn take_record(&mut self, line: &[u8])
+        ensures { self.new ≡ take_record self.old (record_line line.now) }
+    {
+        match read_record(line) {
+            None => self.take_bad_line(),
+            Some(record) => {
+                self.lines = self.lines.saturating_add(1);
+                let _ = self.records.try_push(record);
+            }
+        }
     }
-    take_record(progress, line)
+
+    /// A line more: the first has the width, each other a record.
+    #[tactic(auto, unfolding(crate::specs::Log::take_line, common::specs::Pick::pick))]
+    pub fn take_line(&mut self, line: &[u8])
+        ensures { self.new ≡ take_line self.old line.now }
+    {
+        if self.lines == 0 {
+            self.take_width(line)
+        } else {
+            self.take_record(line)
+        }
+    }
+
+    /// The log's view. Of a log with no line at all the first cannot be read.
+    #[tactic(auto, unfolding(crate::specs::Log::view_log, crate::specs::Log::view_into, crate::specs::Log::shown, crate::specs::Log::shown_into))]
+    pub fn view(&self, counts: &mut [u8]) -> Result<View, Fault>
+        ensures answered { told_log result ≡ view_log self.now (length counts.old) }
+        ensures written { counts.new ≡ view_into self.now counts.old }
+    {
+        match (self.bad, self.width) {
+            (Some(line), _) => Err(Fault::BadLine(line)),
+            (None, None) => Err(Fault::BadLine(1)),
+            (None, Some(width)) => {
+                moving_view(self.records.as_slice(), width, counts).map_err(Fault::Refused)
+            }
+        }
+    }
 }

@@ -1,64 +1,55 @@
-// What is printed of the view of a wear log. The functions are of the kind of `text::print`.
-ghost use Rattle.std.specs.Prelude.{◌≡◌, ◌+◌, ◌≤◌, ◌++◌, length, take};
+//! What is put of the view of a wear log. The functions are of the kind of those of `text::space`.
+ghost use Rattle.std.specs.Prelude.{◌≡◌, ◌+◌, ◌≤◌, ◌++◌, length};
 ghost use Rattle.wearlines.specs.Limits.{text_most, no_stretch_length};
 ghost use Rattle.wearlines.specs.Print.{numbers_text, no_stretch_text, refused_text, bad_line_text};
 
-use common::overwrite;
 use text::limits::DECIMAL_MOST;
-use text::print::{put, put_decimal};
+use text::space::Text;
 
-// Three numbers.
+/// Three numbers.
 #[tactic(auto, unfolding(crate::specs::Print::numbers_text))]
-pub fn put_numbers(a: u32, b: u32, c: u32, out: &mut [u8], at: usize) -> usize
-    requires { at + text_most ≤ length out.old }
-    ensures ends { result ≤ at + text_most }
-    ensures text { take result out.new ≡ take at out.old ++ numbers_text a b c }
+pub fn put_numbers<const N: usize>(a: u32, b: u32, c: u32, out: &mut Text<N>)
+    requires { length out.old + text_most ≤ N }
+    ensures fits { length out.new ≤ length out.old + text_most }
+    ensures text { out.new ≡ out.old ++ numbers_text a b c }
 {
-    let first = put_decimal(DECIMAL_MOST, a, out, at);
-    let comma = put(b',', out, first);
-    let second = put_decimal(DECIMAL_MOST, b, out, comma);
-    let comma = put(b',', out, second);
-    let third = put_decimal(DECIMAL_MOST, c, out, comma);
-    put(b'\n', out, third)
+    out.put_decimal(DECIMAL_MOST, a);
+    out.put(b',');
+    out.put_decimal(DECIMAL_MOST, b);
+    out.put(b',');
+    out.put_decimal(DECIMAL_MOST, c);
+    out.put(b'\n');
 }
 
-// No stretch.
-pub fn print_no_stretch(out: &mut [u8]) -> usize
-    requires { no_stretch_length ≤ length out.old }
-    ensures ends { result ≡ no_stretch_length }
-    ensures text { take result out.new ≡ no_stretch_text }
+/// No stretch.
+#[tactic(auto, unfolding(crate::specs::Print::no_stretch_text))]
+pub fn put_no_stretch<const N: usize>(out: &mut Text<N>)
+    requires { length out.old + no_stretch_length ≤ N }
+    ensures fits { length out.new ≡ length out.old + no_stretch_length }
+    ensures text { out.new ≡ out.old ++ no_stretch_text }
 {
-    let text = [b'0', b',', b'0', b',', b'-', b'\n'];
-    overwrite(&text, out);
-    text.len()
+    out.put_all(b"0,0,-\n");
 }
 
-// A refusal.
+/// A refusal.
 #[tactic(auto, unfolding(crate::specs::Print::refused_text))]
-pub fn print_refused(refusal: u32, out: &mut [u8]) -> usize
-    requires { text_most ≤ length out.old }
-    ensures ends { result ≤ text_most }
-    ensures text { take result out.new ≡ refused_text refusal }
+pub fn put_refused<const N: usize>(refusal: u32, out: &mut Text<N>)
+    requires { length out.old + text_most ≤ N }
+    ensures fits { length out.new ≤ length out.old + text_most }
+    ensures text { out.new ≡ out.old ++ refused_text refusal }
 {
-    let number = put_decimal(DECIMAL_MOST, refusal, out, 0);
-    let first = put(b',', out, number);
-    let second = put(b'-', out, first);
-    let third = put(b',', out, second);
-    let fourth = put(b'-', out, third);
-    put(b'\n', out, fourth)
+    out.put_decimal(DECIMAL_MOST, refusal);
+    out.put_all(b",-,-\n");
 }
 
-// A line that cannot be read.
+/// A line that cannot be read.
 #[tactic(auto, unfolding(crate::specs::Print::bad_line_text))]
-pub fn print_bad_line(line: u32, out: &mut [u8]) -> usize
-    requires { text_most ≤ length out.old }
-    ensures ends { result ≤ text_most }
-    ensures text { take result out.new ≡ bad_line_text line }
+pub fn put_bad_line<const N: usize>(line: u32, out: &mut Text<N>)
+    requires { length out.old + text_most ≤ N }
+    ensures fits { length out.new ≤ length out.old + text_most }
+    ensures text { out.new ≡ out.old ++ bad_line_text line }
 {
-    let sign = put(b'?', out, 0);
-    let first = put(b',', out, sign);
-    let number = put_decimal(DECIMAL_MOST, line, out, first);
-    let second = put(b',', out, number);
-    let third = put(b'-', out, second);
-    put(b'\n', out, third)
+    out.put_all(b"?,");
+    out.put_decimal(DECIMAL_MOST, line);
+    out.put_all(b",-\n");
 }

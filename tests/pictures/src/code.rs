@@ -17,9 +17,13 @@ fn block(text: &str, begins: &str) -> Result<Vec<String>, String> {
         .collect())
 }
 
+fn is_of_word(c: char) -> bool {
+    c.is_alphanumeric() || c == '_'
+}
+
 /// The word that a text begins with.
 pub fn word(text: &str) -> String {
-    let end = |c: char| !(c.is_alphanumeric() || c == '_');
+    let end = |c: char| !is_of_word(c);
     text.split(end).next().unwrap_or("").to_string()
 }
 
@@ -43,18 +47,23 @@ pub fn phases(tree: &Tree) -> Result<Vec<String>, String> {
     cases(tree, "crates/link/src/state.rt", "Phase")
 }
 
-/// The public methods of a struct of a crate.
+/// The calls of a struct of a crate: its public methods that promise the definition of a call, `x` that of `x_call`.
+/// Others on the same struct only read it, build it, or make a call in place.
 pub fn methods(tree: &Tree, krate: &str, name: &str) -> Result<Names, String> {
     let (folder, mut found) = (format!("crates/{krate}/src"), Names::new());
     for file in tree.names(&folder) {
         let text = tree.read(&format!("{folder}/{file}"))?;
-        let Ok(lines) = block(&text, &format!("impl {name} {{")) else {
-            continue;
-        };
-        let heads = lines
-            .iter()
-            .filter_map(|line| line.strip_prefix("    pub fn "));
-        found.extend(heads.map(word));
+        for own in text.split(&format!("\nimpl {name} {{\n")).skip(1) {
+            let own = own.split("\n}\n").next().unwrap_or("");
+            for method in own.split("\n    pub fn ").skip(1) {
+                let (call, contract) = (word(method), method.split("\n    {\n").next());
+                let promised = format!("{call}_call");
+                let mut words = contract.unwrap_or("").split(|c: char| !is_of_word(c));
+                if words.any(|word| word == promised) {
+                    found.insert(call);
+                }
+            }
+        }
     }
     Ok(found)
 }
@@ -102,7 +111,9 @@ pub fn carried_in(tree: &Tree, call: &str) -> Result<Option<Names>, String> {
         if let Some((_, behind)) = line.split_once(" when_") {
             found.insert(camel(&word(behind)));
         } else if let Some((head, _)) = line.split_once(" = carried") {
-            let pattern = head.rsplit_once('(').ok_or(format!("{call}_in: '{line}'"))?;
+            let pattern = head
+                .rsplit_once('(')
+                .ok_or(format!("{call}_in: '{line}'"))?;
             found.insert(word(pattern.1));
         }
     }
@@ -175,7 +186,7 @@ pub fn crates(tree: &Tree) -> Result<Crates, String> {
 /// The names that a file of code, definitions or theorems defines.
 pub fn defined(path: &str, text: &str) -> Names {
     let kinds: &[&str] = if path.ends_with(".rt") {
-        &["pub ", "extern \"C\" ", "fn ", "struct ", "enum ", "const "]
+        &["pub ", "extern \"C\" ", "fn ", "struct ", "enum ", "trait ", "const "]
     } else {
         &["abbrev ", "unfoldable ", "pub ", "record ", "data "]
     };

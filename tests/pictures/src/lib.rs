@@ -343,7 +343,7 @@ pub fn groups(tree: &Tree) -> Result<Faults, String> {
     }
     for (name, others) in &crates.direct {
         // what only hands on to another crate stands on that alone
-        let lowest = ["common", "console"].contains(&name.as_str()) || name.ends_with("_c");
+        let lowest = name == "common" || name.ends_with("_c");
         if others.contains("common") == lowest {
             faults.push(format!("groups.svg: {name} and common"));
         }

@@ -96,8 +96,9 @@ fn phases_that_the_code_leaves_behind() {
     told(phases, state, phase, "\"CountAwaited\" is missing");
     let calls = "crates/controller/src/link_calls.rt";
     let call = [
-        "    pub fn reset(self)",
-        "    pub fn stop(self) -> Reply {}\n    pub fn reset(self)",
+        "    pub fn reset(mut self)",
+        "    pub fn stop(self) -> Reply<Controller>\n        ensures { told result ≡ stop_call self }\n    \
+         {\n    }\n\n    pub fn reset(mut self)",
     ];
     told(phases, calls, call, "calls: \"stop\" is missing");
     let machine = "crates/controller/specs/Machine.antt";
@@ -249,10 +250,7 @@ fn groups_that_are_wrong() {
     told(
         groups,
         crates,
-        [
-            "table: common status operations\n",
-            "table: common status operations\nfleet: common\n",
-        ],
+        ["table_main: ", "fleet: common\ntable_main: "],
         "\"fleet\" is missing",
     );
 }

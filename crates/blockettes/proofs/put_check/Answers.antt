@@ -1,27 +1,14 @@
 -- `blockettes::put_check` meets its contract: the whole ones first, then what there is of the last, and upward all are
 -- those of the parity.
 -- Assumes nothing.
-use mathlib.Core.Path.{◌≡◌, refl, ap, ◌∙◌}
+use mathlib.Core.Path.{◌≡◌, ap, ◌∙◌}
 use mathlib.Core.List.{List}
 use Prim.Native.Nat.{ℕ, ◌+◌, ◌-◌, ◌/◌}
 use native.Mathlib.Omega.{arith}
 use lib.ListN.{replicate}
-use Rattle.blockettes.specs.Xor.{xor_all}
 use Rattle.blockettes.specs.Blockettes.{of_parity, fold_upward, check_of}
-use Rattle.blockettes.proofs.Several.{upward_turn, upward_all, upward_is_parity}
+use Rattle.blockettes.proofs.Several.{upward_all, upward_is_parity}
 use Rattle.blockettes.proofs.put_check.Goals as goal
-
-pub loop-t-init : goal.loop-t-init
-unfolding fold_upward xor_all
-loop-t-init c =
-    let done = c.min-whole.result in
-    let none : done - done ≡ 0 = omega arith in
-    rw none refl
-
-pub loop-t-preserved : goal.loop-t-preserved
-loop-t-preserved c =
-    let l = c.loop-t in
-    upward_turn _ _ _ _ _ _ _ l.auto.t l.invariant c.xor_at.ensures
 
 pub returns : goal.returns
 unfolding check_of of_parity

@@ -1,7 +1,7 @@
 -- What the contracts of the calls' own functions allow, as the toolchain reads them: exactly the machine's answer
 -- (`answers_are_steps`, `steps_are_allowed`). And the functions meet them (`Meet`).
 -- Assumes nothing.
-use mathlib.Core.Path.{◌≡◌, refl, ap, ap₂, ◌∙◌}
+use mathlib.Core.Path.{◌≡◌, refl, sym, ap, ap₂, ◌∙◌}
 use mathlib.Core.List.{List, []}
 use contract.Lifetimes.{Lfts}
 use denote.Ref.{Bor, MutBor, at_last}
@@ -9,11 +9,15 @@ use Prim.Native.Nat.{ℕ}
 use Rattle.transfers.specs.Results.{Result, result_of}
 use Rattle.transfers.specs.Data.{Host, host_of}
 use Rattle.controller.specs.declared.controller.Controller.{Controller}
-use Rattle.controller.specs.declared.controller.Reply.{Reply}
-use Rattle.controller.specs.declared.controller.Transfer.{Transfer}
+use Rattle.controller.specs.declared.controller.Answer.{Answer as Told}
+use Rattle.controller.specs.declared.controller.Given.{Given}
+use Rattle.controller.specs.declared.controller.Reply.{Reply as Replied}
+use Rattle.controller.specs.Told.{Reply, told}
+use Rattle.controller.proofs.ToldAnswers.{ToldBy, byte_told, taken_told, broken_told, report_told, tick_told}
+use Rattle.controller.proofs.ToldAnswers.{reset_told, hand_told, data_told, result_told}
 use Rattle.controller.specs.Records.{Answer, answered}
-use Rattle.controller.specs.Machine.{byte_call, taken_call, broken_call, report_call, data_call, result_call, tick_call}
-use Rattle.controller.specs.Machine.{reset_call, hand_call, Call, plain, step}
+use Rattle.controller.specs.Machine.{data_call, result_call}
+use Rattle.controller.specs.Machine.{Call, plain, step}
 use Rattle.controller.specs.Machine.Call.{byte, taken, broken, report, host_data, result, tick, reset, hand}
 use Rattle.controller.proofs.controller.Controller.byte.Reads as byte-reads
 use Rattle.controller.proofs.controller.Controller.taken.Reads as taken-reads
@@ -42,16 +46,16 @@ use Rattle.controller.proofs.controller.Controller.reset.Met as reset-met
 use Rattle.controller.proofs.controller.Controller.hand.Met as hand-met
 use Rattle.controller.proofs.controller.Controller.reset.Statement as reset-statement
 use Rattle.controller.proofs.controller.Controller.hand.Statement as hand-statement
-use Rattle.controller.proofs.controller.fresh_controller.Met as fresh-met
-use Rattle.controller.proofs.controller.fresh_controller.Statement as fresh-statement
+use Rattle.controller.proofs.controller.Controller.fresh.Met as fresh-met
+use Rattle.controller.proofs.controller.Controller.fresh.Statement as fresh-statement
 
 -- ---- what the contracts promise
 
 -- the answer of a call that is lent nothing
-pub record Plainly (Promise : Reply → Type 0) (answer : Answer) : Type 0 where
-  pub reply : Reply
+pub record Plainly (Promise : Replied Controller Told → Type 0) (answer : Answer) : Type 0 where
+  pub reply : Replied Controller Told
   pub promise : Promise reply
-  pub same : answer ≡ plain reply
+  pub same : answer ≡ plain (told reply)
 
 -- the answer of a call that is lent space: three slices of the data call, four of the result, wherever they lie
 pub record DataLent (c : Controller) (host : Host) (space check : List ℕ) (answer : Answer) : Type 0 where
@@ -59,7 +63,7 @@ pub record DataLent (c : Controller) (host : Host) (space check : List ℕ) (ans
   pub host_slice : Bor (List ℕ)
   pub space_slice : MutBor (List ℕ)
   pub check_slice : MutBor (List ℕ)
-  pub transfer : Transfer
+  pub transfer : Replied Controller Given
   pub holds_host : host_of host_slice.now host.place ≡ host
   pub holds_space : space_slice.now ≡ space
   pub holds_check : check_slice.now ≡ check
@@ -74,7 +78,7 @@ pub record ResultLent (c : Controller) (r : Result) (space check : List ℕ) (an
   pub marks_slice : Bor (List ℕ)
   pub space_slice : MutBor (List ℕ)
   pub check_slice : MutBor (List ℕ)
-  pub transfer : Transfer
+  pub transfer : Replied Controller Given
   pub holds_image : image_slice.now ≡ r.image
   pub holds_marks : marks_slice.now ≡ r.marks
   pub holds_space : space_slice.now ≡ space
@@ -105,21 +109,19 @@ shown bytes = record { ref_ptr = (0, 0); now = bytes }
 abbrev somewhere : List ℕ → MutBor (List ℕ)
 somewhere bytes = record { ref_ptr = (0, 0); ghost_name = 0; now = bytes }
 
-abbrev handed_back : Answer → Transfer
-handed_back answer = record { reply = answer.reply; bytes = answer.bytes }
-
 -- what the contract of a call's own function allows as its answer
 unfoldable pub Allows : Controller → Call → Answer → Type 0
-Allows c (byte b) = Plainly (λ (r : Reply). byte-reads.Post tt (c, (b, tt)) r (c, (b, tt)))
-Allows c taken = Plainly (λ (r : Reply). taken-reads.Post tt (c, tt) r (c, tt))
-Allows c broken = Plainly (λ (r : Reply). broken-reads.Post tt (c, tt) r (c, tt))
+Allows c (byte b) = Plainly (λ (r : Replied Controller Told). byte-reads.Post tt (c, (b, tt)) r (c, (b, tt)))
+Allows c taken = Plainly (λ (r : Replied Controller Told). taken-reads.Post tt (c, tt) r (c, tt))
+Allows c broken = Plainly (λ (r : Replied Controller Told). broken-reads.Post tt (c, tt) r (c, tt))
 Allows c (report drive bits) =
-    Plainly (λ (r : Reply). report-reads.Post tt (c, (drive, (bits, tt))) r (c, (drive, (bits, tt))))
-Allows c tick = Plainly (λ (r : Reply). tick-reads.Post tt (c, tt) r (c, tt))
+    Plainly (λ (r : Replied Controller Told). report-reads.Post tt (c, (drive, (bits, tt))) r (c, (drive, (bits, tt))))
+Allows c tick = Plainly (λ (r : Replied Controller Told). tick-reads.Post tt (c, tt) r (c, tt))
 Allows c (host_data host space check) = DataLent c host space check
 Allows c (result r space check) = ResultLent c r space check
-Allows c reset = Plainly (λ (r : Reply). reset-reads.Post tt (c, tt) r (c, tt))
-Allows c (hand store) = Plainly (λ (r : Reply). hand-reads.Post tt (c, (store, tt)) r (c, (store, tt)))
+Allows c reset = Plainly (λ (r : Replied Controller Told). reset-reads.Post tt (c, tt) r (c, tt))
+Allows c (hand store) =
+    Plainly (λ (r : Replied Controller Told). hand-reads.Post tt (c, (store, tt)) r (c, (store, tt)))
 
 -- an allowed answer is the machine's
 pub answers_are_steps : (c : Controller) (call : Call) (answer : Answer) → Allows c call answer → answer ≡ step c call
@@ -144,25 +146,29 @@ answers_are_steps c (result r space check) answer allowed =
 answers_are_steps c reset answer allowed = allowed.same ∙ ap plain allowed.promise
 answers_are_steps c (hand store) answer allowed = allowed.same ∙ ap plain allowed.promise
 
+-- an answer that a value of the program tells
+plainly : {r : Reply} → ToldBy r → Plainly (λ (reply : Replied Controller Told). told reply ≡ r) (plain r)
+plainly t = record { reply = t.reply; promise = t.same; same = ap plain (sym t.same) }
+
 -- the machine's own answer is allowed
 pub steps_are_allowed : (c : Controller) (call : Call) → Allows c call (step c call)
 unfolding Allows step
-steps_are_allowed c (byte b) = record { reply = byte_call c b; promise = refl; same = refl }
-steps_are_allowed c taken = record { reply = taken_call c; promise = refl; same = refl }
-steps_are_allowed c broken = record { reply = broken_call c; promise = refl; same = refl }
-steps_are_allowed c (report drive bits) = record { reply = report_call c drive bits; promise = refl; same = refl }
+steps_are_allowed c (byte b) = plainly (byte_told c b)
+steps_are_allowed c taken = plainly (taken_told c)
+steps_are_allowed c broken = plainly (broken_told c)
+steps_are_allowed c (report drive bits) = plainly (report_told c drive bits)
 steps_are_allowed c (host_data host space check) =
     record {
       lifetimes = ([], ([], ([], tt)));
       host_slice = shown host.bytes;
       space_slice = somewhere space;
       check_slice = somewhere check;
-      transfer = handed_back (data_call c host space check);
+      transfer = (data_told c host space check).reply;
       holds_host = refl;
       holds_space = refl;
       holds_check = refl;
-      promise = refl;
-      same = refl;
+      promise = sym (data_told c host space check).same;
+      same = (data_told c host space check).same;
     }
 steps_are_allowed c (result r space check) =
     record {
@@ -171,17 +177,17 @@ steps_are_allowed c (result r space check) =
       marks_slice = shown r.marks;
       space_slice = somewhere space;
       check_slice = somewhere check;
-      transfer = handed_back (result_call c r space check);
+      transfer = (result_told c r space check).reply;
       holds_image = refl;
       holds_marks = refl;
       holds_space = refl;
       holds_check = refl;
-      promise = refl;
-      same = refl;
+      promise = sym (result_told c r space check).same;
+      same = (result_told c r space check).same;
     }
-steps_are_allowed c tick = record { reply = tick_call c; promise = refl; same = refl }
-steps_are_allowed c reset = record { reply = reset_call c; promise = refl; same = refl }
-steps_are_allowed c (hand store) = record { reply = hand_call c store; promise = refl; same = refl }
+steps_are_allowed c tick = plainly (tick_told c)
+steps_are_allowed c reset = plainly (reset_told c)
+steps_are_allowed c (hand store) = plainly (hand_told c store)
 
 -- ---- the functions
 

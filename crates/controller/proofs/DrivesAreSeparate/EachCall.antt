@@ -12,7 +12,7 @@ use Rattle.operations.specs.declared.store.Store.{Store}
 use Rattle.operations.specs.Store.{names_drive}
 use Rattle.link.specs.declared.state.Phase.{Phase}
 use Rattle.link.specs.declared.state.Phase.TheVariants.{Collecting, AckOffered}
-use Rattle.link.specs.declared.state.Transition.{Transition}
+use Rattle.link.specs.State.{Transition}
 use Rattle.controller.specs.declared.controller.Controller.{Controller}
 use Rattle.link.specs.Bytes.{ack}
 use Rattle.controller.specs.Controller.{carried}

@@ -17,7 +17,7 @@ use Rattle.operations.specs.declared.decode.Decoded.TheVariants.{Reset, Code, Tr
 use Rattle.operations.specs.Operation.{move_of, order_byte}
 use Rattle.operations.specs.Test.{may_move}
 use Rattle.status.specs.declared.drives.Drive.{Drive}
-use Rattle.status.specs.declared.drives.Drives.{Drives}
+use Rattle.status.specs.Drives.{Drives}
 use Rattle.status.specs.Drives.{drive_of, copy_report, with_track, with_density, with_guard}
 use Rattle.link.specs.Frames.{order_of}
 use Rattle.status.proofs.DriveLaws.{put_same, put_other}
@@ -25,7 +25,7 @@ use Rattle.operations.specs.declared.store.Store.{Store}
 use Rattle.link.specs.declared.state.Body.{Body}
 use Rattle.controller.specs.declared.controller.Controller.{Controller}
 use Rattle.link.specs.declared.state.Action.TheVariants.{Order}
-use Rattle.link.specs.declared.state.Transition.{Transition}
+use Rattle.link.specs.State.{Transition}
 use Rattle.link.specs.State.{with_selected, with_flags, with_outcome, with_current_drive}
 use Rattle.operations.specs.Codes.{illegal_drive, illegal_motion}
 use Rattle.operations.specs.Store.{names_drive, named_drive, names_unknown, selected_by, asked_for, asked_in}

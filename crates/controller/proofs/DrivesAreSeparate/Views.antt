@@ -18,7 +18,7 @@ use Rattle.link.specs.State.{when_in_hand}
 use Rattle.controller.specs.declared.controller.Controller.{Controller}
 use Rattle.link.specs.declared.state.Action.{Action}
 use Rattle.link.specs.declared.state.Action.TheVariants.{Nothing, Byte, Text, Order}
-use Rattle.link.specs.declared.state.Transition.{Transition}
+use Rattle.link.specs.State.{Transition}
 use Rattle.operations.specs.Store.{names_drive, named_drive, asked_for}
 use Rattle.controller.specs.Controller.{carried, refused}
 use Rattle.controller.specs.Machine.{Call, Exchange}

@@ -31,7 +31,7 @@ use Rattle.operations.specs.Store.{asks_interrupt, names_drive, named_drive, nam
 use Rattle.operations.specs.Course.{test_of, course_of}
 use Rattle.link.specs.declared.state.Phase.{Phase}
 use Rattle.link.specs.declared.state.Body.{Body}
-use Rattle.link.specs.declared.state.Transition.{Transition}
+use Rattle.link.specs.State.{Transition}
 use Rattle.link.specs.State.{when_in_hand, start_body, with_selected, with_flags, with_outcome, with_current_drive}
 use Rattle.link.specs.State.{current_drive}
 use Rattle.link.specs.State.{review, idle, reset_state}

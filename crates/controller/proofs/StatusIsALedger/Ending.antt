@@ -10,7 +10,7 @@ use lib.ListN.{length, drop, length-drop}
 use lib.Seq.{length-take-le}
 use Rattle.common.specs.Pick.{pick}
 use Rattle.common.proofs.PickLaws.{pick_by, pick_yes}
-use Rattle.marks.specs.declared.Findings.{Findings}
+use Rattle.marks.specs.Scan.{Findings}
 use Rattle.marks.specs.Scan.{is_found, findings_of}
 use Rattle.records.specs.Count.{unrotated, count_of}
 use Rattle.records.specs.Image.{blockette_count}
@@ -25,7 +25,7 @@ use Rattle.operations.specs.declared.store.Store.{Store}
 use Rattle.operations.specs.Operation.{order_byte, move_of, same_operation, supplies_count, is_read}
 use Rattle.operations.specs.After.{motion_of, retry_of}
 use Rattle.operations.specs.Store.{held_count, supplied_count}
-use Rattle.transfers.specs.declared.verdict.Verdict.{Verdict}
+use Rattle.transfers.specs.Results.{Verdict}
 use Rattle.transfers.specs.declared.after.Words.{Words}
 use Rattle.transfers.specs.Results.{Result, result_refusal, is_gone, marks_read, findings_read, code_reported}
 use Rattle.transfers.specs.Results.{final_code}

@@ -12,8 +12,8 @@ use lib.Seq.{drop-cons}
 use borrow.Author.Tests.{lt-ltb, le-ltb}
 use Rattle.common.specs.Pick.{pick}
 use Rattle.common.proofs.PickLaws.{pick_yes, pick_no}
-use Rattle.marks.specs.declared.Defect.{Defect}
-use Rattle.marks.specs.declared.Findings.{Findings}
+use Rattle.marks.specs.Scan.{Defect}
+use Rattle.marks.specs.Scan.{Findings}
 use Rattle.marks.specs.declared.Scan.{Scan}
 use Rattle.marks.specs.Marks.{is_error, torn_marks}
 use Rattle.marks.specs.Scan.{scan_from, scan_marks, kind_of, number_of, defect_at, is_found, findings_of}

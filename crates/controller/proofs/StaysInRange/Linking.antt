@@ -11,7 +11,7 @@ use borrow.Author.Tests.{eqb-true, eqb-false}
 use Rattle.common.specs.Pick.{pick}
 use Rattle.common.proofs.PickLaws.{by_either, pick_by, pick_no}
 use Rattle.status.specs.declared.drives.Drive.{Drive}
-use Rattle.status.specs.declared.drives.Drives.{Drives}
+use Rattle.status.specs.Drives.{Drives}
 use Rattle.status.specs.declared.words.Outcome.{Outcome}
 use Rattle.status.specs.declared.words.Word.{Word}
 use Rattle.status.specs.Drives.{installed, reports, drive_of, with_drive, with_report, copy_report, copy_reports}
@@ -25,7 +25,7 @@ use Rattle.link.specs.declared.state.Send.{Send}
 use Rattle.link.specs.declared.state.Phase.TheVariants.{Collecting}
 use Rattle.link.specs.declared.state.Body.{Body}
 use Rattle.link.specs.declared.state.Action.{Action}
-use Rattle.link.specs.declared.state.Transition.{Transition}
+use Rattle.link.specs.State.{Transition}
 use Rattle.link.specs.State.{nothing_collected, with_drives, with_flags, with_outcome, with_selected}
 use Rattle.link.specs.State.{with_current_drive}
 use Rattle.link.specs.State.{current_drive, note_report, review, start_body, reset_state, keep_collecting, idle}
@@ -55,21 +55,21 @@ pub record Within (t : Transition) : Type 0 where
 pub drive_of_lem : (ds : Drives) (n : ℕ) → DrivesInRange ds → DriveInRange (drive_of ds n)
 unfolding drive_of
 drive_of_lem ds n all =
-    pick_by (λ (d : Drive). DriveInRange d) (eqb n 0) (λ e. all.d0)
-    (λ e. pick_by (λ (d : Drive). DriveInRange d) (eqb n 1) (λ f. all.d1)
-    (λ f. pick_by (λ (d : Drive). DriveInRange d) (eqb n 2) (λ g. all.d2) (λ g. all.d3)))
+    pick_by (λ (d : Drive). DriveInRange d) (eqb n 0) (λ e. all.zero)
+    (λ e. pick_by (λ (d : Drive). DriveInRange d) (eqb n 1) (λ f. all.one)
+    (λ f. pick_by (λ (d : Drive). DriveInRange d) (eqb n 2) (λ g. all.two) (λ g. all.three)))
 
 pub with_drive_lem : (ds : Drives) (n : ℕ) (d : Drive) → DrivesInRange ds → DriveInRange d
     → DrivesInRange (with_drive ds n d)
 unfolding with_drive
 with_drive_lem ds n d all one =
     pick_by (λ (d : Drives). DrivesInRange d) (eqb n 0)
-    (λ e. record { d0 = one; d1 = all.d1; d2 = all.d2; d3 = all.d3 })
+    (λ e. record { zero = one; one = all.one; two = all.two; three = all.three })
     (λ e. pick_by (λ (d : Drives). DrivesInRange d) (eqb n 1)
-    (λ f. record { d0 = all.d0; d1 = one; d2 = all.d2; d3 = all.d3 })
+    (λ f. record { zero = all.zero; one = one; two = all.two; three = all.three })
     (λ f. pick_by (λ (d : Drives). DrivesInRange d) (eqb n 2)
-    (λ g. record { d0 = all.d0; d1 = all.d1; d2 = one; d3 = all.d3 })
-    (λ g. record { d0 = all.d0; d1 = all.d1; d2 = all.d2; d3 = one })))
+    (λ g. record { zero = all.zero; one = all.one; two = one; three = all.three })
+    (λ g. record { zero = all.zero; one = all.one; two = all.two; three = one })))
 
 pub with_report_lem : (d : Drive) (r : ℕ) → DriveInRange d → r < 256 → DriveInRange (with_report d r)
 unfolding with_report
@@ -96,10 +96,10 @@ all_copied : (ds : Drives) → DrivesInRange ds → DrivesInRange (copy_reports 
 unfolding copy_reports
 all_copied ds all =
     record {
-      d0 = copied ds.d0 all.d0;
-      d1 = copied ds.d1 all.d1;
-      d2 = copied ds.d2 all.d2;
-      d3 = copied ds.d3 all.d3;
+      zero = copied ds.zero all.zero;
+      one = copied ds.one all.one;
+      two = copied ds.two all.two;
+      three = copied ds.three all.three;
     }
 
 fresh_drive : (report : ℕ) → report < 256 → DriveInRange (fresh_with report)
@@ -110,16 +110,16 @@ fresh_drives_lem : DrivesInRange fresh_drives
 unfolding fresh_drives
 fresh_drives_lem =
     let one = fresh_drive 4 (omega arith) in
-    record { d0 = one; d1 = one; d2 = one; d3 = one }
+    record { zero = one; one = one; two = one; three = one }
 
 reset_drives_lem : (ds : Drives) → DrivesInRange ds → DrivesInRange (reset_drives ds)
 unfolding reset_drives
 reset_drives_lem ds all =
     record {
-      d0 = fresh_drive _ all.d0.report;
-      d1 = fresh_drive _ all.d1.report;
-      d2 = fresh_drive _ all.d2.report;
-      d3 = fresh_drive _ all.d3.report;
+      zero = fresh_drive _ all.zero.report;
+      one = fresh_drive _ all.one.report;
+      two = fresh_drive _ all.two.report;
+      three = fresh_drive _ all.three.report;
     }
 
 -- ---- the body with a part set anew
@@ -293,7 +293,7 @@ secondary_word_lem count = record { b0 = omega arith; b1 = omega arith; b2 = ome
 reports_word_lem : (ds : Drives) → DrivesInRange ds → WordInRange (reports_word ds)
 unfolding reports_word
 reports_word_lem ds all =
-    record { b0 = all.d0.report; b1 = all.d1.report; b2 = all.d2.report; b3 = all.d3.report }
+    record { b0 = all.zero.report; b1 = all.one.report; b2 = all.two.report; b3 = all.three.report }
 
 load_word_lem : (b : Body) (operation : ℕ) → BodyInRange b → WordInRange (load_word b operation)
 unfolding load_word

@@ -30,7 +30,7 @@ use Rattle.operations.specs.Codes.{no_go}
 use Rattle.operations.specs.Store.{asks_interrupt, names_drive, named_drive, names_unknown, selected_by, asked_for}
 use Rattle.operations.specs.Store.{asked_in}
 use Rattle.link.specs.declared.state.Body.{Body}
-use Rattle.link.specs.declared.state.Transition.{Transition}
+use Rattle.link.specs.State.{Transition}
 use Rattle.link.specs.Bytes.{ack}
 use Rattle.link.specs.Frames.{order_of}
 use Rattle.link.specs.State.{with_selected, with_outcome}

@@ -11,8 +11,8 @@ use lib.ListN.{length, get_or, length-take, get_or-eq_default}
 use borrow.Author.Tests.{eqb-true, leb-true, leb-false, ltb-true, ltb-false, not-false}
 use Rattle.common.specs.Pick.{pick}
 use Rattle.common.proofs.PickLaws.{by_test, by_either, both_hold, pick_by, not_refused_lem}
-use Rattle.marks.specs.declared.Defect.{Defect}
-use Rattle.marks.specs.declared.Findings.{Findings}
+use Rattle.marks.specs.Scan.{Defect}
+use Rattle.marks.specs.Scan.{Findings}
 use Rattle.marks.specs.Marks.{legal_marks}
 use Rattle.marks.specs.Scan.{number_of, defect_at, findings_of, scan_marks, is_found}
 use Rattle.records.specs.Count.{limit, count_of}
@@ -42,7 +42,7 @@ use Rattle.transfers.specs.declared.after.Words.{Words}
 use Rattle.transfers.specs.declared.after.After.{After}
 use Rattle.transfers.specs.declared.expected.Expected.{Expected}
 use Rattle.transfers.specs.declared.expected.Expected.TheVariants.{Whole, Supplied, Count, Nothing}
-use Rattle.transfers.specs.declared.verdict.Verdict.{Verdict}
+use Rattle.transfers.specs.Results.{Verdict}
 use Rattle.transfers.specs.Expected.{unmarked_refusal, image_refusal, expected_of}
 use Rattle.transfers.specs.Data.{check_store, Host, write_image, data_refusal, data_words}
 use Rattle.transfers.specs.Results.{Result, mark_against, result_refusal, code_reported, final_code, findings_read}

@@ -13,8 +13,8 @@ use Rattle.link.specs.declared.state.Send.{Send}
 use Rattle.link.specs.declared.state.Body.{Body}
 use Rattle.link.specs.declared.state.Action.{Action}
 use Rattle.link.specs.declared.state.Phase.TheVariants.{Collecting}
-use Rattle.link.specs.declared.state.Handed.TheVariants.{NoneHanded}
-use Rattle.link.specs.declared.state.Transition.{Transition}
+use Rattle.std.specs.Prelude.{None}
+use Rattle.link.specs.State.{Transition}
 use Rattle.link.specs.Bytes.{ack, nack, load_lead, store_lead, most_noes}
 use Rattle.link.specs.State.{review, idle}
 use Rattle.link.specs.Completion.{send_word, send_interrupt, complete}
@@ -24,7 +24,7 @@ use Rattle.link.specs.Link.{no_to_send, collect_byte, answer_to_send, tick_after
 use Rattle.link.specs.Loads.{carry_out_load}
 
 abbrev pub Unhanded : Transition → Type 0
-Unhanded t = t.handed ≡ NoneHanded
+Unhanded t = t.handed ≡ None
 
 pub idle_unhanded : (b : Body) (action : Action) → Unhanded (idle b action)
 unfolding idle

@@ -23,7 +23,7 @@ use Rattle.link.specs.declared.state.Phase.TheVariants.{Collecting, AckOffered, 
 use Rattle.link.specs.declared.state.Body.{Body}
 use Rattle.link.specs.declared.state.Action.{Action}
 use Rattle.link.specs.declared.state.Action.TheVariants.{Nothing, Byte, Text, Order}
-use Rattle.link.specs.declared.state.Transition.{Transition}
+use Rattle.link.specs.State.{Transition}
 use Rattle.status.specs.declared.words.ResultRecord.{ResultRecord}
 use Rattle.link.specs.State.{when_in_hand, with_flags, with_outcome, review, idle}
 use Rattle.link.proofs.PhaseLaws.{each_phase}

@@ -32,7 +32,7 @@ use Rattle.link.specs.declared.state.Phase.TheVariants.{ResultAwaited, EndOffere
 use Rattle.link.specs.declared.state.Body.{Body}
 use Rattle.link.specs.declared.state.Action.{Action}
 use Rattle.link.specs.declared.state.Action.TheVariants.{Nothing, Byte, Text, Order}
-use Rattle.link.specs.declared.state.Transition.{Transition}
+use Rattle.link.specs.State.{Transition}
 use Rattle.status.specs.declared.words.ResultRecord.{ResultRecord}
 use Rattle.link.specs.State.{with_flags, with_outcome, current_drive, review, idle}
 use Rattle.link.specs.Bytes.{ack, nack, load_lead, store_lead, load_reply, secondary_update, interrupt, most_noes}

@@ -11,7 +11,7 @@ use borrow.Author.Tests.{eqb-true, eqb-false}
 use Rattle.common.specs.Pick.{pick}
 use Rattle.common.proofs.PickLaws.{by_test, pick_by}
 use Rattle.status.specs.declared.drives.Drive.{Drive}
-use Rattle.status.specs.declared.drives.Drives.{Drives}
+use Rattle.status.specs.Drives.{Drives}
 use Rattle.status.specs.declared.words.ResultRecord.{ResultRecord}
 use Rattle.status.specs.declared.words.Word.{Word}
 use Rattle.status.specs.Drives.{drive_of, with_drive, copy_report, copy_reports, any_differs}
@@ -32,8 +32,8 @@ use Rattle.link.specs.declared.state.Phase.TheVariants.{ResultAwaited, EndOffere
 use Rattle.link.specs.declared.state.Body.{Body}
 use Rattle.link.specs.declared.state.Action.{Action}
 use Rattle.link.specs.declared.state.Action.TheVariants.{Nothing, Byte}
-use Rattle.link.specs.declared.state.Handed.TheVariants.{NoneHanded}
-use Rattle.link.specs.declared.state.Transition.{Transition}
+use Rattle.std.specs.Prelude.{None}
+use Rattle.link.specs.State.{Transition}
 use Rattle.link.specs.Bytes.{nack, load_lead, store_lead, interrupt}
 use Rattle.link.specs.Frames.{string_of}
 use Rattle.link.specs.State.{with_flags, with_outcome, current_drive, review, idle}
@@ -345,7 +345,7 @@ module _ (l : Ledger) (w : Words) where
     Collects t = Tells (collects f l t.action) t
 
     kept_told : (s : Collected) (agreed : Agreed l w b)
-        → Told (quiet f nothing) (record { body = b; phase = Collecting s; action = Nothing; handed = NoneHanded })
+        → Told (quiet f nothing) (record { body = b; phase = Collecting s; action = Nothing; handed = None })
     unfolding awaited_in strings_of HeldChecks AllCheck
     kept_told s agreed = record { flags = flags; awaited = refl; sends = refl; checks = tt; held = tt }
 

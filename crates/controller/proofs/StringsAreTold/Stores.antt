@@ -28,7 +28,7 @@ use Rattle.operations.specs.Store.{asks_interrupt, names_drive, named_drive, nam
 use Rattle.operations.proofs.DensityLaws.{by_density}
 use Rattle.transfers.specs.declared.after.Words.{Words}
 use Rattle.link.specs.declared.state.Body.{Body}
-use Rattle.link.specs.declared.state.Transition.{Transition}
+use Rattle.link.specs.State.{Transition}
 use Rattle.link.specs.State.{with_flags, with_selected, with_outcome, with_current_drive, current_drive, start_body}
 use Rattle.link.specs.State.{reset_state}
 use Rattle.controller.specs.Stores.{past_test, settle, end_with, end_operation, order_move, begin, follow}

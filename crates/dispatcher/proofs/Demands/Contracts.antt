@@ -10,15 +10,19 @@ use Prim.Native.Nat.{ℕ}
 use Rattle.common.specs.Pick.{pick}
 use Rattle.transfers.specs.Results.{Result, result_of}
 use Rattle.transfers.specs.Data.{Host, host_of}
-use Rattle.controller.specs.declared.controller.Reply.{Reply}
+use Rattle.controller.specs.declared.controller.Answer.{Answer as Told}
+use Rattle.controller.specs.declared.controller.Given.{Given}
+use Rattle.controller.specs.declared.controller.Reply.{Reply as Replied}
+use Rattle.controller.specs.Told.{Reply}
+use Rattle.controller.proofs.ToldAnswers.{byte_told, taken_told, broken_told, report_told, tick_told, reset_told}
 use Rattle.controller.specs.Machine as machine
 use Rattle.controller.specs.Refused.{lent_space, lent_check}
 use Rattle.queues.specs.Jobs.{are_sound}
 use Rattle.dispatcher.specs.declared.dispatcher.Dispatcher.{Dispatcher}
-use Rattle.dispatcher.specs.declared.dispatcher.Dispatched.{Dispatched}
-use Rattle.dispatcher.specs.declared.dispatcher.DispatchedTransfer.{DispatchedTransfer}
+use Rattle.dispatcher.specs.Told.{Dispatched, told}
 use Rattle.dispatcher.specs.Dispatcher as dispatcher
 use Rattle.dispatcher.specs.Dispatcher.{Answer, answered}
+use Rattle.dispatcher.proofs.ToldAnswers.{ToldBy, passed_told, queue_told, hand_told, data_told, result_told}
 use Rattle.dispatcher.specs.Lists.{Call, plain, step}
 use Rattle.dispatcher.specs.Lists.Call.{queue, hand, passed}
 use Rattle.dispatcher.proofs.dispatcher.Dispatcher.queue.Reads as queue-reads
@@ -51,16 +55,16 @@ use Rattle.dispatcher.proofs.dispatcher.Dispatcher.tick.Met as tick-met
 use Rattle.dispatcher.proofs.dispatcher.Dispatcher.tick.Statement as tick-statement
 use Rattle.dispatcher.proofs.dispatcher.Dispatcher.reset.Met as reset-met
 use Rattle.dispatcher.proofs.dispatcher.Dispatcher.reset.Statement as reset-statement
-use Rattle.dispatcher.proofs.dispatcher.fresh_dispatcher.Met as fresh-met
-use Rattle.dispatcher.proofs.dispatcher.fresh_dispatcher.Statement as fresh-statement
+use Rattle.dispatcher.proofs.dispatcher.Dispatcher.fresh.Met as fresh-met
+use Rattle.dispatcher.proofs.dispatcher.Dispatcher.fresh.Statement as fresh-statement
 
 -- ---- what the contracts promise
 
 -- the answer of a call that is lent nothing
-pub record Plainly (Promise : Dispatched → Type 0) (answer : Answer) : Type 0 where
-  pub reply : Dispatched
+pub record Plainly (Promise : Replied Dispatcher Told → Type 0) (answer : Answer) : Type 0 where
+  pub reply : Replied Dispatcher Told
   pub promise : Promise reply
-  pub same : answer ≡ plain reply
+  pub same : answer ≡ plain (told reply)
 
 -- the answer of a call that is lent space: three slices of the data call, four of the result, wherever they lie
 pub record DataLent (d : Dispatcher) (host : Host) (space check : List ℕ) (answer : Answer) : Type 0 where
@@ -68,7 +72,7 @@ pub record DataLent (d : Dispatcher) (host : Host) (space check : List ℕ) (ans
   pub host_slice : Bor (List ℕ)
   pub space_slice : MutBor (List ℕ)
   pub check_slice : MutBor (List ℕ)
-  pub transfer : DispatchedTransfer
+  pub transfer : Replied Dispatcher Given
   pub holds_host : host_of host_slice.now host.place ≡ host
   pub holds_space : space_slice.now ≡ space
   pub holds_check : check_slice.now ≡ check
@@ -83,7 +87,7 @@ pub record ResultLent (d : Dispatcher) (r : Result) (space check : List ℕ) (an
   pub marks_slice : Bor (List ℕ)
   pub space_slice : MutBor (List ℕ)
   pub check_slice : MutBor (List ℕ)
-  pub transfer : DispatchedTransfer
+  pub transfer : Replied Dispatcher Given
   pub holds_image : image_slice.now ≡ r.image
   pub holds_marks : marks_slice.now ≡ r.marks
   pub holds_space : space_slice.now ≡ space
@@ -114,27 +118,25 @@ shown bytes = record { ref_ptr = (0, 0); now = bytes }
 abbrev somewhere : List ℕ → MutBor (List ℕ)
 somewhere bytes = record { ref_ptr = (0, 0); ghost_name = 0; now = bytes }
 
-abbrev handed_back : Answer → DispatchedTransfer
-handed_back answer = record { reply = answer.reply; bytes = answer.bytes }
-
 -- of a call that is passed on; the controller's own handing is no call of the dispatcher
 unfoldable pub PassedAllows : Dispatcher → machine.Call → Answer → Type 0
-PassedAllows d (machine.byte b) = Plainly (λ (r : Dispatched). byte-reads.Post tt (d, (b, tt)) r (d, (b, tt)))
-PassedAllows d machine.taken = Plainly (λ (r : Dispatched). taken-reads.Post tt (d, tt) r (d, tt))
-PassedAllows d machine.broken = Plainly (λ (r : Dispatched). broken-reads.Post tt (d, tt) r (d, tt))
+PassedAllows d (machine.byte b) =
+    Plainly (λ (r : Replied Dispatcher Told). byte-reads.Post tt (d, (b, tt)) r (d, (b, tt)))
+PassedAllows d machine.taken = Plainly (λ (r : Replied Dispatcher Told). taken-reads.Post tt (d, tt) r (d, tt))
+PassedAllows d machine.broken = Plainly (λ (r : Replied Dispatcher Told). broken-reads.Post tt (d, tt) r (d, tt))
 PassedAllows d (machine.report drive bits) =
-    Plainly (λ (r : Dispatched). report-reads.Post tt (d, (drive, (bits, tt))) r (d, (drive, (bits, tt))))
-PassedAllows d machine.tick = Plainly (λ (r : Dispatched). tick-reads.Post tt (d, tt) r (d, tt))
+    Plainly (λ (r : Replied Dispatcher Told). report-reads.Post tt (d, (drive, (bits, tt))) r (d, (drive, (bits, tt))))
+PassedAllows d machine.tick = Plainly (λ (r : Replied Dispatcher Told). tick-reads.Post tt (d, tt) r (d, tt))
 PassedAllows d (machine.host_data host space check) = DataLent d host space check
 PassedAllows d (machine.result r space check) = ResultLent d r space check
-PassedAllows d machine.reset = Plainly (λ (r : Dispatched). reset-reads.Post tt (d, tt) r (d, tt))
+PassedAllows d machine.reset = Plainly (λ (r : Replied Dispatcher Told). reset-reads.Post tt (d, tt) r (d, tt))
 PassedAllows d (machine.hand store) = λ (answer : Answer). ⊥
 
 -- what the contract of a call's own function allows as its answer
 unfoldable pub Allows : Dispatcher → Call → Answer → Type 0
 Allows d (queue job store) =
-    Plainly (λ (r : Dispatched). queue-reads.Post tt (d, (job, (store, tt))) r (d, (job, (store, tt))))
-Allows d hand = Plainly (λ (r : Dispatched). hand-reads.Post tt (d, tt) r (d, tt))
+    Plainly (λ (r : Replied Dispatcher Told). queue-reads.Post tt (d, (job, (store, tt))) r (d, (job, (store, tt))))
+Allows d hand = Plainly (λ (r : Replied Dispatcher Told). hand-reads.Post tt (d, tt) r (d, tt))
 Allows d (passed call) = PassedAllows d call
 
 -- ---- the answers of a step
@@ -149,6 +151,11 @@ passed_plain : (d : Dispatcher) (reply : Reply)
     → plain (dispatcher.pass_on d reply) ≡ dispatcher.passed_answer d (machine.plain reply) [] []
 unfolding dispatcher.pass_on dispatcher.passed_answer
 passed_plain d reply = by_sound (are_sound d.queues) _ _
+
+-- an answer that is told, as it is allowed
+plainly : (answer : Answer) (r : Dispatched) (by : ToldBy r) → answer ≡ plain r
+    → Plainly (λ (reply : Replied Dispatcher Told). told reply ≡ r) answer
+plainly answer r by is = record { reply = by.reply; promise = by.same; same = is ∙ ap plain (sym by.same) }
 
 -- an allowed answer is that of a step
 pub answers_are_steps : (d : Dispatcher) (call : Call) (answer : Answer) → Allows d call answer → answer ≡ step d call
@@ -199,21 +206,20 @@ IsCall (passed machine.reset) = Unit
 -- the answer of its step is allowed
 pub steps_are_allowed : (d : Dispatcher) (call : Call) → IsCall call → Allows d call (step d call)
 unfolding Allows PassedAllows IsCall step machine.step lent_space lent_check
-steps_are_allowed d (queue job store) is =
-    record { reply = dispatcher.queue_call d job store; promise = refl; same = refl }
-steps_are_allowed d hand is = record { reply = dispatcher.hand_call d; promise = refl; same = refl }
+steps_are_allowed d (queue job store) is = plainly _ _ (queue_told d job store) refl
+steps_are_allowed d hand is = plainly _ _ (hand_told d) refl
 steps_are_allowed d (passed (machine.byte b)) is =
-    record { reply = dispatcher.byte_call d b; promise = refl; same = sym (passed_plain d _) }
+    plainly _ _ (passed_told d _ (byte_told d.controller b)) (sym (passed_plain d _))
 steps_are_allowed d (passed machine.taken) is =
-    record { reply = dispatcher.taken_call d; promise = refl; same = sym (passed_plain d _) }
+    plainly _ _ (passed_told d _ (taken_told d.controller)) (sym (passed_plain d _))
 steps_are_allowed d (passed machine.broken) is =
-    record { reply = dispatcher.broken_call d; promise = refl; same = sym (passed_plain d _) }
+    plainly _ _ (passed_told d _ (broken_told d.controller)) (sym (passed_plain d _))
 steps_are_allowed d (passed (machine.report drive bits)) is =
-    record { reply = dispatcher.report_call d drive bits; promise = refl; same = sym (passed_plain d _) }
+    plainly _ _ (passed_told d _ (report_told d.controller drive bits)) (sym (passed_plain d _))
 steps_are_allowed d (passed machine.tick) is =
-    record { reply = dispatcher.tick_call d; promise = refl; same = sym (passed_plain d _) }
+    plainly _ _ (passed_told d _ (tick_told d.controller)) (sym (passed_plain d _))
 steps_are_allowed d (passed machine.reset) is =
-    record { reply = dispatcher.reset_call d; promise = refl; same = sym (passed_plain d _) }
+    plainly _ _ (passed_told d _ (reset_told d.controller)) (sym (passed_plain d _))
 steps_are_allowed d (passed (machine.hand store)) is = absurd is
 steps_are_allowed d (passed (machine.host_data host space check)) is =
     record {
@@ -221,12 +227,12 @@ steps_are_allowed d (passed (machine.host_data host space check)) is =
       host_slice = shown host.bytes;
       space_slice = somewhere space;
       check_slice = somewhere check;
-      transfer = handed_back (dispatcher.data_call d host space check);
+      transfer = (data_told d host space check).reply;
       holds_host = refl;
       holds_space = refl;
       holds_check = refl;
-      promise = refl;
-      same = refl;
+      promise = sym (data_told d host space check).same;
+      same = (data_told d host space check).same;
     }
 steps_are_allowed d (passed (machine.result r space check)) is =
     record {
@@ -235,13 +241,13 @@ steps_are_allowed d (passed (machine.result r space check)) is =
       marks_slice = shown r.marks;
       space_slice = somewhere space;
       check_slice = somewhere check;
-      transfer = handed_back (dispatcher.result_call d r space check);
+      transfer = (result_told d r space check).reply;
       holds_image = refl;
       holds_marks = refl;
       holds_space = refl;
       holds_check = refl;
-      promise = refl;
-      same = refl;
+      promise = sym (result_told d r space check).same;
+      same = (result_told d r space check).same;
     }
 
 -- ---- the functions

@@ -14,7 +14,7 @@ use Rattle.transfers.specs.Results.{Result, result_of}
 use Rattle.controller.specs.Machine as machine
 use Rattle.controller.specs.Refused as controller-refused
 use Rattle.dispatcher.specs.declared.dispatcher.Dispatcher.{Dispatcher}
-use Rattle.dispatcher.specs.declared.dispatcher.Dispatched.{Dispatched}
+use Rattle.dispatcher.specs.Told.{Dispatched}
 use Rattle.dispatcher.specs.Dispatcher.{Answer}
 use Rattle.dispatcher.specs.Lists.{Call, plain, step}
 use Rattle.dispatcher.specs.Lists.Call.{queue, hand, passed}

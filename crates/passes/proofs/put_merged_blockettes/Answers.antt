@@ -1,7 +1,6 @@
 -- `passes::put_merged_blockettes` meets its contract: before each turn the merged blockettes of the earlier places
 -- stand before those of the first pass.
 -- Assumes nothing.
-use borrow.Author.Rules.{rules}
 use mathlib.Core.Path.{◌≡◌, ap, ap₂, ◌∙◌}
 use mathlib.Core.List.{List, ◌++◌}
 use Prim.Native.Nat.{ℕ, ◌+◌, ◌-◌, ◌*◌, ◌≤◌, ◌<◌}
@@ -74,19 +73,12 @@ module _ (first first_marks second second_marks : List ℕ) (one : length first 
         ap (λ (l : List ℕ). length l) put_is
         ∙ simp (length-append, length-drop, bytes_long (at + 1) (omega arith)) (omega arith)
 
-pub loop-at-init : goal.loop-at-init
-unfolding joined
-loop-at-init c = search rules
-
 pub loop-at-preserved : goal.loop-at-preserved
 loop-at-preserved c =
     let l = c.loop-at in
     let a = c.args in
-    let two = c.requires.second_len in let wide = c.requires.image_len in
+    let two = a.second.now.whole ∙ ap (λ (n : ℕ). 256 * n) c.requires.second_marks_len in
+    let wide = c.requires.image_len in
     let below : l.at < length a.first_marks.now = omega arith in
-    let new = c.put_merged_blockette.ensures in
-    let image_is = c.loop-at.invariant.1 in (
-      omega arith,
-      put_is a.image.now a.first_marks.now a.second.now a.second_marks.now wide two l.image _ l.at
-          below image_is new,
-    )
+    put_is a.image.now a.first_marks.now a.second.now.bytes.now a.second.now.marks.now wide two l.image _ l.at below
+    c.loop-at.invariant c.put_merged_blockette.ensures

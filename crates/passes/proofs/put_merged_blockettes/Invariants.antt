@@ -3,8 +3,8 @@
 -- Assumes nothing.
 use mathlib.Core.Path.{◌≡◌}
 use mathlib.Core.List.{List, ◌++◌}
-use Prim.Native.Nat.{ℕ, ◌-◌, ◌*◌, ◌≤◌}
-use lib.ListN.{length, get_or, drop}
+use Prim.Native.Nat.{ℕ, ◌*◌}
+use lib.ListN.{get_or, drop}
 use Rattle.passes.specs.Passes.{joined, merged_at}
 use Rattle.passes.proofs.put_merged_blockettes.Given as goal
 
@@ -14,9 +14,7 @@ parts first first_marks second second_marks place =
     merged_at first (get_or first_marks place 0) second (get_or second_marks place 0) place
 
 abbrev pub invariant-loop-at : goal.invariant-loop-at
-invariant-loop-at l = (l.at ≤ length l.first_marks)
-    × (l.image ≡ joined (parts l.initial.image l.first_marks l.second l.second_marks) l.at
-    ++ drop (256 * l.at) l.initial.image)
-
-abbrev pub decreases-loop-at : goal.decreases-loop-at
-decreases-loop-at l = length l.first_marks - l.at
+invariant-loop-at l =
+    l.image
+    ≡ joined (parts l.initial.image l.first_marks l.second.bytes.now l.second.marks.now) l.at
+    ++ drop (256 * l.at) l.initial.image

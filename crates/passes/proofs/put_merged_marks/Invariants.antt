@@ -3,8 +3,8 @@
 -- Assumes nothing.
 use mathlib.Core.Path.{◌≡◌}
 use mathlib.Core.List.{List, [], ◌∷◌, ◌++◌}
-use Prim.Native.Nat.{ℕ, ◌-◌, ◌≤◌}
-use lib.ListN.{length, get_or, drop}
+use Prim.Native.Nat.{ℕ}
+use lib.ListN.{get_or, drop}
 use Rattle.passes.specs.Passes.{joined, merged_mark}
 use Rattle.passes.proofs.put_merged_marks.Given as goal
 
@@ -17,8 +17,4 @@ abbrev pub tags : List ℕ → List ℕ → ℕ → List ℕ
 tags first_marks second_marks = joined (λ place. mark_at first_marks second_marks place ∷ [])
 
 abbrev pub invariant-loop-at : goal.invariant-loop-at
-invariant-loop-at l = (l.at ≤ length l.first_marks)
-    × (l.marks ≡ tags l.first_marks l.second_marks l.at ++ drop l.at l.initial.marks)
-
-abbrev pub decreases-loop-at : goal.decreases-loop-at
-decreases-loop-at l = length l.first_marks - l.at
+invariant-loop-at l = l.marks ≡ tags l.first_marks l.second_marks l.at ++ drop l.at l.initial.marks

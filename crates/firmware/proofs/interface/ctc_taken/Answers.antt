@@ -1,22 +1,16 @@
 -- `firmware::interface::ctc_taken` meets its contract.
 -- Assumes nothing.
-use mathlib.Core.Path.{sym, ◌∙◌}
+use mathlib.Core.Path.{refl}
+use borrow.Author.Rules.{rules}
 use Rattle.controller.specs.Machine as machine
 use Rattle.controller.specs.Refused as controller-refused
 use Rattle.dispatcher.specs.Refused.{lent_space, lent_check}
-use Rattle.firmware.proofs.CallLaws.{passed_on_none, passed_plainly, taken_steps}
+use Rattle.firmware.proofs.CallLaws.{passed_by}
 use Rattle.firmware.proofs.interface.ctc_taken.Goals as goal
 
-pub returns-then-not-has_sound_queues : goal.returns-then-not-has_sound_queues
-unfolding lent_space lent_check controller-refused.lent_space controller-refused.lent_check
-returns-then-not-has_sound_queues c =
-    let a = c.args in
-    passed_on_none machine.taken a.state.now a.answer.now
-    (sym c.has_sound_queues.ensures ∙ c.if-not-has_sound_queues.true)
-
 pub returns : goal.returns
+unfolding machine.step lent_space lent_check controller-refused.lent_space controller-refused.lent_check
 returns c =
     let a = c.args in
-    passed_plainly machine.taken a.state.now a.answer.now _ _ _ machine.taken_call
-    taken_steps (sym c.has_sound_queues.ensures ∙ c.if-not-has_sound_queues.false)
-    c.controller_of-c.ensures c.taken.ensures c.end_passed.ensures
+    passed_by machine.taken a.state.now a.answer.now _ refl refl c.on_state.ensures.none c.on_state.ensures.called
+    (λ told next ran. search rules)

@@ -9,11 +9,11 @@ use Rattle.layout.proofs.writing.put_controller_bytes.Goals as goal
 pub returns : goal.returns
 returns c =
     let space = c.args.space.now in
-    let f1 =
-    put_behind space space _ [] _ _ 0 49 (nothing_put space) c.put_placed.ensures c.head_bytes-head.ensures
+    let head =
+    put_behind space space _ [] _ _ 0 49 (nothing_put space) c.put_placed.ensures c.head_bytes.ensures
     (head_length_lem _)
     in
-    let f2 =
-    put_behind space _ _ _ _ _ 49 10 f1 c.put_placed-2.ensures c.phase_bytes-held.ensures (phase_length_lem _)
+    let front =
+    put_behind space _ _ _ _ _ 49 10 head c.put_placed-2.ensures c.phase_bytes.ensures (phase_length_lem _)
     in
-    f2.is ∙ queues_stay c.args.c space (omega arith)
+    front.is ∙ queues_stay c.args.c.now space (omega arith)

@@ -146,8 +146,8 @@ returns-then-code-gt31 c =
 pub overflow_sub-result : goal.overflow_sub-result
 unfolding table
 overflow_sub-result c =
-    is_digit c.args.operation c.number_of-row.result c.args.code c.number_of-row.ensures c.if-code-gt31.false
+    is_digit c.args.operation c.number-row.result c.args.code c.number-row.ensures c.if-code-gt31.false
 
 pub returns : goal.returns
 unfolding table
-returns c = value c.args.operation c.number_of-row.result c.args.code c.number_of-row.ensures c.if-code-gt31.false
+returns c = value c.args.operation c.number-row.result c.args.code c.number-row.ensures c.if-code-gt31.false

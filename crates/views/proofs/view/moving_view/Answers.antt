@@ -1,42 +1,36 @@
 -- `views::view::moving_view` meets its contract: what holds on the way is `Along.antt`'s.
 -- Assumes nothing.
-use Rattle.std.proofs.Common.{ℕ, ◌≡◌, ◌<◌, List, length, arith}
-use borrow.Author.Tests.{le-ltb}
-use Rattle.status.specs.declared.words.ResultRecord.{ResultRecord}
-use Rattle.views.specs.declared.window.Window.{Window}
-use Rattle.views.specs.Window.{open_window}
-use Rattle.views.proofs.Along.{records, records_is, starts, within, asks, onward, ends}
+use Rattle.std.proofs.Common.{rules, ◌≡◌, Err}
+use Rattle.views.proofs.Along.{starts, asks, onward, ends, refused_view}
 use Rattle.views.proofs.view.moving_view.Goals as goal
 
--- a record that is taken in is one of those that are
-taken_in : (width : ℕ) (rs : List ResultRecord) (space : List ℕ) (w : Window)
-    → w ≡ open_window width (length rs) (length space)
-    → (i : ℕ) → i < w.records → i < records width rs space
-taken_in width rs space w e i h = omega (arith, records_is width rs space w e)
+pub returns-in_err-check_view : goal.returns-in_err-check_view
+returns-in_err-check_view c =
+    let same : c.from_residual.result ≡ Err c.in_err-check_view.field-0.0 = search rules in
+    let refused = refused_view c.args.width c.args.run.now c.args.out.now _ c.in_err-check_view.ensures.refused in
+    record { answered = rw same refused.0; written = refused.1 }
 
-pub loop-i-init : goal.loop-i-init
-loop-i-init c =
-    starts c.args.width c.args.run.now c.args.out.now c.open_window-window.result c.open_window-window.ensures
+pub loop-record-init : goal.loop-record-init
+loop-record-init c =
+    let ok = c.in_ok-check_view.ensures.admitted in
+    rw c.open-window.ensures (starts c.args.width ok.some ok.few c.args.out.now)
 
-pub bounds-run-i : goal.bounds-run-i
-bounds-run-i c =
-    within c.args.width c.args.run.now c.args.out.now c.loop-i.i
-    (taken_in _ _ _ _ c.open_window-window.ensures _ c.loop-i-test.true)
+pub step-requires : goal.step-requires
+step-requires c =
+    let asked = asks c.args.width c.args.run.now c.args.out.now c.in_ok-check_view.ensures.admitted
+    c.in_ok-check_view.ensures.refused c.loop-record.record-index _ _ c.loop-record.invariant c.loop-record-test.true
+    c.loop-record.auto.out in
+    record { whole = asked.whole; few_taken = asked.few_taken; few_stretches = asked.few_stretches; room = asked.room }
 
-pub step-window-requires : goal.step-window-requires
-step-window-requires c =
-    asks c.args.width c.args.run.now c.args.out.now c.loop-i.i c.loop-i.window c.loop-i.out c.loop-i.invariant
-    (taken_in _ _ _ _ c.open_window-window.ensures _ c.loop-i-test.true) c.loop-i.auto.out
-
-pub loop-i-preserved : goal.loop-i-preserved
-loop-i-preserved c =
-    onward c.args.width c.args.run.now c.args.out.now c.loop-i.i c.loop-i.window c.loop-i.out c.loop-i.invariant
-    (taken_in _ _ _ _ c.open_window-window.ensures _ c.loop-i-test.true) c.step-window.result c.step-window.new.out
-    c.step-window.ensures
+pub loop-record-preserved : goal.loop-record-preserved
+loop-record-preserved c =
+    onward c.args.width c.args.run.now c.args.out.now c.in_ok-check_view.ensures.admitted
+    c.in_ok-check_view.ensures.refused c.loop-record.record-index _ _ c.loop-record.invariant c.loop-record-test.true
+    _ _ c.step.ensures
 
 pub returns : goal.returns
 returns c =
-    let all = records_is c.args.width c.args.run.now c.args.out.now c.open_window-window.result
-    c.open_window-window.ensures in
-    ends c.args.width c.args.run.now c.args.out.now c.loop-i.i c.loop-i.window c.loop-i.out c.loop-i.invariant
-    (le-ltb _ _ (omega (arith, all))) c.view_of.result c.view_of.ensures
+    let all = ends c.args.width c.args.run.now c.args.out.now c.in_ok-check_view.ensures.admitted
+    c.in_ok-check_view.ensures.refused c.loop-record.record-index _ _ c.loop-record.invariant c.loop-record-test.false
+    c.view.result c.view.ensures in
+    record { answered = all.0; written = all.1 }

@@ -1,10 +1,9 @@
-use Rattle.std.proofs.Common.{◌-◌}
-use Rattle.views.proofs.Along.{Along}
+-- So many records have gone through the window.
+-- Assumes nothing.
+use Rattle.std.proofs.Common.{take}
+use Rattle.views.specs.View.{codes_of}
+use Rattle.views.specs.Window.{After}
 use Rattle.views.proofs.view.moving_view.Given as goal
 
--- So many records have gone through the window, or the view is refused and none goes.
-abbrev pub invariant-loop-i : goal.invariant-loop-i
-invariant-loop-i l = Along l.width l.run l.fn.out l.i l.window l.out
-
-abbrev pub decreases-loop-i : goal.decreases-loop-i
-decreases-loop-i l = l.records - l.i
+abbrev pub invariant-loop-record : goal.invariant-loop-record
+invariant-loop-record l = After l.width (take l.record-index (codes_of l.run)) l.fn.out l.window l.out

@@ -1,0 +1,153 @@
+//! Text that is put into a fixed space, one thing behind the other.
+ghost use Rattle.std.specs.Prelude.{◌≡◌, ◌+◌, ◌*◌, ◌≤◌, ◌<◌, ◌++◌, [], ◌∷◌, take, length, List, ℕ};
+ghost use Rattle.text.specs.Limits.{refusal_most, record_most};
+ghost use Rattle.text.specs.Print.{digit_of, byte_text, bytes_text, decimal_text, refusal_text, record_text};
+
+use crate::limits::DECIMAL_MOST;
+use std::marker::Model;
+
+/// Text that grows at the start of a fixed space. A clause sees the text.
+#[derive(Drop)]
+pub struct Text<const N: usize> {
+    space: [u8; N],
+    end: usize,
+}
+
+impl<const N: usize> Model for Text<N> {
+    ghost Value = { List ℕ };
+
+    ghost view = { λ t. take t.end t.space };
+
+    ghost invariant = { λ t. t.end ≤ N };
+}
+
+// A digit below 16.
+#[tactic(auto, unfolding(crate::specs::Print::digit_of, common::specs::Pick::pick))]
+fn digit_of(n: u8) -> u8
+    requires { n < 16 }
+    ensures { result ≡ digit_of n }
+{
+    if n < 10 {
+        return b'0' + n;
+    }
+    b'A' + n - 10
+}
+
+impl<const N: usize> Text<N> {
+    pub fn new() -> Self
+        ensures { result ≡ [] }
+    {
+        Text {
+            space: [0; N],
+            end: 0,
+        }
+    }
+
+    pub fn len(&self) -> usize
+        ensures same { result ≡ length self.now }
+        ensures fits { length self.now ≤ N }
+    {
+        self.end
+    }
+
+    pub fn as_bytes(&self) -> &[u8]
+        ensures { result.now ≡ self.now }
+    {
+        &self.space[..self.end]
+    }
+
+    pub fn clear(&mut self)
+        ensures { self.new ≡ [] }
+    {
+        self.end = 0;
+    }
+
+    /// One byte of text.
+    pub fn put(&mut self, byte: u8)
+        requires { length self.old < N }
+        ensures { self.new ≡ self.old ++ (byte ∷ []) }
+    {
+        self.space[self.end] = byte;
+        self.end += 1;
+    }
+
+    /// A text as it stands.
+    pub fn put_all(&mut self, text: &[u8])
+        requires { length self.old + length text.now ≤ N }
+        ensures { self.new ≡ self.old ++ text.now }
+    {
+        let end = self.end + text.len();
+        let space = &mut self.space[..];
+        space[self.end..end].copy_from_slice(text);
+        self.end = end;
+    }
+
+    /// A byte in hexadecimal.
+    #[tactic(auto, unfolding(crate::specs::Print::byte_text))]
+    pub fn put_byte(&mut self, byte: u8)
+        requires { length self.old + 2 ≤ N }
+        ensures fits { length self.new ≡ length self.old + 2 }
+        ensures text { self.new ≡ self.old ++ byte_text byte }
+    {
+        self.put(digit_of(byte / 16));
+        self.put(digit_of(byte % 16));
+    }
+
+    /// Bytes in hexadecimal.
+    #[tactic(auto, using(crate::proofs::TextLaws::bytes_text_next))]
+    pub fn put_bytes(&mut self, bytes: &[u8])
+        requires { length self.old + 2 * length bytes.now ≤ N }
+        ensures fits { length self.new ≡ length self.old + 2 * length bytes.now }
+        ensures text { self.new ≡ self.old ++ bytes_text bytes.now }
+    {
+        for &byte in bytes {
+            self.put_byte(byte);
+        }
+    }
+
+    /// The number of a refusal.
+    #[tactic(auto, using(crate::proofs::TextLaws::one_digit, crate::proofs::TextLaws::two_digits))]
+    pub fn put_refusal(&mut self, number: u32)
+        requires { length self.old + refusal_most ≤ N }
+        ensures fits { length self.new ≤ length self.old + refusal_most }
+        ensures text { self.new ≡ self.old ++ refusal_text number }
+    {
+        if number < 10 {
+            return self.put(digit_of(number as u8));
+        }
+        self.put(digit_of((number / 10 % 10) as u8));
+        self.put(digit_of((number % 10) as u8));
+    }
+
+    /// A number in decimal, of at most so many digits.
+    #[tactic(auto, using(crate::proofs::TextLaws::decimal_none, crate::proofs::TextLaws::decimal_one, crate::proofs::TextLaws::decimal_more))]
+    pub fn put_decimal(&mut self, most: usize, n: u32)
+        requires { length self.old + most ≤ N }
+        ensures fits { length self.new ≤ length self.old + most }
+        ensures text { self.new ≡ self.old ++ decimal_text most n }
+    {
+        if most == 0 {
+            return;
+        }
+        let ones = digit_of((n % 10) as u8);
+        if n < 10 {
+            return self.put(ones);
+        }
+        self.put_decimal(most - 1, n / 10);
+        self.put(ones);
+    }
+
+    /// A record.
+    #[tactic(auto, unfolding(crate::specs::Print::record_text))]
+    pub fn put_record(&mut self, code: u8, motion: u8, count: u32)
+        requires { length self.old + record_most ≤ N }
+        ensures fits { length self.new ≤ length self.old + record_most }
+        ensures text { self.new ≡ self.old ++ record_text code motion count }
+    {
+        self.put_byte(code);
+        self.put(b':');
+        self.put_decimal(DECIMAL_MOST, motion as u32);
+        self.put(b':');
+        self.put_decimal(DECIMAL_MOST, count);
+    }
+}
