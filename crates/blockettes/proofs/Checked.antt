@@ -12,7 +12,7 @@ use Rattle.blockettes.specs.Xor.{◌⊕◌, xor_all}
 use Rattle.blockettes.specs.Blockettes.{blockette_at, numbered, of_parity, fold_parity, check_of, others_of}
 use Rattle.blockettes.proofs.XorLaws.{⊕-zeros, zeros-⊕, xor_all-length, xor_all_start, xor_all_first, xor_all_twice}
 use Rattle.blockettes.proofs.XorLaws.{xor_all_same}
-use Rattle.blockettes.proofs.Others.{others_by_all}
+use Rattle.blockettes.proofs.Others.{others_by_check}
 
 -- ---- one blockette
 
@@ -125,6 +125,6 @@ module _ (bytes : List ℕ) (n : ℕ) (full : length bytes ≡ 256 * n) where
       let parity = (n + 2 - 1 - place) % 2 in
       let it = blockette_at (checked bytes n) place in
       let small : parity < 2 = omega arith in
-      sym (others_by_all (checked bytes n) (n + 2) place h)
+      sym (others_by_check (checked bytes n) (n + 2) place h)
       ∙ ap (λ (x : List ℕ). x ⊕ it) (parity_cancels parity small)
       ∙ zeros-⊕ it 256 (blockette_length_lem (checked bytes n) place (omega (arith, checked_length)))

@@ -7,7 +7,7 @@ use native.Mathlib.Nat.{le_of_suc-le-suc, not-suc-le-zero, le_refl, suc-min-suc}
 use mathlib.Core.List.{List, [], ◌∷◌}
 use lib.Bits.{bit_xor, xor_comm, xor_self, xor_zero_l, xor_zero_r}
 use lib.Dec.{eqb}
-use lib.ListN.{length, drop, get_or, replicate}
+use lib.ListN.{length, take, drop, get_or, replicate}
 use native.Mathlib.Decide.{ℕ_discrete}
 use native.Mathlib.Omega.{arith}
 use borrow.Author.Tests.{eq-eqb, ne_eqb}
@@ -20,7 +20,7 @@ byte_swap : (x y z : ℕ) → bit_xor (bit_xor x y) z ≡ bit_xor (bit_xor x z) 
 byte_swap x y z = xor_assoc x y z ∙ ap (bit_xor x) (xor_comm y z) ∙ sym (xor_assoc x z y)
 
 -- one that is put in twice is out again
-byte_twice : (x y : ℕ) → bit_xor (bit_xor x y) y ≡ x
+pub byte_twice : (x y : ℕ) → bit_xor (bit_xor x y) y ≡ x
 byte_twice x y = xor_assoc x y y ∙ ap (bit_xor x) (xor_self y) ∙ xor_zero_r x
 
 pub ⊕-nil : (a : List ℕ) → a ⊕ [] ≡ a
@@ -54,6 +54,13 @@ unfolding ◌⊕◌
 ⊕-length [] b = refl
 ⊕-length (x ∷ a) [] = refl
 ⊕-length (x ∷ a) (y ∷ b) = ap suc (⊕-length a b)
+
+pub ⊕-take : (n : ℕ) (a b : List ℕ) → take n (a ⊕ b) ≡ take n a ⊕ b
+unfolding ◌⊕◌
+⊕-take zero a b = refl
+⊕-take (suc n) [] b = refl
+⊕-take (suc n) (x ∷ a) [] = refl
+⊕-take (suc n) (x ∷ a) (y ∷ b) = ap {B = List ℕ} (λ r. bit_xor x y ∷ r) (⊕-take n a b)
 
 -- zeros put in change nothing
 pub ⊕-zeros : (a : List ℕ) (n : ℕ) → a ⊕ replicate n 0 ≡ a
@@ -94,6 +101,14 @@ module _ (family : ℕ → List ℕ) where
   unfolding xor_all
   xor_all-length start zero = refl
   xor_all-length start (suc count) = ⊕-length (xor_all start family count) (family count) ∙ xor_all-length start count
+
+  pub xor_all-take : (n : ℕ) (start : List ℕ) (count : ℕ)
+      → take n (xor_all start family count) ≡ xor_all (take n start) family count
+  unfolding xor_all
+  xor_all-take n start zero = refl
+  xor_all-take n start (suc count) =
+      ⊕-take n (xor_all start family count) (family count)
+      ∙ ap (λ (x : List ℕ). x ⊕ family count) (xor_all-take n start count)
 
   -- what stands at the start may as well be put in last
   pub xor_all_start : (start b : List ℕ) (count : ℕ) → xor_all (start ⊕ b) family count ≡ xor_all start family count ⊕ b

@@ -111,7 +111,7 @@ pub fn put_check(space: &mut [u8], bytes: &[u8], n: usize, parity: usize)
 
 /// What restores the blockette at a place, of n in all: the XOR of the others of its parity. It is that of all of them,
 /// with the one at the place once more, which takes it out again. The space may be shorter than a blockette.
-#[tactic(auto, using(crate::proofs::Others::others_by_all))]
+#[tactic(auto, using(crate::proofs::Others::others_by_check))]
 pub fn put_others(space: &mut [u8], bytes: &[u8], n: usize, place: usize)
     requires space_len_bound { length space.old ≤ blockette_length }
     requires place_lt_n { place < n }

@@ -4,7 +4,7 @@
 //! waited for, and then they are written at once.
 #![tactic(auto)]
 
-ghost use Rattle.std.specs.Prelude.{◌≡◌, ◌≤◌, ◌+◌, ◌⊎◌, length, IfSome, OnOk, IfOk, IfErr};
+ghost use Rattle.std.specs.Prelude.{◌≡◌, ◌≤◌, ◌<◌, ◌+◌, ◌⊎◌, length, IfSome, OnOk, IfOk, IfErr};
 ghost use Rattle.console.specs.Failures.{IsOfReading, IsOfWriting, IsOfTurn};
 ghost use Rattle.console.specs.Sizes.{input_size, output_size, answer_limit, line_limit};
 
@@ -28,6 +28,9 @@ const ANSWER_LIMIT: usize = 40960;
 
 // With no more text than this waiting, an answer still fits.
 const ROOM: usize = OUTPUT_SIZE - ANSWER_LIMIT;
+
+// Most lines end within this many bytes.
+const NEAR: usize = 32;
 
 // The status of a program that a closed pipe ends, as a shell tells it.
 const CLOSED_STATUS: u8 = 141;
@@ -65,20 +68,24 @@ pub fn write_text<W: Write>(output: &mut W, text: &[u8]) -> Result<(), Failure>
     output.write_all(text).map_err(unwritten)
 }
 
-/// Writes the text that waits, so that none does.
+/// Writes the text that waits, so that none does. Where that fails, some of it may be written, and all of it waits.
 pub fn write_waiting<W: Write>(output: &mut W, out: &mut Text<OUTPUT_SIZE>) -> Result<(), Failure>
-    ensures written { length out.new ≡ 0 }
+    ensures written { OnOk result (length out.new ≡ 0) }
     ensures failed { IfErr result (λ e. IsOfWriting e) }
+    ensures stays { IfErr result (λ _. out.new ≡ out.old) }
 {
-    let end = write_text(output, out.as_bytes());
+    write_text(output, out.as_bytes())?;
     out.clear();
-    end
+    Ok(())
 }
 
-/// Room for one more answer: the text that waits is written where there is too little.
+/// Room for one more answer: the text that waits is written where there is too little, and stays as it was otherwise.
+/// Where the write fails, it stays too.
 pub fn make_room<W: Write>(output: &mut W, out: &mut Text<OUTPUT_SIZE>) -> Result<(), Failure>
-    ensures ready { length out.new + answer_limit ≤ output_size }
+    ensures ready { OnOk result (length out.new + answer_limit ≤ output_size) }
+    ensures whole { OnOk result ((out.new ≡ out.old) ⊎ (length out.new ≡ 0)) }
     ensures failed { IfErr result (λ e. IsOfWriting e) }
+    ensures stays { IfErr result (λ _. out.new ≡ out.old) }
 {
     if out.len() > ROOM {
         return write_waiting(output, out);
@@ -92,7 +99,7 @@ fn keep(part: &[u8], line: &mut Text<INPUT_SIZE>) {
     line.put_all(&part[..part.len().min(room)]);
 }
 
-// The line that was kept is answered, and nothing is kept any more.
+// The line that was kept is answered, and nothing is kept any more. A write that fails leaves it and the text.
 fn answer_kept<W: Write, P: Player>(
     line: &mut Text<INPUT_SIZE>,
     output: &mut W,
@@ -101,6 +108,7 @@ fn answer_kept<W: Write, P: Player>(
 ) -> Result<(), Failure>
     ensures kept { OnOk result (length line.new ≡ 0) }
     ensures failed { IfErr result (λ e. IsOfWriting e) }
+    ensures stays { IfErr result (λ _. (line.new ≡ line.old) × (out.new ≡ out.old)) }
 {
     make_room(output, out)?;
     if line.len() > LINE_LIMIT {
@@ -110,6 +118,18 @@ fn answer_kept<W: Write, P: Player>(
     }
     line.clear();
     Ok(())
+}
+
+// The place of the first #0A, near first, where most lines end.
+fn line_end(rest: &[u8]) -> Option<usize>
+    ensures { IfSome result (λ end. end < length rest.now) }
+{
+    for (at, &byte) in rest[..NEAR.min(rest.len())].iter().enumerate() {
+        if byte == b'\n' {
+            return Some(at);
+        }
+    }
+    memchr(b'\n', rest)
 }
 
 // The lines that end in a piece of the input are answered, and the start of one that does not is kept.
@@ -124,7 +144,7 @@ fn answer_lines<W: Write, P: Player>(
     ensures failed { IfErr result (λ e. IsOfWriting e) }
 {
     let mut rest = piece;
-    while let Some(end) = memchr(b'\n', rest) {
+    while let Some(end) = line_end(rest) {
         if line.len() == 0 {
             make_room(output, out)?;
             player.answer(Some(&rest[..end]), out);
@@ -139,7 +159,8 @@ fn answer_lines<W: Write, P: Player>(
 }
 
 /// Writes the text that waits, and reads a piece: how many bytes of it, and 0 where the input has ended. A write that
-/// fails leaves the input as it was.
+/// fails leaves the input, the piece and the text as they were. Where the read fails, the text is written, and none
+/// waits.
 pub fn read_on<R: Read, W: Write>(
     input: &mut R,
     piece: &mut [u8],
@@ -149,6 +170,8 @@ pub fn read_on<R: Read, W: Write>(
     ensures read { IfOk result (λ count. count ≤ length piece.old) }
     ensures written { OnOk result (length out.new ≡ 0) }
     ensures failed { IfErr result (λ e. IsOfTurn e input.old input.new) }
+    ensures piece { IfErr result (λ e. IsOfTurn e piece.old piece.new) }
+    ensures text { IfErr result (λ e. (IsOfReading e × (length out.new ≡ 0)) ⊎ (IsOfWriting e × (out.new ≡ out.old))) }
 {
     write_waiting(output, out)?;
     input.read(piece).map_err(|_| Failure::Unread)

@@ -1,5 +1,5 @@
 -- The theorems of the controller, of the calls themselves: of any call in any state by any answer that the contract of
--- its own function allows, or of every list of such exchanges from a fresh controller.
+-- either of its own functions allows, by value or in place, or of every list of such exchanges from a fresh controller.
 -- Demand 1: `calls_meet_their_contracts`, `refused_calls_change_nothing`, `calls_refuse_by_the_lowest_number`; of calls
 -- of bytes `calls_keep_the_state_in_range`.
 -- Demand 2: `calls_refine_the_machine`. In the papers' own numbers: `drives_are_a_ledger`,
@@ -83,12 +83,13 @@ use Rattle.link.specs.State.{store_of}
 use Rattle.records.specs.Count.{limit}
 use Rattle.controller.proofs.controller.Controller.fresh.Reads as fresh-reads
 use Rattle.controller.proofs.Demands.Restored.{RestoredAt, recorded_is_restored}
-use Rattle.controller.proofs.Demands.Contracts.{Allows, Meet, all_met, answers_are_steps, steps_are_allowed}
+use Rattle.controller.proofs.Demands.Contracts.{Form, Allows, AllowsBy, Meet, all_met, answers_are_steps}
+use Rattle.controller.proofs.Demands.Contracts.{steps_are_allowed}
 
 -- ---- demand 1
 
--- Each call's own function, and the one that makes a fresh controller, meets its contract, which has no `requires`; so
--- it returns and does nothing undefined, whatever it is handed.
+-- Each call's own function, by value and in place, and the one that makes a fresh controller, meets its contract, which
+-- has no `requires`; so it returns and does nothing undefined, whatever it is handed.
 pub calls_meet_their_contracts : {M : Type 1} → Meet M
 calls_meet_their_contracts = all_met
 
@@ -101,23 +102,48 @@ refused_calls_change_nothing c call answer allowed =
 
 -- ---- lists of calls, and demand 2
 
--- "each call gets the state that the last one handed back"
-unfoldable pub Made : Controller → List Exchange → Type 0
-Made c [] = Unit
-Made c (x ∷ xs) = Allows c x.call x.answer × Made x.answer.reply.controller xs
+-- "each call gets the state that the last one handed back", and each answer is allowed in this sense
+unfoldable pub MadeOf : (Controller → Call → Answer → Type 0) → Controller → List Exchange → Type 0
+MadeOf Allowed c [] = Unit
+MadeOf Allowed c (x ∷ xs) = Allowed c x.call x.answer × MadeOf Allowed x.answer.reply.controller xs
+
+-- each by the contract of either of its call's functions
+abbrev pub Made : Controller → List Exchange → Type 0
+Made = MadeOf Allows
+
+-- or all by those of one form
+abbrev pub MadeBy : Form → Controller → List Exchange → Type 0
+MadeBy form = MadeOf (AllowsBy form)
 
 -- a list from a fresh controller, as its own function makes it
-pub record FromFresh (xs : List Exchange) : Type 0 where
+pub record FromFreshOf (Allowed : Controller → Call → Answer → Type 0) (xs : List Exchange) : Type 0 where
   pub start : Controller
   pub begins : fresh-reads.Post tt tt start tt
-  pub goes : Made start xs
+  pub goes : MadeOf Allowed start xs
+
+abbrev pub FromFresh : List Exchange → Type 0
+FromFresh = FromFreshOf Allows
+
+abbrev pub FromFreshBy : Form → List Exchange → Type 0
+FromFreshBy form = FromFreshOf (AllowsBy form)
+
+-- so whatever holds of the lists in which the forms are mixed holds of those of one form
+pub made_by_made : (form : Form) (c : Controller) (xs : List Exchange) → MadeBy form c xs → Made c xs
+unfolding MadeOf
+made_by_made form c [] made = tt
+made_by_made form c (x ∷ xs) (allowed, others) =
+    (record { form = form; by = allowed }, made_by_made form x.answer.reply.controller xs others)
+
+pub from_fresh_by_from_fresh : (form : Form) (xs : List Exchange) → FromFreshBy form xs → FromFresh xs
+from_fresh_by_from_fresh form xs made =
+    record { start = made.start; begins = made.begins; goes = made_by_made form made.start xs made.goes }
 
 unfoldable pub calls_of : List Exchange → List Call
 calls_of [] = []
 calls_of (x ∷ xs) = x.call ∷ calls_of xs
 
 made_runs : (c : Controller) (xs : List Exchange) → Made c xs → xs ≡ run c (calls_of xs)
-unfolding Made calls_of run
+unfolding MadeOf calls_of run
 made_runs c [] made = refl
 made_runs c (x ∷ xs) (allowed, others) =
     let answer = answers_are_steps c x.call x.answer allowed in
@@ -131,14 +157,15 @@ pub calls_refine_the_machine : (xs : List Exchange) → FromFresh xs → xs ≡ 
 calls_refine_the_machine xs made =
     made_runs made.start xs made.goes ∙ ap (λ (c : Controller). run c (calls_of xs)) made.begins
 
--- and the machine's run is such a list, so the demands speak of something
-pub runs_are_made : (c : Controller) (calls : List Call) → Made c (run c calls)
-unfolding Made run
-runs_are_made c [] = tt
-runs_are_made c (call ∷ calls) = (steps_are_allowed c call, runs_are_made (step c call).reply.controller calls)
+-- and the machine's run is such a list, in each form, so the demands speak of something
+pub runs_are_made : (form : Form) (c : Controller) (calls : List Call) → MadeBy form c (run c calls)
+unfolding MadeOf run
+runs_are_made form c [] = tt
+runs_are_made form c (call ∷ calls) =
+    (steps_are_allowed form c call, runs_are_made form (step c call).reply.controller calls)
 
-pub runs_are_from_fresh : (calls : List Call) → FromFresh (run fresh calls)
-runs_are_from_fresh calls = record { start = fresh; begins = refl; goes = runs_are_made fresh calls }
+pub runs_are_from_fresh : (form : Form) (calls : List Call) → FromFreshBy form (run fresh calls)
+runs_are_from_fresh form calls = record { start = fresh; begins = refl; goes = runs_are_made form fresh calls }
 
 -- ---- demand 3
 
@@ -152,7 +179,7 @@ drives_do_not_interfere xs ys one two =
 
 -- the calls of two lists, one after the other
 made_append : (c : Controller) (xs ys : List Exchange) → Made c (xs ++ ys) → Made c xs × Made (after c xs) ys
-unfolding Made after
+unfolding MadeOf after
 made_append c [] ys made = (tt, made)
 made_append c (x ∷ xs) ys (allowed, made) =
     let (first, others) = made_append x.answer.reply.controller xs ys made in ((allowed, first), others)

@@ -1,5 +1,6 @@
 -- For each of the nine calls, and for the function that makes a fresh controller, two wrong answers that its contract
--- does not allow. The contract is `Allows` (Demands/Contracts.antt), as the toolchain reads it from the function.
+-- does not allow, by value or in place. The contracts are `Allows` (Demands/Contracts.antt), as the toolchain reads
+-- them from the functions.
 -- Assumes nothing.
 use mathlib.Core.Path.{◌≡◌, refl, sym, ap, subst, ◌∙◌}
 use mathlib.Core.Bool.{Bool, true, false, not, ◌&&◌, ◌||◌, false≢true, true≢false, and-false}
@@ -64,7 +65,7 @@ use Rattle.controller.specs.Machine.Call.{byte, taken, broken, report, host_data
 use Rattle.controller.proofs.controller.Controller.fresh.Reads as fresh-reads
 use Rattle.controller.proofs.Demands.Contracts.{Allows, answers_are_steps}
 
--- no answer that the call's contract allows is wrong in this way
+-- no answer that the contract of either of the call's functions allows is wrong in this way
 abbrev pub Excludes : Controller → Call → (Answer → Type 0) → Type 0
 Excludes c call Wrong = (answer : Answer) → Allows c call answer → Wrong answer → ⊥
 

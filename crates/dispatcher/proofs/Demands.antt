@@ -1,8 +1,8 @@
--- The theorems of the dispatcher, of its calls themselves. Demand 1: `calls_meet_their_contracts`,
--- `refused_calls_change_nothing`, `calls_refuse_by_the_lowest_number` and `calls_keep_the_state_in_range`. 2:
--- `calls_refine_the_dispatcher`. 3: `drives_do_not_interfere`. And of every list: `calls_hand_over_in_time` and
--- `calls_hand_over_in_order`; by the ledger of the list `jobs_are_a_ledger` and `calls_hand_over_in_turn`; and by
--- `sent_is_from_fresh` every theorem of the controller over lists, of what is sent.
+-- The theorems of the dispatcher, of its calls themselves, by value and in place. Demand 1:
+-- `calls_meet_their_contracts`, `refused_calls_change_nothing`, `calls_refuse_by_the_lowest_number` and
+-- `calls_keep_the_state_in_range`. 2: `calls_refine_the_dispatcher`. 3: `drives_do_not_interfere`. And of every list:
+-- `calls_hand_over_in_time` and `calls_hand_over_in_order`; by the ledger of the list `jobs_are_a_ledger` and
+-- `calls_hand_over_in_turn`; and by `sent_is_from_fresh` every theorem of the controller over lists, of what is sent.
 -- Assumes nothing.
 pub mod Contracts
 use mathlib.Core.Path.{◌≡◌, refl, sym, ap, ap₂, subst, subst₂, ◌∙◌}
@@ -37,6 +37,8 @@ use Rattle.controller.specs.Reasons.{holds_at}
 use Rattle.controller.specs.Retry.{RetryTrusted}
 use Rattle.controller.proofs.RetriesAreTrusted.{retries_are_trusted}
 use Rattle.controller.proofs.Demands as controller-demands
+use Rattle.controller.proofs.Demands.Contracts.{Form}
+use Rattle.controller.proofs.Demands.Contracts.Form.{in_place}
 use Rattle.queues.specs.declared.jobs.Queues.{Queues}
 use Rattle.queues.specs.Jobs.{are_sound}
 use Rattle.dispatcher.specs.declared.dispatcher.Dispatcher.{Dispatcher}
@@ -62,13 +64,13 @@ use Rattle.dispatcher.proofs.JobsAreALedger.{fresh_is_ledger, kept_after, ledger
 use Rattle.dispatcher.proofs.InTurn.{works}
 use Rattle.dispatcher.proofs.DrivesAreSeparate.{drives_are_separate}
 use Rattle.dispatcher.proofs.dispatcher.Dispatcher.fresh.Reads as fresh-reads
-use Rattle.dispatcher.proofs.Demands.Contracts.{Allows, IsCall, Meet, all_met, answers_are_steps}
+use Rattle.dispatcher.proofs.Demands.Contracts.{Allows, AllowsBy, IsCall, Meet, all_met, answers_are_steps}
 use Rattle.dispatcher.proofs.Demands.Contracts.{steps_are_allowed}
 
 -- ---- demand 1
 
--- Each call's own function, and the one that makes a fresh dispatcher, meets its contract, which has no `requires`; so
--- it returns and does nothing undefined, whatever it is handed.
+-- Each call's own function, by value and in place, and the one that makes a fresh dispatcher, meets its contract, which
+-- has no `requires`; so it returns and does nothing undefined, whatever it is handed.
 pub calls_meet_their_contracts : {M : Type 1} → Meet M
 calls_meet_their_contracts = all_met
 
@@ -99,23 +101,48 @@ a_damaged_state_is_refused_by_every_call d call answer allowed damaged =
 
 -- ---- lists of calls, and demand 2
 
--- "each call gets the state that the last one handed back"
-unfoldable pub Made : Dispatcher → List Exchange → Type 0
-Made d [] = Unit
-Made d (x ∷ xs) = Allows d x.call x.answer × Made x.answer.reply.dispatcher xs
+-- "each call gets the state that the last one handed back", and each answer is allowed in this sense
+unfoldable pub MadeOf : (Dispatcher → Call → Answer → Type 0) → Dispatcher → List Exchange → Type 0
+MadeOf Allowed d [] = Unit
+MadeOf Allowed d (x ∷ xs) = Allowed d x.call x.answer × MadeOf Allowed x.answer.reply.dispatcher xs
+
+-- each by the contract of either of its call's functions
+abbrev pub Made : Dispatcher → List Exchange → Type 0
+Made = MadeOf Allows
+
+-- or all by those of one form
+abbrev pub MadeBy : Form → Dispatcher → List Exchange → Type 0
+MadeBy form = MadeOf (AllowsBy form)
 
 -- a list from a fresh dispatcher, as its own function makes it
-pub record FromFresh (xs : List Exchange) : Type 0 where
+pub record FromFreshOf (Allowed : Dispatcher → Call → Answer → Type 0) (xs : List Exchange) : Type 0 where
   pub start : Dispatcher
   pub begins : fresh-reads.Post tt tt start tt
-  pub goes : Made start xs
+  pub goes : MadeOf Allowed start xs
+
+abbrev pub FromFresh : List Exchange → Type 0
+FromFresh = FromFreshOf Allows
+
+abbrev pub FromFreshBy : Form → List Exchange → Type 0
+FromFreshBy form = FromFreshOf (AllowsBy form)
+
+-- so whatever holds of the lists in which the forms are mixed holds of those of one form
+pub made_by_made : (form : Form) (d : Dispatcher) (xs : List Exchange) → MadeBy form d xs → Made d xs
+unfolding MadeOf
+made_by_made form d [] made = tt
+made_by_made form d (x ∷ xs) (allowed, others) =
+    (record { form = form; by = allowed }, made_by_made form x.answer.reply.dispatcher xs others)
+
+pub from_fresh_by_from_fresh : (form : Form) (xs : List Exchange) → FromFreshBy form xs → FromFresh xs
+from_fresh_by_from_fresh form xs made =
+    record { start = made.start; begins = made.begins; goes = made_by_made form made.start xs made.goes }
 
 unfoldable pub calls_of : List Exchange → List Call
 calls_of [] = []
 calls_of (x ∷ xs) = x.call ∷ calls_of xs
 
 made_runs : (d : Dispatcher) (xs : List Exchange) → Made d xs → xs ≡ run d (calls_of xs)
-unfolding Made calls_of run
+unfolding MadeOf calls_of run
 made_runs d [] made = refl
 made_runs d (x ∷ xs) (allowed, others) =
     let answer = answers_are_steps d x.call x.answer allowed in
@@ -129,20 +156,21 @@ pub calls_refine_the_dispatcher : (xs : List Exchange) → FromFresh xs → xs �
 calls_refine_the_dispatcher xs made =
     made_runs made.start xs made.goes ∙ ap (λ (d : Dispatcher). run d (calls_of xs)) made.begins
 
--- and such a list there is for all calls that the dispatcher has, so the theorems speak of something
+-- and such a list there is, in each form, for all calls that the dispatcher has, so the theorems speak of something
 unfoldable pub AreCalls : List Call → Type 0
 AreCalls [] = Unit
 AreCalls (call ∷ calls) = IsCall call × AreCalls calls
 
-runs_are_made : (d : Dispatcher) (calls : List Call) → AreCalls calls → Made d (run d calls)
-unfolding Made run AreCalls
-runs_are_made d [] are = tt
-runs_are_made d (call ∷ calls) (is, are) =
-    (steps_are_allowed d call is, runs_are_made (step d call).reply.dispatcher calls are)
+runs_are_made : (form : Form) (d : Dispatcher) (calls : List Call) → AreCalls calls → MadeBy form d (run d calls)
+unfolding MadeOf run AreCalls
+runs_are_made form d [] are = tt
+runs_are_made form d (call ∷ calls) (is, are) =
+    (steps_are_allowed form d call is, runs_are_made form (step d call).reply.dispatcher calls are)
 
-pub runs_are_from_fresh : (calls : List Call) → AreCalls calls → FromFresh (run fresh_dispatcher calls)
-runs_are_from_fresh calls are =
-    record { start = fresh_dispatcher; begins = refl; goes = runs_are_made fresh_dispatcher calls are }
+pub runs_are_from_fresh : (form : Form) (calls : List Call) → AreCalls calls
+    → FromFreshBy form (run fresh_dispatcher calls)
+runs_are_from_fresh form calls are =
+    record { start = fresh_dispatcher; begins = refl; goes = runs_are_made form fresh_dispatcher calls are }
 
 -- ---- demand 3
 
@@ -208,10 +236,10 @@ calls_hand_over_in_turn l d xs from =
 
 -- ---- what reaches the controller
 
--- What a list sends to the controller is a list of the controller's own calls, each answered as its contract allows,
--- which leaves the controller that the dispatcher has.
+-- What a list sends to the controller is a list of the controller's own calls, each answered as its contract allows, by
+-- value and in place alike, which leaves the controller that the dispatcher has.
 pub record SentIsMade (l : JobLedger) (d : Dispatcher) (xs : List Exchange) : Type 0 where
-  pub made : controller-demands.Made d.controller (sent_from l xs)
+  pub made_by : (form : Form) → controller-demands.MadeBy form d.controller (sent_from l xs)
   pub left : controller-lists.after d.controller (sent_from l xs) ≡ (after d xs).controller
 
 pub sent_is_made : (l : JobLedger) (d : Dispatcher) (xs : List Exchange) → MadeFrom l d xs → SentIsMade l d xs
@@ -219,20 +247,28 @@ sent_is_made l d xs from =
     let own = sent_run (calls_of xs) l d (sound_kept d.queues from.sound) (agrees d.queues l from.is) in
     subst (SentIsMade l d) (sym (made_runs d xs from.made))
     (record {
-      made =
-          subst (controller-demands.Made d.controller) (sym own.runs)
-          (controller-demands.runs_are_made d.controller own.calls);
+      made_by =
+          λ form.
+          subst (controller-demands.MadeBy form d.controller) (sym own.runs)
+          (controller-demands.runs_are_made form d.controller own.calls);
       left = own.ends;
     })
 
+-- so a list in which the forms are mixed, of which the controller's theorems speak
+sent_made : (l : JobLedger) (d : Dispatcher) (xs : List Exchange) → MadeFrom l d xs
+    → controller-demands.Made d.controller (sent_from l xs)
+sent_made l d xs from =
+    controller-demands.made_by_made in_place d.controller (sent_from l xs) ((sent_is_made l d xs from).made_by in_place)
+
 -- So every theorem of the controller over lists from Fresh holds of what a list from a fresh dispatcher sends.
-pub sent_is_from_fresh : (xs : List Exchange) → FromFresh xs → controller-demands.FromFresh (sent xs)
+pub sent_is_from_fresh : (form : Form) (xs : List Exchange) → FromFresh xs
+    → controller-demands.FromFreshBy form (sent xs)
 unfolding fresh_dispatcher
-sent_is_from_fresh xs made =
+sent_is_from_fresh form xs made =
     record {
       start = fresh_dispatcher.controller;
       begins = refl;
-      goes = (sent_is_made fresh_ledger fresh_dispatcher xs (fresh_is_made xs made)).made;
+      goes = (sent_is_made fresh_ledger fresh_dispatcher xs (fresh_is_made xs made)).made_by form;
     }
 
 of_what_is_sent :
@@ -241,7 +277,9 @@ of_what_is_sent :
     → (xs : List Exchange)
     → FromFresh xs
     → P (sent xs)
-of_what_is_sent P shown xs made = shown (sent xs) (sent_is_from_fresh xs made)
+of_what_is_sent P shown xs made =
+    shown (sent xs)
+    (controller-demands.from_fresh_by_from_fresh in_place (sent xs) (sent_is_from_fresh in_place xs made))
 
 pub calls_count_their_own_record : (xs : List Exchange) → FromFresh xs → CountsAreOwn (sent xs)
 calls_count_their_own_record = of_what_is_sent CountsAreOwn controller-demands.calls_count_their_own_record
@@ -338,8 +376,8 @@ stores_on_different_drives_commute k d xs l e ys one two stores others is idle d
     let c = d.controller in
     let first = ap (controller-lists.after c) (sym done.sends) ∙ here.left in
     let second = ap₂ controller-lists.after (sym is) (sym done_too.sends) ∙ there.left in
-    let made = subst (controller-demands.Made c) done.sends here.made in
-    let made_too = subst₂ controller-demands.Made is done_too.sends there.made in
+    let made = subst (controller-demands.Made c) done.sends (sent_made k d xs one) in
+    let made_too = subst₂ controller-demands.Made is done_too.sends (sent_made l e ys two) in
     subst₂ (λ (a b : Controller). EndsAlike (drive_of a.body.drives n) (drive_of b.body.drives n)) first second
     (controller-demands.stores_on_different_drives_commute c stores others made made_too idle done.all
     (subst (λ (k : Controller). AllComplete k others) is done_too.all)
@@ -355,4 +393,4 @@ pub stores_complete_in_every_order : (c : Controller) (scripts others : List Sch
     → StoresComplete c scripts others (sent_from k xs) (sent_from l ys)
 stores_complete_in_every_order c scripts others k one xs l other ys here first there second =
     controller-demands.stores_complete_in_every_order c scripts others (sent_from k xs) (sent_from l ys)
-    (sent_is_made k _ xs here).made first (sent_is_made l _ ys there).made second
+    (sent_made k _ xs here) first (sent_made l _ ys there) second

@@ -1,5 +1,5 @@
--- Wrong answers that the contracts of the dispatcher's calls rule out, two for each: no answer that the contract allows
--- is wrong in that way.
+-- Wrong answers that the contracts of the dispatcher's calls rule out, two for each: no answer that the contract of
+-- either of the call's functions allows, by value or in place, is wrong in that way.
 -- Assumes nothing.
 use mathlib.Core.Path.{◌≡◌, refl, sym, ap, subst, ◌∙◌}
 use mathlib.Core.Bool.{false, false≢true}

@@ -59,6 +59,8 @@ use Rattle.dispatcher.specs.InRange.{QueueInRange, QueuesInRange, InRange, Bytes
 use Rattle.dispatcher.proofs.RefusedCalls.{steps_refused_unchanged}
 use Rattle.dispatcher.proofs.StaysInRange.{fresh_in_range}
 use Rattle.dispatcher.proofs.JobsAreALedger.{fresh_is_ledger}
+use Rattle.controller.proofs.Demands.Contracts.{Form}
+use Rattle.controller.proofs.Demands.Contracts.Form.{in_place}
 use Rattle.dispatcher.proofs.Demands as demands
 use Rattle.dispatcher.proofs.Demands.Contracts as contracts
 use Rattle.layout.specs.Reading.{state_of, is_state}
@@ -150,7 +152,12 @@ module _ (state : List ℕ) (call : Call) (answer : List ℕ) (l : Left) (allowe
       ∙ refusal_told (step (state_of state) call) state answer
 
   own_allowed : contracts.Allows (state_of state) call (step (state_of state) call)
-  own_allowed = contracts.steps_are_allowed (state_of state) call (allowed_is_call state call answer l allowed)
+  own_allowed =
+      record {
+        form = in_place;
+        by =
+            contracts.steps_are_allowed in_place (state_of state) call (allowed_is_call state call answer l allowed);
+      }
 
   -- A call is refused by the lowest number whose condition holds of that state, and carried out where none does.
   pub functions_refuse_by_the_lowest_number : IsLowest l.ended.refusal (conditions_of (state_of state) call)
@@ -173,10 +180,13 @@ module _ (d : Dispatcher) (fine : InRange d) (call : Call) (bytes : BytesIn call
       ap seen_answer (answers_are_called (state_bytes d) call answer l allowed)
       ∙ seen_is_answer d fine call answer bytes
 
+  seen_allowed_by : (form : Form) → contracts.AllowsBy form d call (seen_answer l)
+  seen_allowed_by form =
+      subst (contracts.AllowsBy form d call) (sym functions_answer_as_the_dispatcher)
+      (contracts.steps_are_allowed form d call (allowed_is_call (state_bytes d) call answer l allowed))
+
   seen_allowed : contracts.Allows d call (seen_answer l)
-  seen_allowed =
-      subst (contracts.Allows d call) (sym functions_answer_as_the_dispatcher)
-      (contracts.steps_are_allowed d call (allowed_is_call (state_bytes d) call answer l allowed))
+  seen_allowed = record { form = in_place; by = seen_allowed_by in_place }
 
   -- The state that is left is again in range, in every field, with eight places in each queue, and so is what is handed
   -- out; and no such call is refused with 1.
@@ -209,19 +219,26 @@ Made state [] = Unit
 Made state (x ∷ xs) = Allows state x.call x.before x.left × Made x.left.ended.state xs
 
 -- What is seen of a list of the functions, from the bytes of any state in range, is a list of the dispatcher's own
--- calls from that state.
-pub functions_go_as_the_dispatcher : (d : Dispatcher) (xs : List Exchange) → InRange d → Made (state_bytes d) xs
+-- calls from that state, by value and in place alike.
+pub functions_go_as_the_dispatcher : (form : Form) (d : Dispatcher) (xs : List Exchange) → InRange d
+    → Made (state_bytes d) xs
     → AllFromC xs
-    → demands.Made d (seen_in xs)
-unfolding Made seen_in range.AllBytesIn demands.Made
-functions_go_as_the_dispatcher d [] fine made from = tt
-functions_go_as_the_dispatcher d (x ∷ xs) fine (allowed, others) (one, rest) = (
-  seen_allowed d fine x.call one x.before x.left allowed,
-  functions_go_as_the_dispatcher (seen_answer x.left).reply.dispatcher xs
+    → demands.MadeBy form d (seen_in xs)
+unfolding Made seen_in range.AllBytesIn demands.MadeOf
+functions_go_as_the_dispatcher form d [] fine made from = tt
+functions_go_as_the_dispatcher form d (x ∷ xs) fine (allowed, others) (one, rest) = (
+  seen_allowed_by d fine x.call one x.before x.left allowed form,
+  functions_go_as_the_dispatcher form (seen_answer x.left).reply.dispatcher xs
       (functions_keep_the_state_in_range d fine x.call one x.before x.left allowed).state
       (subst (λ (s : List ℕ). Made s xs) (next_bytes d fine x.call one x.before x.left allowed) others)
       rest,
 )
+
+-- so a list of which the dispatcher's theorems speak
+seen_made : (d : Dispatcher) (xs : List Exchange) → InRange d → Made (state_bytes d) xs → AllFromC xs
+    → demands.Made d (seen_in xs)
+seen_made d xs fine made from =
+    demands.made_by_made in_place d (seen_in xs) (functions_go_as_the_dispatcher in_place d xs fine made from)
 
 -- from a state that ctc_fresh made
 pub record FromFresh (xs : List Exchange) : Type 0 where
@@ -245,7 +262,7 @@ seen_from_fresh xs made from =
     record {
       start = fresh_dispatcher;
       begins = refl;
-      goes = functions_go_as_the_dispatcher fresh_dispatcher xs fresh_in_range (fresh_goes xs made) from;
+      goes = seen_made fresh_dispatcher xs fresh_in_range (fresh_goes xs made) from;
     }
 
 -- What is seen of a list of the functions from ctc_fresh, each getting the bytes that the last one left, is the
@@ -321,7 +338,7 @@ pub functions_hand_over_in_time : (d : Dispatcher) (xs : List Exchange) → InRa
     → Fair d (seen_in xs)
 functions_hand_over_in_time d xs fine made from =
     demands.calls_hand_over_in_time d (seen_in xs) (queues_sound d.queues fine.queues)
-    (functions_go_as_the_dispatcher d xs fine made from)
+    (seen_made d xs fine made from)
 
 -- a list from the bytes of a state in range, whose queues are those of this ledger
 pub record MadeFrom (l : JobLedger) (d : Dispatcher) (xs : List Exchange) : Type 0 where
@@ -339,7 +356,7 @@ seen_from l d xs from =
     record {
       sound = queues_sound d.queues from.fine.queues;
       is = from.is;
-      made = functions_go_as_the_dispatcher d xs from.fine from.made from.from;
+      made = seen_made d xs from.fine from.made from.from;
     }
 
 -- What waits in each queue, and the last job served, are those of the ledger of the list.

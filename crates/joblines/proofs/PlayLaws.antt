@@ -25,6 +25,7 @@ use Rattle.dispatcher.specs.Told.{Dispatched, DispatchedTransfer, told_of}
 use Rattle.dispatcher.specs.Dispatcher.{answered_in, answer_with, answer_with_queues, unchanged_transfer, passed_answer}
 use Rattle.dispatcher.specs.Dispatcher.{queue_call, hand_call}
 use Rattle.operations.specs.declared.store.Store.{Store}
+use Rattle.text.specs.Hex.{hex_bytes}
 use Rattle.lines.specs.Line.{plain_line, lent_line, call_read}
 use Rattle.lines.specs.declared.line.Call.{Call}
 use Rattle.lines.specs.declared.line.Call.TheVariants.{Plain, Lent}
@@ -81,7 +82,8 @@ lent_left_lem j (Result f) =
     let part = take f.space space in
     ap dispatched_left
     (whole_passed (are_sound d.queues) d.queues
-    (result_call d.controller (result_of f.code f.mark f.late f.image f.marks) part j.buffers.check)
+    (result_call d.controller (result_of f.code f.mark f.late (hex_bytes f.image) (hex_bytes f.marks)) part
+    j.buffers.check)
     (unchanged_transfer state_damaged d)
     part (drop f.space space) space j.buffers.check refl (take-append-drop f.space space))
 

@@ -12,7 +12,7 @@ use text::read::{Hex, byte_of, decimal_of, field_of};
 
 /// A line that was read: a job queues a store, the next store is handed over, or it is one of the session program's
 /// calls.
-#[derive(Drop)]
+#[derive(Clone, Copy)]
 pub enum JobCall<'a> {
     Queue(u8, Store),
     Hand,

@@ -1,2 +1,4 @@
+pub mod LineLaws
+pub mod TextLaws
 pub mod PlayLaws
 pub mod WrongAnswers

@@ -6,6 +6,7 @@ use Rattle.common.specs.Pick.{pick}
 use Rattle.text.specs.Limits.{byte_limit}
 use Rattle.text.specs.Characters.{comma}
 use Rattle.text.specs.Digits.{is_byte, byte_of, is_bytes, bytes_of, is_decimal, decimal_of}
+use Rattle.text.specs.Hex.{hex_bytes}
 use Rattle.text.specs.Fields.{field_of, after_field, after_fields}
 use Rattle.lines.specs.Limits.{host_limit, image_limit, marks_limit, flag_limit}
 use Rattle.lines.specs.Characters.{byte_letter, taken_letter, broken_letter, report_letter}
@@ -98,8 +99,8 @@ plain_line Reset = reset
 
 -- a call that is lent space
 unfoldable pub lent_line : LentCall → Line
-lent_line (HostData host) = host_data host
-lent_line (Result f) = result f.code f.mark f.late f.image f.marks f.space
+lent_line (HostData host) = host_data (hex_bytes host)
+lent_line (Result f) = result f.code f.mark f.late (hex_bytes f.image) (hex_bytes f.marks) f.space
 
 -- a call
 unfoldable pub call_read : Call → Line

@@ -8,6 +8,7 @@ use Rattle.controller.specs.Told.{Reply}
 use Rattle.controller.specs.Records.{Answer}
 use Rattle.records.specs.Place.{no_place}
 use Rattle.transfers.specs.Data.{host_of}
+use Rattle.text.specs.Hex.{hex_bytes}
 use Rattle.controller.specs.Machine.{byte_call, taken_call, broken_call, report_call, tick_call, reset_call}
 use Rattle.controller.specs.Machine.{data_call, result_call}
 use Rattle.lines.specs.Line.{Line, unreadable, byte, taken, broken, report, host_data, result, tick, reset}
@@ -101,11 +102,11 @@ part_answer c r most space check = in_whole_space (result_call c r (take most sp
 -- and to one that says how much
 unfoldable pub fields_answer : Controller → ResultFields → List ℕ → List ℕ → Answer
 fields_answer c f space check =
-    part_answer c (result_of f.code f.mark f.late f.image f.marks) f.space space check
+    part_answer c (result_of f.code f.mark f.late (hex_bytes f.image) (hex_bytes f.marks)) f.space space check
 
 -- the answer to a call that is lent space
 unfoldable pub lent_answer : Controller → LentCall → List ℕ → List ℕ → Answer
-lent_answer c (HostData host) space check = data_call c (host_of host no_place) space check
+lent_answer c (HostData host) space check = data_call c (host_of (hex_bytes host) no_place) space check
 lent_answer c (OfResult fields) space check = fields_answer c fields space check
 
 -- and what is left of either

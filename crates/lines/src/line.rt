@@ -18,7 +18,7 @@ pub enum PlainCall {
 }
 
 /// The fields of a result.
-#[derive(Drop)]
+#[derive(Clone, Copy)]
 pub struct ResultFields<'a> {
     pub code: u8,
     pub mark: bool,
@@ -29,14 +29,14 @@ pub struct ResultFields<'a> {
 }
 
 /// A call that is lent space.
-#[derive(Drop)]
+#[derive(Clone, Copy)]
 pub enum LentCall<'a> {
     HostData(Hex<'a, HOST_LIMIT>),
     Result(ResultFields<'a>),
 }
 
 /// A call.
-#[derive(Drop)]
+#[derive(Clone, Copy)]
 pub enum Call<'a> {
     Plain(PlainCall),
     Lent(LentCall<'a>),

@@ -8,6 +8,7 @@ ghost use Rattle.passes.specs.Passes.{same_bytes, same_blockettes, clash_at, cla
 ghost use Rattle.passes.specs.Passes.{merged_mark, merged_blockette, merged_marks, merged_blockettes};
 
 use blockettes::{BLOCKETTE_LENGTH, blockette_at};
+use common::copy;
 use marks::is_error;
 
 // The first bytes of a blockette that are compared by themselves.
@@ -115,7 +116,7 @@ fn put_merged_blockette(first_mark: u8, second: &Blockettes, place: usize, part:
         (blockette_at second.now.bytes.now place) }
 {
     if takes_second(first_mark, second.marks[place]) {
-        part.copy_from_slice(second.blockette_at(place));
+        copy(second.blockette_at(place), part);
     }
 }
 

@@ -15,7 +15,7 @@ use Rattle.common.proofs.PickLaws.{by_test, pick_no}
 use Rattle.blockettes.specs.Xor.{◌⊕◌, xor_all}
 use Rattle.blockettes.specs.Blockettes.{blockette_at, numbered, of_parity, fold_parity, check_of, others_of}
 use Rattle.blockettes.proofs.XorLaws.{⊕-nil, ⊕-twice, zeros-⊕, xor_all_first, xor_all_same}
-use Rattle.blockettes.proofs.Others.{others_by_all, others_same}
+use Rattle.blockettes.proofs.Others.{others_by_check, others_same}
 use Rattle.blockettes.proofs.Checked.{blockette_length_lem}
 use Rattle.records.specs.Count.{limit, count_bytes, count_of}
 use Rattle.records.specs.Image.{blockette_count, has_blockettes, image_of, image_length, mark_count}
@@ -80,7 +80,7 @@ module _ (blockettes : List ℕ) (n : ℕ) (full : length blockettes ≡ 256 * (
       → fold_parity (replicate 256 0) blockettes (n + 2) (parity_at n place) ⊕ blockette_at blockettes place
       ≡ others place
   unfolding check_of
-  all_and_one place below = others_by_all blockettes (n + 2) place below
+  all_and_one place below = others_by_check blockettes (n + 2) place below
 
   -- where one of a parity is what its others restore, so is each
   each_restored : (one another : ℕ) → one < n + 2 → another < n + 2 → parity_at n one ≡ parity_at n another

@@ -11,6 +11,7 @@ ghost use Rattle.records.specs.Merge.{merged_image, merge_image_into, merge_mark
 use crate::count::count_of;
 use crate::layout::GCR;
 use crate::whole::check_whole;
+use common::copy;
 use common::refusals::Refusal;
 use passes::{Blockettes, put_merged_blockettes, put_merged_marks};
 
@@ -110,7 +111,7 @@ fn put_merged_image(first: &Pass, second: &Pass, image: &mut [u8], marks: &mut [
     ensures marks_put { marks.new ≡ merged_marks first.now.marks.now
         second.now.marks.now }
 {
-    image.copy_from_slice(first.image);
+    copy(first.image, image);
     put_merged_blockettes(first.marks, &second.blockettes(), &mut image[2..]);
     put_merged_marks(first.marks, second.marks, marks);
 }

@@ -10,6 +10,7 @@ use crate::count::count_of;
 use crate::layout::{GCR, blockette_count};
 use crate::whole::check_whole;
 use blockettes::{BLOCKETTE_LENGTH, put_others};
+use common::copy;
 use common::refusals::Refusal;
 use marks::scan_marks;
 
@@ -35,7 +36,7 @@ fn put_restored(blockettes: &[u8], odd: usize, even: usize, space: &mut [u8])
     ensures { space.new ≡ restored_of blockettes.now (blockette_count (length space.old)) odd even
         (length space.old) }
 {
-    space.copy_from_slice(&blockettes[..space.len()]);
+    copy(&blockettes[..space.len()], space);
     mend_at(blockettes, odd, space);
     mend_at(blockettes, even, space);
 }

@@ -1,14 +1,15 @@
 -- Laws of text: bytes in hexadecimal, one byte more; a record; a number in decimal, digit by digit.
 -- Assumes nothing.
 use mathlib.Core.Path.{◌≡◌, refl, sym, ap, ◌∙◌}
-use Prim.Native.Nat.{ℕ, suc, ◌+◌, ◌-◌, ◌/◌, ◌%◌, ◌≤◌, ◌<◌}
+use Prim.Native.Nat.{ℕ, suc, ◌+◌, ◌-◌, ◌*◌, ◌/◌, ◌%◌, ◌≤◌, ◌<◌}
 use native.Mathlib.Numerals.{add-one}
 use native.Mathlib.Omega.{arith}
 use mathlib.Core.List.{List, [], ◌∷◌, ◌++◌, append-nil, append_assoc}
-use lib.ListN.{length, get_or, take}
+use lib.ListN.{length, get_or, take, set, length-set}
 use lib.Seq.{take-suc}
 use lib.Dec.{ltb}
 use borrow.Author.Tests.{lt-ltb, le-ltb, ltb-true, ltb-false}
+use Rattle.std.proofs.lemmas.Grind.{take-set_at}
 use Rattle.common.specs.Pick.{pick}
 use Rattle.common.proofs.PickLaws.{by_test}
 use Rattle.text.specs.Print.{digit_of, byte_text, bytes_text, decimal_text, refusal_text}
@@ -32,6 +33,25 @@ bytes_text_next s i below =
 -- a text put after another
 pub after_text : (c x y : List ℕ) {a b : List ℕ} → a ≡ b ++ y → b ≡ c ++ x → a ≡ c ++ (x ++ y)
 after_text c x y p q = p ∙ ap (λ (t : List ℕ). t ++ y) q ∙ append_assoc c x y
+
+-- two digits put at their places
+two_put : (out : List ℕ) (at high low : ℕ) → at + 2 ≤ length out
+    → take (at + 2) (set (set out at high) (at + 1) low) ≡ take at out ++ (high ∷ low ∷ [])
+two_put out at high low room =
+    let first : at < length out = omega arith in
+    let second : at + 1 < length (set out at high) = rw length-set (omega arith) in
+    after_text (take at out) (high ∷ []) (low ∷ []) (take-set_at _ (at + 1) (at + 2) low (omega arith) second)
+    (take-set_at out at (at + 1) high refl first)
+
+-- the digits of one byte more
+pub digits_put : (out s : List ℕ) (i high low : ℕ) → i < length s → length out ≡ 2 * length s
+    → take (2 * i) out ≡ bytes_text (take i s)
+    → high ∷ low ∷ [] ≡ byte_text (get_or s i 0)
+    → take (2 * (i + 1)) (set (set out (2 * i) high) (2 * i + 1) low) ≡ bytes_text (take (i + 1) s)
+digits_put out s i high low below size before digits =
+    let twice : 2 * (i + 1) ≡ 2 * i + 2 = omega arith in
+    let room : 2 * i + 2 ≤ length out = omega arith in
+    rw (twice, two_put out (2 * i) high low room, before, digits) (sym (bytes_text_next s i below))
 
 -- ---- decimals
 

@@ -1,5 +1,5 @@
 //! A field is read: what it spells, or nothing.
-ghost use Rattle.std.specs.Prelude.{◌≡◌, ◌≤◌, ◌<◌, ◌*◌, List, ℕ, min, length, take, IfSome};
+ghost use Rattle.std.specs.Prelude.{◌≡◌, ◌≤◌, ◌<◌, ◌*◌, min, length, take, IfSome};
 ghost use Rattle.std.specs.Bool.{then_some};
 ghost use Rattle.common.specs.Space.{overwrite};
 ghost use Rattle.text.specs.Limits.{field_cap};
@@ -9,7 +9,6 @@ ghost use Rattle.text.specs.Fields.{part_of, part_end, field_of, after, after_fi
 
 use crate::limits::FIELD_CAP;
 use memchr::memchr;
-use std::marker::Model;
 
 // The value of a digit: a letter has 9 more than its low half.
 #[tactic(auto, unfolding(crate::specs::Digits::digit_value, common::specs::Pick::pick))]
@@ -94,26 +93,21 @@ fn byte_value(high: u8, low: u8) -> u8
     16 * digit_value(high) + digit_value(low)
 }
 
-/// The digits of at most so many bytes. A clause sees the bytes.
-#[derive(Drop)]
+/// The digits of at most so many bytes. A clause speaks of the bytes, `hex_bytes`.
+#[derive(Clone, Copy)]
 pub struct Hex<'a, const MOST: usize> {
     digits: &'a [u8],
-}
-
-impl<'a, const MOST: usize> Model for Hex<'a, MOST> {
-    ghost Value = { List ℕ };
-
-    ghost view = { λ h. bytes_of h.digits.now };
-
-    ghost invariant = { λ h. length h.digits.now ≤ 2 * MOST };
+    ghost fits: { length digits.now ≤ 2 * MOST },
 }
 
 impl<'a, const MOST: usize> Hex<'a, MOST> {
+    ghost use Rattle.text.specs.Hex.{hex_bytes, hex_read};
+
     /// The digits of a field that is a string of bytes.
     #[tactic(auto, unfolding(crate::specs::Digits::is_bytes))]
     pub fn read_bytes(field: &'a [u8]) -> Option<Self>
         requires { MOST ≤ field_cap }
-        ensures { result ≡ then_some (is_bytes MOST field.now) (bytes_of field.now) }
+        ensures { hex_read result ≡ then_some (is_bytes MOST field.now) (bytes_of field.now) }
     {
         let digits = all_digits(16, field);
         let n = field.len();
@@ -126,11 +120,11 @@ impl<'a, const MOST: usize> Hex<'a, MOST> {
     /// Puts the bytes at the start of a space, and tells how many they are.
     #[tactic(auto, using(crate::proofs::DigitLaws::bytes_length, crate::proofs::DigitLaws::bytes_overwritten))]
     pub fn overwrite(&self, space: &mut [u8]) -> usize
-        requires { min (length self.now) MOST ≤ length space.old }
-        ensures count { result ≡ length self.now }
+        requires { min (length (hex_bytes self.now)) MOST ≤ length space.old }
+        ensures count { result ≡ length (hex_bytes self.now) }
         ensures within { result ≤ MOST }
-        ensures put { space.new ≡ overwrite self.now space.old }
-        ensures front { take result space.new ≡ self.now }
+        ensures put { space.new ≡ overwrite (hex_bytes self.now) space.old }
+        ensures front { take result space.new ≡ hex_bytes self.now }
     {
         let digits = self.digits;
         let count = digits.len() / 2;

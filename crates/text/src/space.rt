@@ -33,6 +33,27 @@ fn digit_of(n: u8) -> u8
     b'A' + n - 10
 }
 
+// The two digits of a byte.
+#[tactic(auto, unfolding(crate::specs::Print::byte_text))]
+fn byte_text(byte: u8) -> [u8; 2]
+    ensures { result ≡ byte_text byte }
+{
+    [digit_of(byte / 16), digit_of(byte % 16)]
+}
+
+// Bytes in hexadecimal, in a slice of their length. It has no end to store at each digit: the loop over many bytes is
+// then made of wide steps.
+fn put_bytes(bytes: &[u8], space: &mut [u8])
+    requires { length space.old ≡ 2 * length bytes.now }
+    ensures { space.new ≡ bytes_text bytes.now }
+{
+    for (at, &byte) in bytes.iter().enumerate() {
+        let [high, low] = byte_text(byte);
+        space[2 * at] = high;
+        space[2 * at + 1] = low;
+    }
+}
+
 impl<const N: usize> Text<N> {
     pub fn new() -> Self
         ensures { result ≡ [] }
@@ -83,26 +104,24 @@ impl<const N: usize> Text<N> {
     }
 
     /// A byte in hexadecimal.
-    #[tactic(auto, unfolding(crate::specs::Print::byte_text))]
     pub fn put_byte(&mut self, byte: u8)
         requires { length self.old + 2 ≤ N }
         ensures fits { length self.new ≡ length self.old + 2 }
         ensures text { self.new ≡ self.old ++ byte_text byte }
     {
-        self.put(digit_of(byte / 16));
-        self.put(digit_of(byte % 16));
+        self.put_all(&byte_text(byte));
     }
 
     /// Bytes in hexadecimal.
-    #[tactic(auto, using(crate::proofs::TextLaws::bytes_text_next))]
     pub fn put_bytes(&mut self, bytes: &[u8])
         requires { length self.old + 2 * length bytes.now ≤ N }
         ensures fits { length self.new ≡ length self.old + 2 * length bytes.now }
         ensures text { self.new ≡ self.old ++ bytes_text bytes.now }
     {
-        for &byte in bytes {
-            self.put_byte(byte);
-        }
+        let end = self.end + 2 * bytes.len();
+        let space = &mut self.space[..];
+        put_bytes(bytes, &mut space[self.end..end]);
+        self.end = end;
     }
 
     /// The number of a refusal.

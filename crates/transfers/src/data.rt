@@ -9,6 +9,7 @@ ghost use Rattle.transfers.specs.Data.{needed_bytes, bad_byte, runs_short, data_
 
 use crate::after::Words;
 use blockettes::{BLOCKETTE_LENGTH, CHECKS_LENGTH};
+use common::copy;
 use common::refusals::Refusal;
 use operations::store::Store;
 use records::build::put_image;
@@ -91,7 +92,7 @@ pub fn put_check_bytes(image: &[u8], count: u16, check: &mut [u8])
         check.fill(0);
     } else {
         let from = 2 + BLOCKETTE_LENGTH * blockette_count(count);
-        check.copy_from_slice(&image[from..]);
+        copy(&image[from..], check);
     }
 }
 

@@ -10,6 +10,7 @@ ghost use Rattle.transfers.specs.Results.{count_in, told_verdict, result_check};
 use crate::data::put_check_bytes;
 use crate::verdict::Verdict;
 use blockettes::BLOCKETTE_LENGTH;
+use common::copy;
 use marks::Findings;
 use operations::operation::Operation;
 use records::layout::blockette_count;
@@ -86,7 +87,7 @@ fn put_fitting(bytes: &[u8], space: &mut [u8]) -> usize
     ensures space_after { space.new ≡ fitting_into bytes.now space.old }
 {
     let n = bytes.len().min(space.len());
-    space[..n].copy_from_slice(&bytes[..n]);
+    copy(&bytes[..n], &mut space[..n]);
     n
 }
 

@@ -1,6 +1,6 @@
 -- One byte more is given, and all are in the end.
 -- Assumes nothing.
-use Rattle.std.proofs.Common.{◌≡◌, ◌≤◌, ◌<◌, ◌*◌, ◌/◌, ◌++◌, ℕ, List, [], min, length, take, drop, refl, sym, ap}
+use Rattle.std.proofs.Common.{◌≡◌, ◌≤◌, ◌<◌, ◌*◌, ◌/◌, ◌++◌, ℕ, List, [], min, length, take, drop, refl, sym}
 use Rattle.std.proofs.Common.{◌∙◌, arith}
 use mathlib.Core.List.{append-nil}
 use lib.ListN.{drop_of_length-le}
@@ -12,21 +12,21 @@ use Rattle.text.proofs.DigitLaws.{bytes_length, bytes_at, bytes_overwritten}
 use Rattle.text.proofs.read.Hex.overwrite.Goals as goal
 
 -- the bytes fit
-room : (s now space : List ℕ) (most : ℕ) → bytes_of s ≡ now → length s ≤ 2 * most → min (length now) most ≤ length space
+room : (s space : List ℕ) (most : ℕ) → length s ≤ 2 * most → min (length (bytes_of s)) most ≤ length space
     → length s / 2 ≤ length space
-room s now space most is fits asked = omega (arith, ap length is, bytes_length s, asked, fits)
+room s space most fits asked = omega (arith, bytes_length s, asked, fits)
 
 pub slice_bounds-bytes-end-2 : goal.slice_bounds-bytes-end-2
 slice_bounds-bytes-end-2 g c =
     sym (length-take-le _ c.args.space.now
-    (room _ _ c.args.space.now g.row.MOST c.self.view_is c.self.invariant c.requires))
+    (room _ c.args.space.now g.row.MOST c.args.self.now.fits c.requires))
 
 pub loop-at-preserved : goal.loop-at-preserved
 loop-at-preserved g c =
     let l = c.loop-at in
-    let s = c.self.inside.digits.now in
+    let s = c.args.self.now.digits.now in
     let front = take (length s / 2) c.args.space.now in
-    let fits = room s _ c.args.space.now g.row.MOST c.self.view_is c.self.invariant c.requires in
+    let fits = room s c.args.space.now g.row.MOST c.args.self.now.fits c.requires in
     let size : length front ≡ length s / 2 = length-take-le (length s / 2) c.args.space.now fits in
     let within : l.at < length s / 2 = omega arith in
     let below : l.at < length (bytes_of s) = omega (arith, bytes_length s) in
@@ -50,15 +50,13 @@ left s space bytes at room done within given =
 pub returns-clause-put : goal.returns-clause-put
 returns-clause-put g c =
     let at = c.loop-at in
-    let fits = room _ _ c.args.space.now g.row.MOST c.self.view_is c.self.invariant c.requires in
-    rw (← c.self.view_is)
-    (left c.self.inside.digits.now c.args.space.now at.bytes at.at fits (omega arith) (omega arith) at.invariant)
+    let fits = room _ c.args.space.now g.row.MOST c.args.self.now.fits c.requires in
+    (left c.args.self.now.digits.now c.args.space.now at.bytes at.at fits (omega arith) (omega arith) at.invariant)
 
 pub returns-clause-front : goal.returns-clause-front
 returns-clause-front g c =
     let at = c.loop-at in
-    let fits = room _ _ c.args.space.now g.row.MOST c.self.view_is c.self.invariant c.requires in
-    rw (
-      left c.self.inside.digits.now c.args.space.now at.bytes at.at fits (omega arith) (omega arith) at.invariant,
-      ← c.self.view_is,
-    ) (bytes_overwritten c.self.inside.digits.now c.args.space.now)
+    let fits = room _ c.args.space.now g.row.MOST c.args.self.now.fits c.requires in
+    rw
+    (left c.args.self.now.digits.now c.args.space.now at.bytes at.at fits (omega arith) (omega arith) at.invariant)
+    (bytes_overwritten c.args.self.now.digits.now c.args.space.now)
