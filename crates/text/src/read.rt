@@ -93,7 +93,8 @@ fn byte_value(high: u8, low: u8) -> u8
     16 * digit_value(high) + digit_value(low)
 }
 
-/// The digits of at most so many bytes. A clause speaks of the bytes, `hex_bytes`.
+/// The digits of at most so many bytes. A clause speaks of the bytes, `hex_bytes`, or, as `lent`, of the text that the
+/// digits are.
 #[derive(Clone, Copy)]
 pub struct Hex<'a, const MOST: usize> {
     digits: &'a [u8],
@@ -103,11 +104,13 @@ pub struct Hex<'a, const MOST: usize> {
 impl<'a, const MOST: usize> Hex<'a, MOST> {
     ghost use Rattle.text.specs.Hex.{hex_bytes, hex_read};
 
-    /// The digits of a field that is a string of bytes.
+    /// The digits of a field that is a string of bytes: the field itself, so that two reads of one field are the same
+    /// (`read_same`).
     #[tactic(auto, unfolding(crate::specs::Digits::is_bytes))]
     pub fn read_bytes(field: &'a [u8]) -> Option<Self>
         requires { MOST ≤ field_cap }
-        ensures { hex_read result ≡ then_some (is_bytes MOST field.now) (bytes_of field.now) }
+        ensures bytes { hex_read result ≡ then_some (is_bytes MOST field.now) (bytes_of field.now) }
+        ensures lent { IfSome result (λ h. h.digits ≡ field.entry) }
     {
         let digits = all_digits(16, field);
         let n = field.len();
@@ -154,4 +157,31 @@ pub fn field_of(s: &[u8]) -> (&[u8], &[u8])
     ensures rest { result.1.now ≡ after_field s.now }
 {
     part_of(b',', s)
+}
+
+#[cfg(test)]
+mod tests {
+    use super::*;
+    use std::test::Fail;
+
+    // A field that is read twice.
+    fn both_reads<'a>(field: &'a [u8]) -> (Option<Hex<'a, 2>>, Option<Hex<'a, 2>>)
+        ensures { result.0 ≡ result.1 }
+    {
+        (Hex::read_bytes(field), Hex::read_bytes(field))
+    }
+
+    #[test]
+    fn reads_bytes_of_a_field(rt: HostRuntime) -> Result<(), Fail> {
+        let (first, second) = both_reads(b"0A1F");
+        for read in [first, second] {
+            let mut space = [9; 3];
+            assert!(rt; read.is_some());
+            if let Some(digits) = read {
+                assert!(rt; digits.overwrite(&mut space) == 2);
+            }
+            assert!(rt; space == [10, 31, 9]);
+        }
+        Ok(())
+    }
 }
