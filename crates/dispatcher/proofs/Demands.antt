@@ -201,20 +201,39 @@ calls_keep_the_queues_sound d xs sound made =
 
 -- ---- it works
 
--- a list from a state whose queues are sound, and are those of this ledger
-pub record MadeFrom (l : JobLedger) (d : Dispatcher) (xs : List Exchange) : Type 0 where
+-- a list from a state whose queues are sound, and are those of this ledger, each answer allowed in this sense
+pub record MadeFromOf (Allowed : Dispatcher → Call → Answer → Type 0) (l : JobLedger) (d : Dispatcher)
+    (xs : List Exchange) : Type 0 where
   pub sound : SoundQueues d.queues
   pub is : IsLedger d.queues l
-  pub made : Made d xs
+  pub made : MadeOf Allowed d xs
 
--- the ledger of a fresh dispatcher has nothing waiting, and job 3 served last
-pub fresh_is_made : (xs : List Exchange) → FromFresh xs → MadeFrom fresh_ledger fresh_dispatcher xs
-fresh_is_made xs made =
+abbrev pub MadeFrom : JobLedger → Dispatcher → List Exchange → Type 0
+MadeFrom = MadeFromOf Allows
+
+abbrev pub MadeFromBy : Form → JobLedger → Dispatcher → List Exchange → Type 0
+MadeFromBy form = MadeFromOf (AllowsBy form)
+
+fresh_is_made_of :
+    (Allowed : Dispatcher → Call → Answer → Type 0)
+    (xs : List Exchange)
+    → FromFreshOf Allowed xs
+    → MadeFromOf Allowed fresh_ledger fresh_dispatcher xs
+fresh_is_made_of Allowed xs made =
     record {
       sound = fresh_sound;
       is = fresh_is_ledger;
-      made = subst (λ (d : Dispatcher). Made d xs) made.begins made.goes;
+      made = subst (λ (d : Dispatcher). MadeOf Allowed d xs) made.begins made.goes;
     }
+
+-- the ledger of a fresh dispatcher has nothing waiting, and job 3 served last
+pub fresh_is_made : (xs : List Exchange) → FromFresh xs → MadeFrom fresh_ledger fresh_dispatcher xs
+fresh_is_made = fresh_is_made_of Allows
+
+-- also of a list that is all of one form, which stays one
+pub fresh_is_made_by : (form : Form) (xs : List Exchange) → FromFreshBy form xs
+    → MadeFromBy form fresh_ledger fresh_dispatcher xs
+fresh_is_made_by form = fresh_is_made_of (AllowsBy form)
 
 -- In each queue waits what its job queued and was not handed over yet, in order, and the last job served is that of the
 -- last handing with a store waiting: by the calls and which of them were refused alone.
