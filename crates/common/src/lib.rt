@@ -7,7 +7,7 @@ pub mod refusals;
 ghost use Rattle.std.specs.Prelude.{◌≡◌, ◌≤◌, length};
 ghost use Rattle.common.specs.Space.{filled};
 
-/// Gives bytes to a space of their length. Of `copy_from_slice` the compiler makes a `memmove`, which archives for C
+/// Gives bytes to a space of their length. Of `copy_from_slice` the compiler may make a `memmove`, which archives for C
 /// would then need from outside; of this a `memcpy`, or moves of its own.
 pub fn copy(bytes: &[u8], space: &mut [u8])
     requires { length space.old ≡ length bytes.now }

@@ -4,7 +4,8 @@
 //! waited for, and then they are written at once.
 #![tactic(auto)]
 
-ghost use Rattle.std.specs.Prelude.{◌≡◌, ◌≤◌, ◌<◌, ◌+◌, ◌⊎◌, length, IfSome, OnOk, IfOk, IfErr};
+ghost use Rattle.std.specs.Prelude.{◌≡◌, ◌≤◌, ◌<◌, ◌+◌, ◌⊎◌, length, slice_get, Some, IfSome, OnOk, IfOk, IfErr};
+ghost use Rattle.text.specs.Characters.{line_feed};
 ghost use Rattle.console.specs.Failures.{IsOfReading, IsOfWriting, IsOfTurn};
 ghost use Rattle.console.specs.Sizes.{input_size, output_size, answer_limit, line_limit};
 
@@ -84,6 +85,7 @@ pub fn write_waiting<W: Write>(output: &mut W, out: &mut Text<OUTPUT_SIZE>) -> R
 pub fn make_room<W: Write>(output: &mut W, out: &mut Text<OUTPUT_SIZE>) -> Result<(), Failure>
     ensures ready { OnOk result (length out.new + answer_limit ≤ output_size) }
     ensures whole { OnOk result ((out.new ≡ out.old) ⊎ (length out.new ≡ 0)) }
+    ensures fits { length out.old + answer_limit ≤ output_size → out.new ≡ out.old }
     ensures failed { IfErr result (λ e. IsOfWriting e) }
     ensures stays { IfErr result (λ _. out.new ≡ out.old) }
 {
@@ -122,7 +124,8 @@ fn answer_kept<W: Write, P: Player>(
 
 // The place of the first #0A, near first, where most lines end.
 fn line_end(rest: &[u8]) -> Option<usize>
-    ensures { IfSome result (λ end. end < length rest.now) }
+    ensures within { IfSome result (λ end. end < length rest.now) }
+    ensures ends { IfSome result (λ end. slice_get rest.now end ≡ Some line_feed) }
 {
     for (at, &byte) in rest[..NEAR.min(rest.len())].iter().enumerate() {
         if byte == b'\n' {
@@ -297,6 +300,24 @@ mod tests {
         assert!(rt; end.is_ok());
         assert!(rt; output.as_slice() == b"10\n0\n2\n".as_slice());
         Ok(())
+    }
+
+    // With 24,576 bytes that wait an answer of 40,960 still fits, so that nobody has to read; with one more they are
+    // written, or wait where nobody reads.
+    #[test]
+    fn makes_room_where_there_is_too_little(rt: HostRuntime) {
+        let mut out = Text::new();
+        out.put_all(&[b'x'; 24576]);
+        assert!(rt; make_room(&mut Shut, &mut out).is_ok());
+        assert!(rt; out.len() == 24576);
+        out.put(b'x');
+        let end = make_room(&mut Shut, &mut out);
+        assert!(rt; matches!(end, Err(Failure::Closed)));
+        assert!(rt; out.len() == 24577);
+        let mut output = Vec::new(rt.alloc());
+        assert!(rt; make_room(&mut output, &mut out).is_ok());
+        assert!(rt; output.len() == 24577);
+        assert!(rt; out.len() == 0);
     }
 
     #[test]
