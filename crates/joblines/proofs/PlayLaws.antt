@@ -13,24 +13,26 @@ use Rattle.common.specs.Pick.{pick}
 use Rattle.common.specs.Refusals.{state_damaged}
 use Rattle.common.specs.Told.{refusal_number}
 use Rattle.common.specs.declared.refusals.Refusal.{Refusal}
+use Rattle.records.specs.Place.{no_place}
+use Rattle.transfers.specs.Data.{host_of}
 use Rattle.transfers.specs.Results.{result_of}
 use Rattle.controller.specs.declared.controller.Answer.{Answer}
 use Rattle.controller.specs.declared.controller.Given.{Given}
 use Rattle.controller.specs.Records as records
-use Rattle.controller.specs.Machine.{result_call}
+use Rattle.controller.specs.Machine.{data_call, result_call}
 use Rattle.queues.specs.declared.jobs.Queues.{Queues}
 use Rattle.queues.specs.Jobs.{are_sound}
 use Rattle.dispatcher.specs.declared.dispatcher.Dispatcher.{Dispatcher}
 use Rattle.dispatcher.specs.Told.{Dispatched, DispatchedTransfer, told_of}
 use Rattle.dispatcher.specs.Dispatcher.{answered_in, answer_with, answer_with_queues, unchanged_transfer, passed_answer}
-use Rattle.dispatcher.specs.Dispatcher.{queue_call, hand_call}
+use Rattle.dispatcher.specs.Dispatcher.{Answer as Transferred, queue_call, hand_call}
 use Rattle.operations.specs.declared.store.Store.{Store}
 use Rattle.text.specs.Hex.{hex_bytes}
-use Rattle.lines.specs.Line.{plain_line, lent_line, call_read}
+use Rattle.lines.specs.Line.{Line, host_data, result, plain_line, lent_line, call_read}
 use Rattle.lines.specs.declared.line.Call.{Call}
 use Rattle.lines.specs.declared.line.Call.TheVariants.{Plain, Lent}
 use Rattle.lines.specs.Print.{action_of}
-use Rattle.lines.specs.Play.{plain_reply, fields_answer, lent_answer, in_whole_space as whole_space}
+use Rattle.lines.specs.Play.{plain_reply, part_answer, fields_answer, lent_answer, in_whole_space as whole_space}
 use Rattle.lines.specs.declared.line.PlainCall.{PlainCall}
 use Rattle.lines.specs.declared.line.PlainCall.TheVariants.{Byte, Taken, Broken, Report, Tick, Reset}
 use Rattle.lines.specs.declared.line.LentCall.{LentCall}
@@ -72,20 +74,34 @@ unfolding pick
 whole_passed true queues a kept part rest space check none joined = refl
 whole_passed false queues a kept part rest space check none joined = rw (none, ← none_given (length part), joined)
 
-pub lent_left_lem : (j : Jobs) (call : LentCall)
-    → lent_left j call ≡ session_left j.dispatcher (lent_line call) j.buffers.space j.buffers.check
-unfolding lent_dispatched lent_answer fields_answer passed_answer lent_line session_left
-lent_left_lem j (HostData host) = refl
-lent_left_lem j (Result f) =
-    let d = j.dispatcher in
-    let space = j.buffers.space in
-    let part = take f.space space in
+-- of any numbers, also of those that no digits of a line spell
+pub data_left_lem : (d : Dispatcher) (host space check : List ℕ)
+    → dispatched_left (passed_answer d (data_call d.controller (host_of host no_place) space check) space check)
+    ≡ session_left d (host_data host) space check
+unfolding session_left
+data_left_lem d host space check = refl
+
+pub result_left_lem : (d : Dispatcher) (code : ℕ) (mark : Bool) (late : ℕ) (image marks : List ℕ) (lent : ℕ)
+    (space check : List ℕ)
+    → dispatched_left
+    (passed_answer d (part_answer d.controller (result_of code mark late image marks) lent space check) space check)
+    ≡ session_left d (result code mark late image marks lent) space check
+unfolding passed_answer session_left
+result_left_lem d code mark late image marks lent space check =
+    let part = take lent space in
     ap dispatched_left
     (whole_passed (are_sound d.queues) d.queues
-    (result_call d.controller (result_of f.code f.mark f.late (hex_bytes f.image) (hex_bytes f.marks)) part
-    j.buffers.check)
+    (result_call d.controller (result_of code mark late image marks) part check)
     (unchanged_transfer state_damaged d)
-    part (drop f.space space) space j.buffers.check refl (take-append-drop f.space space))
+    part (drop lent space) space check refl (take-append-drop lent space))
+
+pub lent_left_lem : (j : Jobs) (call : LentCall)
+    → lent_left j call ≡ session_left j.dispatcher (lent_line call) j.buffers.space j.buffers.check
+unfolding lent_dispatched lent_answer fields_answer lent_line
+lent_left_lem j (HostData host) = data_left_lem j.dispatcher (hex_bytes host) j.buffers.space j.buffers.check
+lent_left_lem j (Result f) =
+    result_left_lem j.dispatcher f.code f.mark f.late (hex_bytes f.image) (hex_bytes f.marks) f.space j.buffers.space
+    j.buffers.check
 
 -- ---- what is left of a line, with the text that is put
 
@@ -160,41 +176,55 @@ module _ (j : Jobs) (said : List ℕ) (d : Dispatcher) (r : Told Answer Refusal)
       (plain_left_lem j.dispatcher plain j.buffers.space j.buffers.check)
       (sym (ap (λ (x : Call). session_line (call_read x)) is) ∙ session_says of_session call said is_session says)
 
+-- what is left of a line of the session program's is left of the line that was said
+pub session_is : (j : Jobs) (said : List ℕ) (line : Line) {l : JobLeft}
+    → l ≡ session_left j.dispatcher line j.buffers.space j.buffers.check
+    → session_line line ≡ job_line_of said
+    → l ≡ job_answer j said
+unfolding job_line_left
+session_is j said line left says =
+    left ∙ ap (λ (l : JobLine). job_line_left j.dispatcher l j.buffers.space j.buffers.check) says
+
 pub lent_is : (j : Jobs) (said : List ℕ) (lent : LentCall) (of_session : Call) (call : JobCall) → of_session ≡ Lent lent
     → call ≡ Session of_session
     → job_line_read (Some call) ≡ job_line_of said
     → lent_left j lent ≡ job_answer j said
-unfolding job_line_left call_read
+unfolding call_read
 lent_is j said lent of_session call is is_session says =
-    let line : session_line (lent_line lent) ≡ job_line_of said =
-    sym (ap (λ (x : Call). session_line (call_read x)) is) ∙ session_says of_session call said is_session says
-    in
-    lent_left_lem j lent ∙ ap (λ (l : JobLine). job_line_left j.dispatcher l j.buffers.space j.buffers.check) line
+    session_is j said (lent_line lent) (lent_left_lem j lent)
+    (sym (ap (λ (x : Call). session_line (call_read x)) is) ∙ session_says of_session call said is_session says)
 
--- a call that is lent space, by what it gives of that, or by its refusal
+-- what was answered to a call that is lent space, by what it gives of that, or by its refusal
+module _ (answer : Transferred) (d : Dispatcher) (b : Buffers) (r : Told Given Refusal)
+    (h : answered_in d r b.space b.check ≡ answer) where
+  pub given_is : (g : Given) (k : ℕ) → r ≡ Ok g → k ≡ min g.bytes (length b.space)
+      → job_left (record { dispatcher = d; buffers = b })
+      (job_answer_text 0 g.answer.action (take k b.space) g.answer.handed)
+      ≡ dispatched_left answer
+  unfolding dispatched_left
+  given_is g k told e =
+      rw (take_min b.space g.bytes k e)
+      (ap dispatched_left (subst (λ (x : Told Given Refusal). answered_in d x b.space b.check ≡ answer) told h))
+
+  pub refused_is : (e : Refusal) → r ≡ Err e
+      → job_left (record { dispatcher = d; buffers = b })
+      (job_answer_text (number_of e) Nothing [] None)
+      ≡ dispatched_left answer
+  unfolding dispatched_left
+  refused_is e told =
+      ap dispatched_left (subst (λ (x : Told Given Refusal). answered_in d x b.space b.check ≡ answer) told h)
+
+-- and so for a call that was read
 module _ (j : Jobs) (call : LentCall) (d : Dispatcher) (b : Buffers) (r : Told Given Refusal)
     (h : answered_in d r b.space b.check ≡ lent_dispatched j.dispatcher call j.buffers.space j.buffers.check) where
   pub given_left : (g : Given) (k : ℕ) → r ≡ Ok g → k ≡ min g.bytes (length b.space)
       → job_left (record { dispatcher = d; buffers = b })
       (job_answer_text 0 g.answer.action (take k b.space) g.answer.handed)
       ≡ lent_left j call
-  unfolding dispatched_left
-  given_left g k told e =
-      rw (take_min b.space g.bytes k e)
-      (ap dispatched_left
-      (subst
-      (λ (x : Told Given Refusal).
-      answered_in d x b.space b.check ≡ lent_dispatched j.dispatcher call j.buffers.space j.buffers.check)
-      told h))
+  given_left = given_is _ d b r h
 
   pub refused_left : (e : Refusal) → r ≡ Err e
       → job_left (record { dispatcher = d; buffers = b })
       (job_answer_text (number_of e) Nothing [] None)
       ≡ lent_left j call
-  unfolding dispatched_left
-  refused_left e told =
-      ap dispatched_left
-      (subst
-      (λ (x : Told Given Refusal).
-      answered_in d x b.space b.check ≡ lent_dispatched j.dispatcher call j.buffers.space j.buffers.check)
-      told h)
+  refused_left = refused_is _ d b r h
